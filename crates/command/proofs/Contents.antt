@@ -1,5 +1,5 @@
 -- What is known of contents, and which answers are right for it.
-use Rattle.std.proofs.Common.{◌≡◌, ◌∙◌, ℕ, ◌≤◌, ◌<◌, ◌⊎◌, List, ◌++◌, length, take, Option, Some, None, Result, Ok, Err, IfOk, IfErr, IsErrAnd, inl, inr, refl, sym, subst, ap, append-nil, arith, length-take-le, take_all, take_at}
+use Rattle.std.proofs.Common.{◌≡◌, ◌∙◌, ℕ, ◌≤◌, ◌<◌, ◌⊎◌, List, ◌++◌, length, take, Option, Some, None, Result, Ok, Err, IfOk, IfErr, IsErrAnd, inl, inr, refl, sym, subst, ap, append-nil, append_assoc, arith, length-take-le, take_all, take_at}
 use Rattle.std.proofs.lemmas.Bool.{cases_lt}
 use Rattle.std.specs.Io.KnownBytes.{Consumes, IsAtEnd}
 use Rattle.std.specs.declared.io.ErrorKind.{ErrorKind}
@@ -59,19 +59,30 @@ reads_key bytes (Ok key) spelled fault = spelled
 reads_key bytes (Err fault) spelled is = is
 
 -- the first bytes that were read are those of the content
+pub first_bytes : (count : ℕ) (old new : Option (List ℕ)) (bytes : List ℕ) → length bytes ≤ count → Consumes old new bytes
+    → (length bytes < count → IsAtEnd new) → (whole : List ℕ) × IsContent old whole × (bytes ≡ take count whole)
+first_bytes count None new bytes within read end = (bytes, tt, sym (take_all count bytes within))
+first_bytes count (Some xs) None bytes within read end = absurd read
+first_bytes count (Some xs) (Some ys) bytes within read end = elim (cases_lt (length bytes) count) [
+  | inl less ↦
+      let whole : bytes ≡ xs = sym (read ∙ ap (λ l. bytes ++ l) (end less) ∙ append-nil bytes) in
+      (xs, refl, sym (take_all count bytes within) ∙ ap (take count) whole)
+  | inr full ↦
+      let long : length bytes ≡ count = omega (arith, full, within) in
+      (xs, refl, sym (take_at bytes ys count long) ∙ ap (take count) (sym read))
+]
+
+-- .. where they stand in a buffer
 pub first_of : (count n : ℕ) (old new : Option (List ℕ)) (buffer : List ℕ) → length buffer ≡ count → n ≤ length buffer
     → Consumes old new (take n buffer) → (n < length buffer → IsAtEnd new)
     → (whole : List ℕ) × IsContent old whole × (take n buffer ≡ take count whole)
-first_of count n None new buffer size within read end =
-    let short : length (take n buffer) ≤ count = omega (arith, size, length-take-le n buffer within) in
-    (take n buffer, tt, sym (take_all count (take n buffer) short))
-first_of count n (Some xs) None buffer size within read end = absurd read
-first_of count n (Some xs) (Some ys) buffer size within read end = elim (cases_lt n count) [
-  | inl less ↦
-      let short : length (take n buffer) ≤ count = omega (arith, size, length-take-le n buffer within) in
-      let whole : take n buffer ≡ xs = sym (read ∙ ap (λ l. take n buffer ++ l) (end (omega (arith, size, less))) ∙ append-nil (take n buffer)) in
-      (xs, refl, sym (take_all count (take n buffer) short) ∙ ap (take count) whole)
-  | inr full ↦
-      let long : count ≡ length (take n buffer) = omega (arith, size, full, within, length-take-le n buffer within) in
-      (xs, refl, sym (take_at (take n buffer) ys count (sym long)) ∙ ap (take count) (sym read))
-]
+first_of count n old new buffer size within read end =
+    let long : length (take n buffer) ≡ n = length-take-le n buffer within in
+    first_bytes count old new (take n buffer) (omega (arith, size, long, within)) read (λ less. end (omega (arith, size, long, less)))
+
+-- some bytes and then others were read
+pub consumes_both : (old mid new : Option (List ℕ)) (a b : List ℕ) → Consumes old mid a → Consumes mid new b → Consumes old new (a ++ b)
+consumes_both None mid new a b one more = tt
+consumes_both (Some xs) None new a b one more = absurd one
+consumes_both (Some xs) (Some ys) None a b one more = absurd more
+consumes_both (Some xs) (Some ys) (Some zs) a b one more = one ∙ ap (λ l. a ++ l) more ∙ sym (append_assoc a b zs)

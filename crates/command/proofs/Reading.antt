@@ -1,5 +1,5 @@
 -- Transitions of a file, one after the other.
-use Rattle.std.proofs.Common.{◌≡◌, ◌∙◌, ◌<◌, ℕ, ◌≤◌, ◌^◌, List, [], ◌∷◌, ◌++◌, length, take, Result, Ok, Err, IfOk, IsErrAnd, inl, inr, refl, sym, ap, subst, arith, length-append, length-take-le, take_all, Option, Some, None, ◌⊎◌}
+use Rattle.std.proofs.Common.{◌≡◌, ◌∙◌, ◌<◌, ℕ, ◌≤◌, ◌^◌, List, [], ◌∷◌, ◌++◌, ◌+◌, length, take, Result, Ok, Err, IfOk, IsErrAnd, inl, inr, refl, sym, ap, subst, arith, length-append, length-take-le, take_all, Option, Some, None, ◌⊎◌}
 use Rattle.std.specs.Prelude.{MatchResult}
 use Rattle.std.specs.declared.io.ErrorKind.{ErrorKind}
 use Rattle.std.specs.Io.KnownBytes.{Consumes, IsAtEnd}
@@ -17,6 +17,7 @@ use Rattle.command.specs.declared.refusal.Refusal.{Refusal}
 use Rattle.command.specs.declared.refusal.Refusal.TheVariants as refused
 use Rattle.command.specs.Trace.{Happening, ReadsOn, ReadsOnce, ReadsToEnd, ReadsToFailure}
 use Rattle.command.specs.declared.trace.Role.{Role}
+use Rattle.command.proofs.Contents.{consumes_both, first_bytes}
 
 -- ---- from a reader to its file
 
@@ -251,12 +252,28 @@ fills_whole role room bytes old new (inr (short, reads)) enough = absurd (omega 
 pub fills_same : (role : Role) (n room : ℕ) (bytes : List ℕ) (old new : List Happening) → n ≡ room → FillsRoom role n bytes old new → FillsRoom role room bytes old new
 fills_same role n room bytes old new same fills = subst (λ m. FillsRoom role m bytes old new) same fills
 
+-- no more bytes than there is room for
+fills_within : (role : Role) (room : ℕ) (bytes : List ℕ) (old new : List Happening) → FillsRoom role room bytes old new → length bytes ≤ room
+fills_within role room bytes old new (inl (full, reads)) = omega (arith, full)
+fills_within role room bytes old new (inr (short, reads)) = omega (arith, short)
+
 -- ---- some bytes, and then the rest
 
 pub reads_rest : (role of : Role) (a b : List ℕ) (old before new : List Happening) → ReadsOn role a old before → of ≡ role
     → ReadsToEnd of b before new → ReadsToEnd role (a ++ b) old new
 reads_rest role of a b old before new reads same more =
     gives-all-append (ReadsOnce role) a b old before new reads (subst (λ r. ReadsToEnd r b before new) same more)
+
+-- room for bytes, and then for others, is room for both
+fills_both : (role of : Role) (room more : ℕ) (a b : List ℕ) (old mid new : List Happening) → FillsRoom role room a old mid → room ≤ length a
+    → of ≡ role → FillsRoom of more b mid new → FillsRoom role (room + more) (a ++ b) old new
+fills_both role of room more a b old mid new (inl (full, reads)) enough same (inl (whole, others)) = inl (
+  omega (arith, full, whole, length-append a b),
+  gives-append (ReadsOnce role) a b old mid new reads (subst (λ r. ReadsOn r b mid new) same others),
+)
+fills_both role of room more a b old mid new (inl (full, reads)) enough same (inr (short, others)) =
+    inr (omega (arith, full, short, length-append a b), reads_rest role of a b old mid new reads same others)
+fills_both role of room more a b old mid new (inr (less, reads)) enough same others = absurd (omega (arith, less, enough))
 
 pub fails_later : (role of : Role) (a : List ℕ) (kind : ErrorKind) (old before new : List Happening) → ReadsOn role a old before → of ≡ role
     → FailsToRead of kind before new → FailsToRead role kind old new
@@ -304,3 +321,51 @@ pub keeps_none : (role : Role) (room : ℕ) (b : List ℕ) (refusal : Refusal) (
     → 1 ≤ length b → FillsRoom role room b old new → CantKeep role refusal old new
 keeps_none role room b refusal old new memory some (inl (full, reads)) = inr (memory, (b, some, inl reads))
 keeps_none role room b refusal old new memory some (inr (short, reads)) = inr (memory, (b, some, inr reads))
+
+-- memory for a later piece was refused, or reading it failed
+pub cant_keep_later : (role of : Role) (a : List ℕ) (refusal : Refusal) (old mid new : List Happening) → ReadsOn role a old mid → of ≡ role
+    → CantKeep of refusal mid new → CantKeep role refusal old new
+cant_keep_later role of a refusal old mid new first same (inl (kind, is, fails)) =
+    inl (kind, is, fails_later role of a kind old mid new first same fails)
+cant_keep_later role of a refusal old mid new first same (inr (memory, (b, some, inl reads))) = inr (
+  memory,
+  (
+    a ++ b,
+    omega (arith, some, length-append a b),
+    inl (gives-append (ReadsOnce role) a b old mid new first (subst (λ r. ReadsOn r b mid new) same reads)),
+  ),
+)
+cant_keep_later role of a refusal old mid new first same (inr (memory, (b, some, inr reads))) =
+    inr (memory, (a ++ b, omega (arith, some, length-append a b), inr (reads_rest role of a b old mid new first same reads)))
+
+-- a refusal that is passed on
+pub cant_keep : {A : Type 0} (role : Role) (refusal : Refusal) (Good : A → Type 0) (result : Result A Refusal) (old new : List Happening)
+    → IsErrAnd result (λ other. other ≡ refusal) → CantKeep role refusal old new → MatchResult result Good (λ r. CantKeep role r old new)
+cant_keep role refusal Good (Ok x) old new is fails = absurd is
+cant_keep role refusal Good (Err other) old new is fails = subst (λ r. CantKeep role r old new) (sym is) fails
+
+-- ---- the first bytes of a file
+
+-- a piece with which it ended
+pub starts_short : (role : Role) (left rest : Option (List ℕ)) (items piece : List ℕ) (n room count : ℕ) (old new : List Happening) → items ≡ piece
+    → length piece ≡ n → n < room → room ≤ count → FillsRoom role room piece old new → Consumes left rest piece → (n < room → IsAtEnd rest)
+    → ((whole : List ℕ) × IsContent left whole × (items ≡ take count whole)) × FillsRoom role count items old new
+starts_short role left rest items piece n room count old new is size less most fills read end =
+    let short : length piece < count = omega (arith, size, less, most) in
+    subst (λ l. ((whole : List ℕ) × IsContent left whole × (l ≡ take count whole)) × FillsRoom role count l old new) (sym is) (
+      first_bytes count left rest piece (omega (arith, short)) read (λ _. end less),
+      inr (short, fills_to_end role room piece old new fills (omega (arith, size, less))),
+    )
+
+-- a whole piece, and what stands after it
+pub starts_long : (role of : Role) (left mid rest : Option (List ℕ)) (items a b : List ℕ) (n room more count : ℕ) (old then new : List Happening)
+    → items ≡ a ++ b → room ≤ length a → FillsRoom role room a old then → Consumes left mid a → of ≡ role
+    → length b ≡ n → FillsRoom of more b then new → Consumes mid rest b → (n < more → IsAtEnd rest) → room + more ≡ count
+    → ((whole : List ℕ) × IsContent left whole × (items ≡ take count whole)) × FillsRoom role count items old new
+starts_long role of left mid rest items a b n room more count old then new is enough fills read same size others read_more end whole =
+    let both = fills_same role (room + more) count (a ++ b) old new whole (fills_both role of room more a b old then new fills enough same others) in
+    subst (λ l. ((whole : List ℕ) × IsContent left whole × (l ≡ take count whole)) × FillsRoom role count l old new) (sym is) (
+      first_bytes count left rest (a ++ b) (fills_within role count (a ++ b) old new both) (consumes_both left mid rest a b read read_more)
+          (λ less. end (omega (arith, less, enough, size, whole, length-append a b))),
+      both,
+    )

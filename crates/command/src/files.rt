@@ -23,7 +23,7 @@ use std::alloc::{AllocError, Global};
 use std::convert::Infallible;
 use std::io;
 use std::io::ErrorKind;
-use typecodes::{Message, PieceTaker, ReadError, read_full, read_to_end};
+use typecodes::{Message, PIECE, PieceTaker, ReadError, read_full, read_to_end};
 
 /// A file that was opened.
 pub trait OpenFile {
@@ -178,6 +178,9 @@ impl<D: Folder> Message for FileReader<'_, D, D::File> {
 /// H25/W1. How much of a file is kept in memory is tested.
 pub const DECISIVE: usize = 74_989;
 
+// How many of these follow a piece.
+const AFTER_A_PIECE: usize = DECISIVE - PIECE;
+
 /// Reads a public key's file to its end, and gives the key that its bytes spell, or why they spell none. It keeps
 /// 69 bytes, one more than any key has, and counts the others.
 pub fn read_key<D: Folder>(
@@ -271,7 +274,8 @@ fn read_all<D: Folder>(
     }
 }
 
-// Reads the first bytes of a signature's file, as many as decide, and keeps them.
+// Reads the first bytes of a signature's file, as many as decide, and keeps them. Nearly every signature is shorter than
+// a piece: room for the others is made only where the file goes on after one.
 fn read_start<D: Folder>(
     alloc: Global,
     folder: &mut D,
@@ -283,13 +287,38 @@ fn read_start<D: Folder>(
         (λ refusal. CantKeep (D.File.role file.old) refusal (D.trace folder.old) (D.trace folder.new)) }
     ensures content { KeepsContents (D.content folder.old) (D.content folder.new) }
 {
-    let mut first = [0; DECISIVE];
-    let n = fill(folder, file, &mut first)?;
     let mut bytes = Vec::new(alloc);
-    if keep(&mut bytes, &first[..n]).is_err() {
+    let n = read_piece::<D, PIECE>(folder, file, &mut bytes)?;
+    if n < PIECE {
+        return Ok(bytes);
+    }
+    read_piece::<D, AFTER_A_PIECE>(folder, file, &mut bytes)?;
+    Ok(bytes)
+}
+
+// Reads until a piece of N bytes is full or the file ends, and keeps the bytes after those that are kept already. Gives
+// how many these are.
+fn read_piece<D: Folder, const N: usize>(
+    folder: &mut D,
+    file: &mut D::File,
+    bytes: &mut Vec<u8>,
+) -> Result<usize, Refusal>
+    requires { N < 2 ^ 63 }
+    ensures kept { IfOk result (λ n. (piece : List ℕ) × (bytes.new.items ≡ bytes.old.items ++ piece)
+        × (length piece ≡ n) × FillsRoom (D.File.role file.old) N piece (D.trace folder.old) (D.trace folder.new)
+        × Consumes (D.File.remaining file.old) (D.File.remaining file.new) piece
+        × (n < N → IsAtEnd (D.File.remaining file.new))) }
+    ensures refused { IfErr result (λ refusal.
+        CantKeep (D.File.role file.old) refusal (D.trace folder.old) (D.trace folder.new)) }
+    ensures role { D.File.role file.new ≡ D.File.role file.old }
+    ensures content { KeepsContents (D.content folder.old) (D.content folder.new) }
+{
+    let mut piece = [0; N];
+    let n = fill(folder, file, &mut piece)?;
+    if keep(bytes, &piece[..n]).is_err() {
         return Err(Refusal::OutOfMemory);
     }
-    Ok(bytes)
+    Ok(n)
 }
 
 // Keeps bytes after those that are kept already. Where there are none, no memory is wanted.
