@@ -1,6 +1,6 @@
 -- What a run of the program does: what it prints, and what it does to files.
 use Rattle.std.specs.Prelude.{ℕ, List, Result, ◌≡◌, ◌⊎◌, ◌∷◌, codes, ◌<◌, length, Err, [], string_bytes}
-use Rattle.std.specs.Prelude.{Bool, true, false}
+use Rattle.std.specs.Prelude.{Bool, true, false, ◌++◌}
 use Rattle.std.specs.Str.{bytes_eq}
 use Rattle.typecodes.specs.declared.message.Message as message
 use Rattle.sign_core.specs.declared.source.Source as source
@@ -58,9 +58,13 @@ AsksToServe words = (state : List ℕ) × (random : List ℕ) × FindsTask words
 abbrev pub Helps : List ℕ → Taken → Taken → ℕ → Type 0
 Helps text old new status = ((status ≡ 0) × WritesText text old new) ⊎ ((status ≡ 3) × Fails old new)
 
--- the line of the program's name and version
+-- the program's version
+abbrev pub version : List ℕ
+version = codes "0.2.0"
+
+-- the line of its name and version
 abbrev pub version_line : List ℕ
-version_line = codes "hbsign 0.2.0\n"
+version_line = codes "hbsign " ++ version ++ codes "\n"
 
 -- A text was written, or the output failed.
 abbrev pub Says : List ℕ → Taken → Taken → Type 0

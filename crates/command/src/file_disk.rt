@@ -12,7 +12,9 @@ use std::io;
 use std::io::ErrorKind;
 use typecodes::{Count, Message, Sink, read_full, write_all};
 
-/// A file that is read and written at offsets. Each method is one call of the system.
+/// A file that is read and written at offsets. Each method makes one call of the system, and notes what this did. To
+/// read an open gate of a file that isn't locked may take a second call, for the length: one that was opened since the
+/// last time this was asked reads as closed.
 pub trait OffsetFile {
     // what happened to it, in order
     ghost trace: { Self → List Happening };

@@ -158,7 +158,7 @@ impl UsageFault {
     }
 }
 
-/// The program's version, as its package has it.
+/// The program's version, by contract that of `specs/Program.antt`. Manual and packages take it from `--version`.
 pub const VERSION: &str = "0.2.0";
 
 /// What reads lines, and counts how often it is refused memory.

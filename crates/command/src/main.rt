@@ -83,7 +83,8 @@ fn run(rt: &HostRuntime, standard: &Standard) -> u8 {
         stream: &standard.errors,
         writer: io::writer(&stderr),
     });
-    // A line is written in one piece: what a stop leaves of it is all or nothing.
+    // An answer is written in one piece, so that a stop leaves all of it or nothing; only a listing that is longer than
+    // this buffer is written in several.
     let Ok(writer) = BufWriter::new(rt.alloc(), io::writer(rt)) else {
         return no_memory(rt, &mut errors);
     };

@@ -7,12 +7,12 @@ ghost use Rattle.command.specs.LineFault.{HasText, line_faults};
 ghost use Rattle.command.specs.Program.{AsksToServe, Explains, HasRepliesAlone, Helps, KeepsErrorsUnlessServing};
 ghost use Rattle.command.specs.Program.{MayReportServing, Refuses, RefusesLine, ReportsOutOfMemory, Runs, RunsTask};
 ghost use Rattle.command.specs.Program.{Says, begins_with_serve};
-ghost use Rattle.command.specs.Output.{Fails, WritesText};
+ghost use Rattle.command.specs.Output.{Fails, WritesText, text_of};
 ghost use Rattle.command.specs.Streams.{output_seen, streams, taken};
 
 use crate::answer::{OUTPUT_FAILED, report, report_serving};
 use crate::files::SignerFolder;
-use crate::line::LineReader;
+use crate::line::{LineReader, VERSION};
 use crate::line_fault::LineFault;
 use crate::output::{Output, Part};
 use crate::refusal::Refusal;
@@ -25,9 +25,6 @@ use typecodes::Message;
 
 /// The exit status of a line that is refused.
 pub const LINE_REFUSED: u8 = 2;
-
-// The program's name and version.
-const VERSION_LINE: &str = "hbsign 0.2.0\n";
 
 /// Does what the words of a line request, without the program's name, and gives the exit status.
 ///
@@ -115,8 +112,13 @@ fn explain<O: Output, E: Output>(
         ⊎ ((serves ≡ true) × (fault.now ≡ LineFault.OutOfMemory)) }
 {
     match fault {
-        LineFault::Help(text) => print(text.as_str(), output),
-        LineFault::Version => print(VERSION_LINE, output),
+        LineFault::Help(text) => print(&[Part::Text(text.as_str())], output),
+        LineFault::Version => {
+            print(
+                &[Part::Text("hbsign "), Part::Text(VERSION), Part::Text("\n")],
+                output,
+            )
+        }
         LineFault::Refused(text) => {
             let _ = errors.print(&[Part::Text(text.as_str())]);
             LINE_REFUSED
@@ -140,12 +142,12 @@ pub fn report_no_memory<O: Output, E: Output>(serves: bool, output: &mut O, erro
     }
 }
 
-// Prints a text that was requested.
-fn print<O: Output>(text: &str, output: &mut O) -> u8
-    ensures { Helps text.now (taken O.contents O.failures output.old)
+// Prints a text that was requested, of these parts.
+fn print<O: Output>(parts: &[Part<'_>], output: &mut O) -> u8
+    ensures { Helps (text_of parts.now) (taken O.contents O.failures output.old)
         (taken O.contents O.failures output.new) result }
 {
-    match output.print(&[Part::Text(text)]) {
+    match output.print(parts) {
         Ok(()) => 0,
         Err(_) => OUTPUT_FAILED,
     }
