@@ -273,10 +273,12 @@ fn bare_hbsign<'a>(alloc: Global) -> Result<Command<'a>, AllocError>
             .bin_name("hbsign")?
             .about("Hash-based signatures on files")
             .after_help(
-                "Exit status:\n  0  Done; of verify: the signature is the key's for the message\n  \
-                 1  Refused: the line on standard output says why\n  \
+                "Exit status:\n  \
+                 0  Done; of verify: the signature is the key's for the message; of serve: the input ended\n  \
+                 1  Refused: a line on standard output says why, of serve on standard error\n  \
                  2  The line is wrong, or its name or spec is none; no file was opened\n  \
-                 3  A file or the machine failed: standard error says which",
+                 3  A file or the machine failed: standard error says what, but for memory (29, 46) and the output \
+                 (36)",
             )
             .version(VERSION)
             .no_binary_name(true)

@@ -40,7 +40,9 @@ impl<'a> Serve<'a> {
             )
             .after_help(
                 "Requests and replies are binary frames, for programs and not for a terminal: docs/FORMATS.md, \
-                 \"Frames\".\n\nExample:\n  $ hbsign serve firmware.key <requests >replies",
+                 \"Frames\".\nThe status is 0 where the input ends between two requests, also after a refusal, whose \
+                 number is its reply's.\nAfter a reply of 25 or 26 nobody may open STATE before its file system is \
+                 mounted anew.\n\nExample:\n  $ hbsign serve firmware.key <requests >replies",
             )
             .arg(required(
                 alloc,
