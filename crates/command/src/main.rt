@@ -83,15 +83,17 @@ fn run(rt: &HostRuntime, standard: &Standard) -> u8 {
         stream: &standard.errors,
         writer: io::writer(&stderr),
     });
+    let writer = StreamWriter {
+        stream: &standard.output,
+        writer: io::writer(rt),
+    };
     // An answer is written in one piece, so that a stop leaves all of it or nothing; only a listing that is longer than
-    // this buffer is written in several.
-    let Ok(writer) = BufWriter::new(rt.alloc(), io::writer(rt)) else {
+    // this buffer is written in several. The buffer is written once more when it is dropped, and refused then where a
+    // write has failed.
+    let Ok(writer) = BufWriter::new(rt.alloc(), writer) else {
         return no_memory(rt, &mut errors);
     };
-    let mut output = Printer::new(StreamWriter {
-        stream: &standard.output,
-        writer,
-    });
+    let mut output = Printer::new(writer);
     match words(rt) {
         Ok(words) => run_line(rt, standard, words.as_slice(), &mut output, &mut errors),
         Err(error) if error.kind() == io::ErrorKind::OutOfMemory => no_memory(rt, &mut errors),
