@@ -1,4 +1,4 @@
-//! `sign`: what refuses a request at once, and whether it repeats a bound name or binds a new one.
+//! `sign`: the steps of a request, and what refuses it at each.
 
 ghost use Rattle.std.specs.Prelude.{◌≡◌, ◌<◌, [], None, Some, vec_capacity, IfErr, IsSome, OnErr, ◌≤◌, ◌↔◌};
 ghost use Rattle.typecodes.specs.declared.secret.XmssSecret.{XmssSecret as X};
@@ -124,22 +124,27 @@ impl<S: Store, R: Source> Signer<S, R> {
         ensures repeat { IsSome (binding_in self.old.records name.now) →
             KeepsForRepeat self.old self.new (is_fault is_before_repeat result) }
     {
+        // 26, 31
         self.check_open()?;
         if let Some(binding) = self.ledger.find(name) {
+            // 27, 21, 29, 28
             return self.repeat(&binding, message, out);
         }
         if self.is_long(name) {
             return Err(SignFault::LongName);
         }
         let level = self.ledger.deepest().ok_or(SignFault::Exhausted)?;
+        // 30, 29
         self.prepare(level, out)?;
         match KeyTrees::of(&self.ledger.key().secret) {
             Ok(trees) => {
                 let (mut above, last) = trees
                     .standing(&self.ledger, &mut self.caches, level)
                     .map_err(SignFault::Damaged)?;
+                // 23, 24, 29 and 25 for each tree; 23, 27, 25
                 self.fulfil(&trees, name, message, &mut above, last, out)
             }
+            // 28, 27, 25
             Err(secret) => self.bind_xmss(&secret, name, message, out),
         }
     }
