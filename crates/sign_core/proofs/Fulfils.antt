@@ -335,3 +335,13 @@ fulfils_refused {S = S} {R = R} {M = M} g r m name key below level old new unrea
           not_before_draws = first.not_before_draws;
           lacks_tree = λ _ _. omega (arith, ap length (first.ends.records ∙ ap (λ o. o.acknowledged) (sym is) ∙ kept));
         }
+
+-- ---- the bottom level
+
+-- at the bottom level no tree is wanted
+pub at_end : {S R M : Type 0} (g : store.Ghosts S) (r : source.Ghosts R) (m : message.Ghosts M) (name : List ℕ) (old new : View S R) (before after : M)
+    (answer : Result (List ℕ) SignFault) (key : Key) (n k : ℕ) → n ≡ k → Fulfils g r m name 0 old new before after answer key
+    → Fulfils g r m name (k - n) old new before after answer key
+at_end g r m name old new before after answer key n k same fulfils =
+    let none : 0 ≡ k - n = omega (arith, same) in
+    subst (λ (b : ℕ). Fulfils g r m name b old new before after answer key) none fulfils

@@ -160,6 +160,11 @@ some_mapped : {A B : Type 0} (f : A → B) (found : Option A) (b : B) → option
 some_mapped f None b is = absurd (none-some _ is)
 some_mapped f (Some a) b is = (a, refl)
 
+-- what isn't some value is none
+pub is_none : {A : Type 0} (found : Option A) → ((x : A) → found ≡ Some x → ⊥) → found ≡ None
+is_none None other = refl
+is_none (Some x) other = absurd (other x refl)
+
 pub none_mapped : {A B : Type 0} (f : A → B) (found : Option A) → option_map f found ≡ None → found ≡ None
 none_mapped f None is = refl
 none_mapped f (Some a) is = absurd (cc)

@@ -11,7 +11,7 @@ use Rattle.lms.specs.declared.key.LmsPublic.{LmsPublic}
 use Rattle.typecodes.specs.declared.secret.LmsSecret.{LmsSecret}
 use Rattle.lms.specs.Secret.{public_of}
 use Rattle.lms.specs.Writing.{public_bytes}
-use Rattle.state_file.specs.Laws.{leaves_at, levels_of}
+use Rattle.state_file.specs.Laws.{bottom_of, leaves_at, levels_of}
 use Rattle.state_file.specs.declared.record.Extend.{Extend}
 use Rattle.state_file.specs.declared.record.Key.{Key}
 use Rattle.state_file.specs.declared.record.Record.{Record}
@@ -22,7 +22,7 @@ use Rattle.sign_core.specs.declared.links.Link.{Link}
 use Rattle.sign_core.specs.declared.links.SigningTree.{SigningTree}
 use Rattle.sign_core.specs.Records.{can_follow, current, has_identifier, has_moved, is_free, key_in, next_at}
 use Rattle.sign_core.specs.inner.Links.{IsMade, signing_of_link, signings_of}
-use Rattle.sign_core.specs.inner.Signing.{Stands, pairs_of}
+use Rattle.sign_core.specs.inner.Signing.{Stands, StandsIn, pairs_of}
 use Rattle.sign_core.specs.Textbook.{Trees, lms_secret, secret_at, secret_by, signing_by, signings_above, tree_before, trees_of}
 use Rattle.sign_core.proofs.Append.{current_new, next_at_new, some_leaves, tree_within}
 use Rattle.sign_core.proofs.Fulfilled.{next_extend}
@@ -177,3 +177,14 @@ stands_grown key trees records above last made signing extend these some stands 
       pairs = pairs_grown key trees above last made signing (ap (λ (t : SigningTree). t.secret.pair) tree) (ap (λ s. s.pair) secret) inside stands.pairs
           ∙ ap (λ n. take (n + 1) trees.pairs) (add-one (length above));
     })
+
+-- ---- the end of a chain
+
+-- a chain that reaches the bottom level
+pub at_bottom : (records : List Record) (own key : Key) (trees : Trees) (above : List Link) (last : SigningTree) → key_in records ≡ Some own
+    → key_in records ≡ Some key → StandsIn trees records above last key → levels_of own.secret ≤ length above + 1
+    → (length above ≡ bottom_of key.secret) × (levels_of own.secret - length above ≡ 1)
+at_bottom records own key trees above last first keyed stands low =
+    let few = few_levels key trees records (length above) above last stands.0 stands.1 in
+    let same : levels_of own.secret ≡ levels_of key.secret = ap (λ (k : Key). levels_of k.secret) (same_Some own key (sym first ∙ keyed)) in
+    (omega (arith, few, same, low), omega (arith, few, same, low))

@@ -20,13 +20,6 @@ use std::mem;
 use typecodes::{LmsSecret, XmssSecret};
 use xmss::XmssTree;
 
-// Whether two secrets of LMS trees are the same.
-fn is_same(one: &LmsSecret, other: &LmsSecret) -> bool
-    ensures { (result ≡ true) ↔ (one.now ≡ other.now) }
-{
-    one.pair == other.pair && one.identifier == other.identifier && one.seed == other.seed
-}
-
 // The cache of the tree of an LMS secret.
 #[derive(Drop)]
 pub(crate) struct LmsCache {
@@ -125,16 +118,6 @@ impl XmssCache {
     }
 }
 
-// Whether two secrets of XMSS trees are the same.
-fn is_same_xmss(one: &XmssSecret, other: &XmssSecret) -> bool
-    ensures { (result ≡ true) ↔ (one.now ≡ other.now) }
-{
-    one.tree == other.tree
-        && one.secret_seed == other.secret_seed
-        && one.prf_key == other.prf_key
-        && one.public_seed == other.public_seed
-}
-
 // This leaf, or the last one of a tree of this height, where that has no such leaf.
 fn leaf_within(height: u8, leaf: u32) -> u32
     requires { height ≤ 25 }
@@ -195,7 +178,7 @@ impl Caches {
         ensures { (result ≡ true) ↔ HasLevel self.now level secret.now }
     {
         match &self.levels[usize::from(level)] {
-            Some(cache) => is_same(&cache.secret, secret),
+            Some(cache) => cache.secret == *secret,
             None => false,
         }
     }
@@ -296,7 +279,7 @@ impl Caches {
         ensures { (result ≡ true) ↔ (self.now.xmss ≡ Some secret.now) }
     {
         match &self.xmss {
-            Some(cache) => is_same_xmss(&cache.secret, secret),
+            Some(cache) => cache.secret == *secret,
             None => false,
         }
     }

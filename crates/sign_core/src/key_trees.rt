@@ -15,29 +15,63 @@ use crate::ledger::{Binding, Ledger};
 use crate::links::{Link, SigningTree};
 use arrayvec::ArrayVec;
 use merkle::OutOfMemory;
-use state_file::Extend;
-use typecodes::{LmsPair, LmsSecret};
+use state_file::{Extend, Secret};
+use typecodes::{Levels, LmsPair, LmsSecret, XmssSecret};
 
 /// The LMS trees of a key: the top tree's secret, and the types of each level's trees.
-#[derive(Clone, Copy)]
-pub(crate) struct KeyTrees<'a> {
+#[derive(Drop)]
+pub(crate) struct KeyTrees {
     pub(crate) top: LmsSecret,
-    pub(crate) pairs: &'a [LmsPair],
+    pub(crate) levels: Levels,
 }
 
-impl<'a> KeyTrees<'a> {
+impl KeyTrees {
     ghost use Rattle.state_file.specs.declared.record.Record.TheVariants.{Extend as ExtendRecord};
     ghost use Rattle.state_file.specs.Laws.{IsLegal};
     ghost use Rattle.sign_core.specs.Records.{key_in};
     ghost use Rattle.sign_core.specs.inner.Links.{AreMade, AreTreesOf, IsMade, IsTreeAt, IsTreeBy, signings_of};
     ghost use Rattle.sign_core.specs.inner.Links.{trees_in};
-    ghost use Rattle.sign_core.specs.Textbook.{damaged_in, is_sound_at, secret_at, secret_by, signings_above};
+    ghost use Rattle.sign_core.specs.Textbook.{damaged_in, is_sound_at, secret_at, secret_by, signings_above, trees_of};
+    ghost use Rattle.state_file.specs.declared.record.Secret.TheVariants.{Xmss};
+
+    /// Those of a key of LMS, which has one level, or of HSS. A key of XMSS has none: its secret is given back.
+    pub(crate) fn of(secret: &Secret) -> Result<Self, XmssSecret>
+        ensures trees { IfOk result (λ trees. trees_of secret.now ≡ Some (trees_in trees)) }
+        ensures xmss { IfErr result (λ own. secret.now ≡ Xmss own) }
+    {
+        match secret {
+            Secret::Lms(top) => Ok(KeyTrees {
+                top: *top,
+                levels: Levels::one(top.pair),
+            }),
+            Secret::Hss {
+                levels,
+                identifier,
+                seed,
+            } => {
+                let top = LmsSecret {
+                    pair: levels.as_slice()[0],
+                    identifier: *identifier,
+                    seed: *seed,
+                };
+                Ok(KeyTrees {
+                    top,
+                    levels: levels.copied(),
+                })
+            }
+            Secret::Xmss(secret) => Err(*secret),
+        }
+    }
 
     /// The types of a level's trees; the top tree's, where there is no such level.
     pub(crate) fn pair(&self, level: u8) -> LmsPair
         ensures { result ≡ slice_index_or (trees_in self.now).pairs level (trees_in self.now).top.pair }
     {
-        *self.pairs.get(usize::from(level)).unwrap_or(&self.top.pair)
+        *self
+            .levels
+            .as_slice()
+            .get(usize::from(level))
+            .unwrap_or(&self.top.pair)
     }
 
     /// The secret of the tree that an Extend makes.
@@ -209,7 +243,7 @@ impl Caches {
     /// that is bound, or where none is given, under a new one.
     pub(crate) fn keep_chain(
         &mut self,
-        trees: &KeyTrees<'_>,
+        trees: &KeyTrees,
         ledger: &Ledger,
         lowest: u8,
         before: u32,

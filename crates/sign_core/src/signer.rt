@@ -12,16 +12,15 @@ ghost use Rattle.sign_core.specs.Textbook.{HasSizes, SecretHasSizes, root_by};
 ghost use Rattle.state_file.specs.declared.record.Record.TheVariants.{Key as KeyRecord};
 ghost use Rattle.typecodes.specs.Layout.{AreBytes};
 ghost use Rattle.typecodes.specs.Spec.{IsSpec};
-ghost use Rattle.lms.specs.Secret.{root_in};
 
 mod bind;
 mod repeat;
-mod scheme;
 mod sign;
 
 use crate::caches::Caches;
 use crate::fault::SignFault;
 use crate::key::AnyPublic;
+use crate::key_trees::KeyTrees;
 use crate::ledger::{Ledger, LedgerFault};
 use crate::source::{Source, draw};
 use arrayvec::ArrayVec;
@@ -131,26 +130,10 @@ fn draw_secret<R: Source>(spec: &Spec, random: &mut R) -> Result<Secret, SignFau
 fn root_of(secret: &Secret) -> [u8; 32]
     ensures { result ≡ root_by secret.now }
 {
-    match secret {
-        Secret::Lms(secret) => lms_root_of(*secret),
-        Secret::Hss {
-            levels,
-            identifier,
-            seed,
-        } => lms_root_of(LmsSecret {
-            pair: levels.as_slice()[0],
-            identifier: *identifier,
-            seed: *seed,
-        }),
-        Secret::Xmss(secret) => root(&mut XmssTree::new(*secret), secret.tree.height()),
+    match KeyTrees::of(secret) {
+        Ok(KeyTrees { top, .. }) => root(&mut LmsTree::new(top), top.pair.tree.height()),
+        Err(secret) => root(&mut XmssTree::new(secret), secret.tree.height()),
     }
-}
-
-// The root of an LMS tree.
-fn lms_root_of(secret: LmsSecret) -> [u8; 32]
-    ensures { result ≡ root_in secret }
-{
-    root(&mut LmsTree::new(secret), secret.pair.tree.height())
 }
 
 // How many levels a key of the spec has, which are 1 to 8 by their type.

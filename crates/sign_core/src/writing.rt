@@ -1,27 +1,20 @@
 //! Signatures of a key: how many bytes they have, the room for them, and their bytes.
 
-ghost use Rattle.std.specs.Prelude.{◌≡◌, ◌<◌, ◌≤◌, ◌∷◌, [], ◌++◌, List, Some, length, ◌^◌, map, IfErr, OnOk, ◌-◌, max};
+ghost use Rattle.std.specs.Prelude.{◌≡◌, ◌<◌, ◌≤◌, ◌∷◌, [], ◌++◌, List, Some, length, IfErr, OnOk, max};
 ghost use Rattle.std.specs.Prelude.{vec_capacity, OnErr};
-ghost use Rattle.hss.specs.Secret.{Signing, signing_of};
+ghost use Rattle.hss.specs.Secret.{Signing};
 ghost use Rattle.hss.specs.Signature.{signature_size as hss_signature_size};
-ghost use Rattle.hss.specs.Writing.{signature_bytes as hss_signature_bytes, textbook as hss_textbook, FromSecrets};
-ghost use Rattle.hss.specs.Writing.{pairs_of as level_pairs_of};
+ghost use Rattle.hss.specs.Writing.{signature_bytes as hss_signature_bytes, textbook as hss_textbook};
 ghost use Rattle.sign_core.specs.inner.Links.{AreMade, signings_of};
 ghost use Rattle.sign_core.specs.Signer.{signature_size};
 ghost use Rattle.sign_core.specs.inner.Signing.{WritesChain, pairs_of};
 ghost use Rattle.sign_core.specs.inner.Writing.{types_of};
 ghost use Rattle.sign_core.specs.Textbook.{Trees, trees_of};
-ghost use Rattle.typecodes.specs.Types.{height_of, lms_signature_len_of, xmss_height_of, xmss_signature_len_of};
-ghost use Rattle.lms.specs.Secret.{path_in as lms_path_in};
-ghost use Rattle.lms.specs.Writing.{signature_bytes as lms_signature_bytes, textbook as lms_textbook};
-ghost use Rattle.xmss.specs.Secret.{path_in as xmss_path_in, randomizer_of};
-ghost use Rattle.xmss.specs.Writing.{signature_bytes as xmss_signature_bytes, textbook as xmss_textbook};
 
 use crate::fault::SignFault;
 use crate::links::Link;
 use hss::Level;
 use state_file::Secret;
-use typecodes::{LmsSecret, XmssSecret};
 
 /// How many bytes a key's signatures have.
 pub(crate) fn signature_len(secret: &Secret) -> u32
@@ -62,53 +55,6 @@ fn fill(out: &mut Vec<u8>, size: usize)
     }
 }
 
-/// Writes the textbook signature of the digest Q by a leaf of an LMS tree, with the leaf's path.
-pub(crate) fn write_lms(
-    secret: &LmsSecret,
-    leaf: u32,
-    randomizer: &[u8; 32],
-    digest: &[u8; 32],
-    path: &[[u8; 32]],
-    into: &mut [u8],
-)
-    requires inside { leaf < 2 ^ height_of secret.now.pair.tree }
-    requires path { path.now ≡ lms_path_in secret.now leaf }
-    requires nodes { length path.now ≡ height_of secret.now.pair.tree }
-    requires room { length into.old ≡ lms_signature_len_of secret.now.pair }
-    ensures { into.new ≡ lms_signature_bytes (lms_textbook secret.now leaf randomizer.now digest.now) }
-{
-    lms::write_signature(secret, leaf, randomizer, digest, path, into);
-}
-
-/// Writes the textbook signature of the digest M' by a leaf of an XMSS tree, with the leaf's path.
-pub(crate) fn write_xmss(
-    secret: &XmssSecret,
-    leaf: u32,
-    randomizer: &[u8; 32],
-    digest: &[u8; 32],
-    path: &[[u8; 32]],
-    into: &mut [u8],
-)
-    requires inside { leaf < 2 ^ xmss_height_of secret.now.tree }
-    requires randomizer { randomizer.now ≡ randomizer_of secret.now.prf_key leaf }
-    requires path { path.now ≡ xmss_path_in secret.now leaf }
-    requires nodes { length path.now ≡ xmss_height_of secret.now.tree }
-    requires room { length into.old ≡ xmss_signature_len_of secret.now.tree }
-    ensures { into.new ≡ xmss_signature_bytes (xmss_textbook secret.now leaf digest.now) }
-{
-    xmss::write_signature(secret, leaf, randomizer, digest, path, into);
-}
-
-/// Writes the textbook signature of levels, from the top down, whose roots and paths are those of their secrets.
-pub(crate) fn write_hss(above: &[Level<'_>], bottom: &Level<'_>, into: &mut [u8])
-    requires few { length above.now ≤ 7 }
-    requires made { FromSecrets above.now bottom.now }
-    requires room { length into.old ≡ hss_signature_size (level_pairs_of above.now bottom.now) }
-    ensures { into.new ≡ hss_signature_bytes (hss_textbook (map signing_of above.now) (signing_of bottom.now)) }
-{
-    hss::write_signature(above, bottom, into);
-}
-
 impl Link {
     ghost use Rattle.typecodes.specs.Types.{lms_signature_len_of};
     ghost use Rattle.lms.specs.Writing.{signature_bytes, textbook};
@@ -124,7 +70,7 @@ impl Link {
         let tree = &self.tree;
         let height = usize::from(tree.secret.pair.tree.height());
         let path = &tree.path[..height];
-        write_lms(
+        lms::write_signature(
             &tree.secret,
             tree.leaf,
             &self.randomizer,
@@ -164,7 +110,7 @@ fn write_hss_links(links: &[Link], into: &mut [u8])
     let levels = LinkLevels::of(links);
     let places = &levels.places[..];
     let last = links.len() - 1;
-    write_hss(&places[..last], &places[last], into);
+    hss::write_signature(&places[..last], &places[last], into);
 }
 
 /// The levels of a signature that the links of a chain make. The places after theirs are of no meaning.

@@ -19,7 +19,7 @@ use Rattle.sign_core.specs.Textbook.{Trees, trees_of}
 
 -- the trees of a key
 abbrev pub trees_in : KeyTrees → Trees
-trees_in trees = record { top = trees.top; pairs = trees.pairs.now }
+trees_in trees = record { top = trees.top; pairs = trees.levels }
 
 -- These are the trees of a key of LMS or HSS.
 abbrev pub AreTreesOf : KeyTrees → Key → Type 0

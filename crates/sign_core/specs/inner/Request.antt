@@ -1,23 +1,12 @@
 -- What hinders a request, and what it makes room for.
 use Rattle.std.specs.Prelude.{◌≡◌, ◌⊎◌, ℕ, ◌+◌, ◌-◌, ◌<◌, ◌≤◌, length, true, Some, Result, Ok, Err}
 use Rattle.state_file.specs.declared.record.Key.{Key}
-use Rattle.state_file.specs.declared.record.Secret.{Secret}
-use Rattle.state_file.specs.declared.record.Secret.TheVariants.{Xmss}
 use Rattle.state_file.specs.Laws.{levels_of}
 use Rattle.sign_core.specs.declared.fault.SignFault.{SignFault}
 use Rattle.sign_core.specs.declared.fault.SignFault.TheVariants.{LedgerFull, OutOfMemory}
-use Rattle.sign_core.specs.declared.signer.scheme.Scheme.{Scheme}
-use Rattle.sign_core.specs.declared.signer.scheme.Scheme.TheVariants as scheme
 use Rattle.sign_core.specs.Caches.{LacksCache}
-use Rattle.sign_core.specs.inner.Links.{trees_in}
 use Rattle.sign_core.specs.Signer.{KeepsAll, View, is_before_caches, is_fault, signature_size}
 use Rattle.sign_core.specs.inner.Signing.{IsReady}
-use Rattle.sign_core.specs.Textbook.{trees_of}
-
--- what signs under a key with this secret
-abbrev pub IsScheme : Secret → Scheme → Type 0
-IsScheme secret (scheme.Chain trees) = trees_of secret ≡ Some (trees_in trees)
-IsScheme secret (scheme.Xmss tree) = secret ≡ Xmss tree
 
 -- Room is made for the records that a new name wants, of which this level is the deepest with a free leaf, and for its
 -- signature, and the caches of the trees that it needs are there; or the store doesn't take as many records, or memory

@@ -4,22 +4,21 @@ ghost use Rattle.std.specs.Prelude.{◌≡◌, ◌<◌, ◌-◌, [], None, Some,
 ghost use Rattle.std.specs.Prelude.{◌+◌, IfOk, OnOk};
 ghost use Rattle.sign_core.specs.Caches.{LacksCache};
 ghost use Rattle.state_file.specs.Laws.{levels_of, bottom_of};
-ghost use Rattle.sign_core.specs.Records.{binding_in, has_moved, is_long, free_at};
+ghost use Rattle.sign_core.specs.Records.{has_moved, free_at};
 ghost use Rattle.sign_core.specs.inner.Request.{Prepares};
-ghost use Rattle.sign_core.specs.Signer.{KeepsAll, Signs};
+ghost use Rattle.sign_core.specs.Signer.{KeepsAll};
 ghost use Rattle.sign_core.specs.inner.Signing.{Binds, CanBind, ChainStands, DrawsTree, Extends, Fulfils, IsReady};
 ghost use Rattle.sign_core.specs.Signing.{IsXmssKey, KeepsCapacity, UnderKey, answered_with};
 ghost use Rattle.sign_core.specs.inner.Links.{trees_in};
 
 use super::Signer;
-use super::scheme::Scheme;
 use super::sign::{read_digest, read_xmss_digest};
 use crate::fault::SignFault;
 use crate::key_trees::KeyTrees;
 use crate::ledger::Ledger;
 use crate::links::{Link, SigningTree};
 use crate::source::{Source, draw};
-use crate::writing::{make_room, write_chain, write_xmss};
+use crate::writing::{make_room, write_chain};
 use arrayvec::ArrayVec;
 use lmots::LmOts;
 use state_file::{Bound, Extend, Record, Store};
@@ -52,38 +51,9 @@ fn draw_tree<R: Source>(random: &mut R, ledger: &Ledger) -> Result<TreeSeeds, Si
 }
 
 impl<S: Store, R: Source> Signer<S, R> {
-    // Binds a new name that a file of the key's version can hold, and signs under it.
-    pub(super) fn bind<M: Message>(
-        &mut self,
-        name: &Name,
-        message: &mut M,
-        out: &mut Vec<u8>,
-    ) -> Result<(), SignFault>
-        requires open { self.old.is_open ≡ true }
-        requires goes_on { has_moved self.old.records ≡ false }
-        requires unbound { binding_in self.old.records name.now ≡ None }
-        requires fits { UnderKey self.old.records (λ key. is_long key name.now ≡ false) }
-        ensures step { Signs S.Store R.Source M.Message self.old self.new name.now message.old message.new
-            (vec_capacity out.old) (answered_with result out.new.items) }
-        ensures capacity { KeepsCapacity self.old.records (vec_capacity out.old) (vec_capacity out.new) }
-    {
-        let level = self.ledger.deepest().ok_or(SignFault::Exhausted)?;
-        self.prepare(level, out)?;
-        let key = self.ledger.key().copied();
-        match Scheme::of(&key.secret) {
-            Scheme::Chain(trees) => {
-                let (mut above, last) = trees
-                    .standing(&self.ledger, &mut self.caches, level)
-                    .map_err(SignFault::Damaged)?;
-                self.fulfil(&trees, name, message, &mut above, last, out)
-            }
-            Scheme::Xmss(secret) => self.bind_xmss(&secret, name, message, out),
-        }
-    }
-
     // Makes room for the records of a new name, of which this level is the deepest with a free leaf, and for its
     // signature.
-    fn prepare(&mut self, level: u8, out: &mut Vec<u8>) -> Result<(), SignFault>
+    pub(super) fn prepare(&mut self, level: u8, out: &mut Vec<u8>) -> Result<(), SignFault>
         requires open { self.old.is_open ≡ true }
         requires goes_on { has_moved self.old.records ≡ false }
         requires level { UnderKey self.old.records (λ key. level < levels_of key.secret) }
@@ -114,11 +84,11 @@ impl<S: Store, R: Source> Signer<S, R> {
     {
         let count = self.ledger.len();
         let (next, _) = self.bottom();
-        let cached = match Scheme::of(&self.ledger.key().secret) {
-            Scheme::Chain(trees) => self
+        let cached = match KeyTrees::of(&self.ledger.key().secret) {
+            Ok(trees) => self
                 .caches
                 .keep_chain(&trees, &self.ledger, level, count, None),
-            Scheme::Xmss(secret) => self.caches.keep_xmss(&secret, next),
+            Err(secret) => self.caches.keep_xmss(&secret, next),
         };
         cached.map_err(|_| SignFault::OutOfMemory)
     }
@@ -127,7 +97,7 @@ impl<S: Store, R: Source> Signer<S, R> {
     // next leaf. The answer is the new tree, which is to sign by its first leaf.
     fn extend(
         &mut self,
-        trees: &KeyTrees<'_>,
+        trees: &KeyTrees,
         above: &mut ArrayVec<Link, 8>,
         last: SigningTree,
     ) -> Result<SigningTree, SignFault>
@@ -172,7 +142,7 @@ impl<S: Store, R: Source> Signer<S, R> {
     // has no tree, and the Bound. Then it writes the signature.
     pub(super) fn fulfil<M: Message>(
         &mut self,
-        trees: &KeyTrees<'_>,
+        trees: &KeyTrees,
         name: &Name,
         message: &mut M,
         above: &mut ArrayVec<Link, 8>,
@@ -186,31 +156,12 @@ impl<S: Store, R: Source> Signer<S, R> {
             (bottom_of key.secret - length above.old.items) self.old self.new message.old message.new
             (answered_with result out.new) key) }
     {
-        if above.len() + 1 >= usize::from(self.ledger.key().secret.levels()) {
-            return self.bind_under(trees, name, message, above, last, out);
+        if above.len() + 1 < usize::from(self.ledger.key().secret.levels()) {
+            let made = self.extend(trees, above, last)?;
+            // For the prover: a signer that recorded an Extend is open, and so its store runs.
+            prove!(self.is_open);
+            return self.fulfil(trees, name, message, above, made, out);
         }
-        let made = self.extend(trees, above, last)?;
-        // For the prover: a signer that recorded an Extend is open, and so its store runs.
-        prove!(self.is_open);
-        self.fulfil(trees, name, message, above, made, out)
-    }
-
-    // Binds a name to the next leaf of the bottom tree of a standing chain, and writes the signature.
-    fn bind_under<M: Message>(
-        &mut self,
-        trees: &KeyTrees<'_>,
-        name: &Name,
-        message: &mut M,
-        above: &mut ArrayVec<Link, 8>,
-        last: SigningTree,
-        out: &mut [u8],
-    ) -> Result<(), SignFault>
-        requires can { CanBind (S.most self.old.store) 1 name.now (length out.old) self.old }
-        requires stands { ChainStands self.old.records (trees_in trees.now) above.old.items last }
-        requires bottom { UnderKey self.old.records (λ key. length above.old.items ≡ bottom_of key.secret) }
-        ensures { UnderKey self.old.records (Fulfils S.Store R.Source M.Message name.now 0 self.old self.new
-            message.old message.new (answered_with result out.new)) }
-    {
         let randomizer = draw::<R, 32>(&mut self.random)?;
         let leaf = last.leaf;
         let identifier = last.secret.identifier;
@@ -256,7 +207,7 @@ impl<S: Store, R: Source> Signer<S, R> {
             randomizer: [0; 32],
             digest,
         }))?;
-        write_xmss(secret, leaf, &randomizer, &digest, path, out);
+        xmss::write_signature(secret, leaf, &randomizer, &digest, path, out);
         Ok(())
     }
 }

@@ -9,14 +9,13 @@ ghost use Rattle.sign_core.specs.inner.Links.{AreTreesOf};
 ghost use Rattle.state_file.specs.Laws.{bottom_of};
 
 use super::Signer;
-use super::scheme::Scheme;
 use super::sign::{read_digest, read_xmss_digest};
 use crate::caches::Caches;
 use crate::fault::SignFault;
 use crate::key_trees::KeyTrees;
 use crate::ledger::Binding;
 use crate::source::Source;
-use crate::writing::{make_room, write_chain, write_xmss};
+use crate::writing::{make_room, write_chain};
 use arrayvec::ArrayVec;
 use lmots::LmOts;
 use state_file::Store;
@@ -64,9 +63,9 @@ impl<S: Store, R: Source> Signer<S, R> {
         ensures { RepeatsBy M.Message (state_of self.now) binding.now caches.old caches.new message.old message.new
             out.old out.new result }
     {
-        match Scheme::of(&self.ledger.key().secret) {
-            Scheme::Chain(trees) => self.repeat_chain(caches, &trees, binding, message, out),
-            Scheme::Xmss(secret) => self.repeat_xmss(caches, &secret, binding, message, out),
+        match KeyTrees::of(&self.ledger.key().secret) {
+            Ok(trees) => self.repeat_chain(caches, &trees, binding, message, out),
+            Err(secret) => self.repeat_xmss(caches, &secret, binding, message, out),
         }
     }
 
@@ -74,7 +73,7 @@ impl<S: Store, R: Source> Signer<S, R> {
     fn cache_bound(
         &self,
         caches: &mut Caches,
-        trees: &KeyTrees<'_>,
+        trees: &KeyTrees,
         binding: &Binding,
     ) -> Result<(), SignFault>
         requires trees { UnderKey self.now.records (AreTreesOf trees.now) }
@@ -92,7 +91,7 @@ impl<S: Store, R: Source> Signer<S, R> {
     pub(super) fn repeat_chain<M: Message>(
         &self,
         caches: &mut Caches,
-        trees: &KeyTrees<'_>,
+        trees: &KeyTrees,
         binding: &Binding,
         message: &mut M,
         out: &mut Vec<u8>,
@@ -155,7 +154,7 @@ impl<S: Store, R: Source> Signer<S, R> {
         caches
             .xmss_link(*secret, &root, leaf, path)
             .map_err(SignFault::Damaged)?;
-        write_xmss(secret, leaf, &randomizer, &digest, path, out);
+        xmss::write_signature(secret, leaf, &randomizer, &digest, path, out);
         Ok(())
     }
 }

@@ -1,4 +1,4 @@
-//! `sign`: what refuses a request at once, and whether it repeats a bound name or binds a new one.
+//! `sign`: the steps of a request, and what refuses it at each.
 
 ghost use Rattle.std.specs.Prelude.{◌≡◌, ◌<◌, [], None, Some, vec_capacity, IfErr, IsSome, OnErr, ◌≤◌, ◌↔◌};
 ghost use Rattle.typecodes.specs.declared.secret.XmssSecret.{XmssSecret as X};
@@ -13,8 +13,8 @@ ghost use Rattle.lmots.specs.Key.{message_digest_of};
 ghost use Rattle.xmss.specs.Digest.{message_digest_of as xmss_digest_of};
 
 use super::Signer;
-use super::scheme::Scheme;
 use crate::fault::SignFault;
+use crate::key_trees::KeyTrees;
 use crate::source::Source;
 use lmots::LmOts;
 use state_file::Store;
@@ -67,13 +67,13 @@ impl<S: Store, R: Source> Signer<S, R> {
         if level >= secret.levels() {
             return None;
         }
-        match Scheme::of(secret) {
-            Scheme::Chain(trees) => {
+        match KeyTrees::of(secret) {
+            Ok(trees) => {
                 let tree = self.ledger.current(level)?;
                 let secret = trees.secret_at(&self.ledger, tree.place);
                 self.caches.leaves(level, &secret)
             }
-            Scheme::Xmss(secret) => self.caches.xmss_leaves(&secret),
+            Err(secret) => self.caches.xmss_leaves(&secret),
         }
     }
 
@@ -104,7 +104,7 @@ impl<S: Store, R: Source> Signer<S, R> {
         ensures repeat { IsSome (binding_in self.old.records name.now) →
             KeepsForRepeat self.old self.new (is_fault is_before_repeat result) }
     {
-        if let Err(fault) = self.answer(name, message, out) {
+        if let Err(fault) = self.sign_into(name, message, out) {
             out.clear();
             return Err(fault);
         }
@@ -112,7 +112,7 @@ impl<S: Store, R: Source> Signer<S, R> {
     }
 
     // As `sign`, but an `Err` may leave anything in `out`.
-    fn answer<M: Message>(
+    fn sign_into<M: Message>(
         &mut self,
         name: &Name,
         message: &mut M,
@@ -124,15 +124,28 @@ impl<S: Store, R: Source> Signer<S, R> {
         ensures repeat { IsSome (binding_in self.old.records name.now) →
             KeepsForRepeat self.old self.new (is_fault is_before_repeat result) }
     {
+        // 26, 31
         self.check_open()?;
-        match self.ledger.find(name) {
-            Some(binding) => self.repeat(&binding, message, out),
-            None => {
-                if self.is_long(name) {
-                    return Err(SignFault::LongName);
-                }
-                self.bind(name, message, out)
+        if let Some(binding) = self.ledger.find(name) {
+            // 27, 21, 29, 28
+            return self.repeat(&binding, message, out);
+        }
+        if self.is_long(name) {
+            return Err(SignFault::LongName);
+        }
+        let level = self.ledger.deepest().ok_or(SignFault::Exhausted)?;
+        // 30, 29
+        self.prepare(level, out)?;
+        match KeyTrees::of(&self.ledger.key().secret) {
+            Ok(trees) => {
+                let (mut above, last) = trees
+                    .standing(&self.ledger, &mut self.caches, level)
+                    .map_err(SignFault::Damaged)?;
+                // 23, 24, 29 and 25 for each tree; 23, 27, 25
+                self.fulfil(&trees, name, message, &mut above, last, out)
             }
+            // 28, 27, 25
+            Err(secret) => self.bind_xmss(&secret, name, message, out),
         }
     }
 

@@ -2,6 +2,7 @@ use Rattle.std.proofs.Common.{rules, ◌≡◌, ◌∙◌, ◌<◌, ◌^◌, ◌
 use Rattle.std.specs.Prelude.{replicate}
 use Rattle.typecodes.specs.Types.{xmss_height_of}
 use Rattle.xmss.specs.Digest.{message_digest_of}
+use Rattle.xmss.specs.Writing.{signature_bytes, signed}
 use Rattle.state_file.specs.declared.record.Bound.{Bound}
 use Rattle.state_file.specs.declared.record.Record.TheVariants.{Bound as BoundRecord}
 use Rattle.sign_core.specs.Signing.{answered_with}
@@ -22,16 +23,16 @@ xmss_link-requires-clause-inside g c =
     subst (λ n. n < 2 ^ xmss_height_of c.args.secret.now.tree) (sym (c.bottom-leaf.ensures own first).0)
     (xmss_next_inside v.records own c.args.secret.now (c.requires.key own first) (c.requires.free own first))
 
-pub write_xmss-requires-clause-inside : goal.write_xmss-requires-clause-inside
-write_xmss-requires-clause-inside g c =
+pub write_signature-requires-clause-inside : goal.write_signature-requires-clause-inside
+write_signature-requires-clause-inside g c =
     let v = c.args.self.now in
     let own = c.key.result.now in
     let first : key_in v.records ≡ Some own = ap (λ w. key_in w.records) (sym c.self.view_is) ∙ c.key.ensures.first in
     subst (λ n. n < 2 ^ xmss_height_of c.args.secret.now.tree) (sym (c.bottom-leaf.ensures own first).0)
     (xmss_next_inside v.records own c.args.secret.now (c.requires.key own first) (c.requires.free own first))
 
-pub write_xmss-requires-clause-room : goal.write_xmss-requires-clause-room
-write_xmss-requires-clause-room g c =
+pub write_signature-requires-clause-room : goal.write_signature-requires-clause-room
+write_signature-requires-clause-room g c =
     let v = c.args.self.now in
     let own = c.key.result.now in
     let first : key_in v.records ≡ Some own = ap (λ w. key_in w.records) (sym c.self.view_is) ∙ c.key.ensures.first in
@@ -134,7 +135,8 @@ returns g c key keyed =
     let sig = signature_at key (v.records ++ BoundRecord bound ∷ []) (length v.records) bound in
     let is = bound_of_xmss v.records key c.key.result.now c.args.secret.now c.args.name.now bound text (c.requires.key key keyed) own refl
     (c.bottom-leaf.ensures key keyed).0 refl digest_is in
-    let signs = c.write_xmss.ensures
+    let signs = c.write_signature.ensures.bytes
+    ∙ ap (λ p. signature_bytes (signed c.args.secret.now c.bottom-leaf.result.0 c.in_ok-digest.digest p)) c.xmss_link.ensures.path
     ∙ sym (xmss_signed (v.records ++ BoundRecord bound ∷ []) key c.args.secret.now (length v.records) bound (c.requires.key key keyed)) in
     added_binds g.S.Store g.R.Source g.M.Message c.args.name.now v c.args.message.now c.read_xmss_digest.new.message key c.args.secret.now
     (c.requires.key key keyed) keyed c.xmss_link.result c.map_err.result c.in_ok-map_err.field-0 c.add.new.self bound text c.add.result

@@ -139,15 +139,15 @@ returns-clause-stands g c key keyed =
       root = c.in_ok-cache.made.root;
     } in
     let count : c.len.result + 1 ≡ length a.above.now.items + 1 = omega (arith, c.len.ensures.value) in
-    let pair : c.pair.result ≡ slice_index_or a.trees.now.pairs.now (length a.above.now.items + 1) a.trees.now.top.pair =
-    c.pair.ensures ∙ ap (λ n. slice_index_or a.trees.now.pairs.now n a.trees.now.top.pair) count in
+    let pair : c.pair.result ≡ slice_index_or a.trees.now.levels (length a.above.now.items + 1) a.trees.now.top.pair =
+    c.pair.ensures ∙ ap (λ n. slice_index_or a.trees.now.levels n a.trees.now.top.pair) count in
     let before : Stands i.ledger.key (trees_in a.trees.now) i.ledger.records (length a.above.now.items) a.above.now.items a.last =
     subst (λ (w : View g.row.S.Denot g.row.R.Denot).
     Stands i.ledger.key (trees_in a.trees.now) w.records (length a.above.now.items) a.above.now.items a.last)
     (sym c.self.view_is) (c.requires.stands i.ledger.key own).1 in
     let few = c.requires.below i.ledger.key own in
     let secret : c.in_ok-cache.made.secret
-    ≡ lms_secret (slice_index_or a.trees.now.pairs.now (length a.above.now.items + 1) a.trees.now.top.pair) seeds.identifier seeds.seed =
+    ≡ lms_secret (slice_index_or a.trees.now.levels (length a.above.now.items + 1) a.trees.now.top.pair) seeds.identifier seeds.seed =
     c.in_ok-cache.ensures.secret ∙ (λ j. record { pair = pair j; identifier = seeds.identifier; seed = seeds.seed }) in
     let after : Stands i.ledger.key (trees_in a.trees.now) (i.ledger.records ++ ExtendRecord extend ∷ []) (length (a.above.now.items ++ c.signing.result ∷ []))
     (a.above.now.items ++ c.signing.result ∷ []) c.in_ok-cache.made =

@@ -2,6 +2,7 @@ use Rattle.std.proofs.Common.{rules, ◌≡◌, ◌∙◌, Some, Err, inr, refl,
 use Rattle.std.specs.Prelude.{length, vec_capacity}
 use Rattle.std.proofs.lemmas.List.{take_at}
 use Rattle.xmss.specs.Digest.{message_digest_of}
+use Rattle.xmss.specs.Writing.{signature_bytes, signed}
 use Rattle.sign_core.specs.Records.{key_in}
 use Rattle.sign_core.specs.Signer.{IsSigner, is_before_repeat, state_of}
 use Rattle.sign_core.specs.inner.Signing.{Repeats}
@@ -84,8 +85,8 @@ xmss_link-requires-clause-inside g c =
     bound_xmss_leaf c.key.result.now v.records _ c.args.binding.now c.args.secret.now (subst (IsSigner g.S.Store) c.self.view_is c.self.invariant.0).legal first
     (c.requires.key c.key.result.now first) (c.requires.kept c.key.result.now first).1
 
-pub write_xmss-requires-clause-inside : goal.write_xmss-requires-clause-inside
-write_xmss-requires-clause-inside g c =
+pub write_signature-requires-clause-inside : goal.write_signature-requires-clause-inside
+write_signature-requires-clause-inside g c =
     let v = c.args.self.now in
     let first : key_in v.records ≡ Some c.key.result.now = ap (λ w. key_in w.records) (sym c.self.view_is) ∙ c.key.ensures.first in
     bound_xmss_leaf c.key.result.now v.records _ c.args.binding.now c.args.secret.now (subst (IsSigner g.S.Store) c.self.view_is c.self.invariant.0).legal first
@@ -124,13 +125,15 @@ returns g c = record {
       let found = is_found key v.records name c.args.binding.now kept in
       let first : key_in v.records ≡ Some c.key.result.now = ap (λ w. key_in w.records) (sym c.self.view_is) ∙ c.key.ensures.first in
       let own : c.key.result.now ≡ key = same_key v.records c.key.result.now key first keyed in
-      let fits : length c.write_xmss.new.into ≡ c.make_room.new.out.len = search rules in
+      let fits : length c.write_signature.new.into ≡ c.make_room.new.out.len = search rules in
       signed_xmss g.M.Message v c.args.message.now c.read_xmss_digest.new.message _ key name c.args.binding.now found c.args.secret.now text
-      c.in_ok-digest.digest _ c.write_xmss.new.into c.xmss_link.result c.map_err.result c.in_ok-map_err.field-0 whole keyed (c.requires.key key keyed)
+      c.in_ok-digest.digest _ c.write_signature.new.into c.xmss_link.result c.map_err.result c.in_ok-map_err.field-0 whole keyed (c.requires.key key keyed)
       (xmss_read key c.key.result.now v.records name c.args.binding.now found c.args.secret.now text c.in_ok-digest.digest (c.requires.key key keyed) own is)
       (sym c.ne.ensures ∙ c.if-ne.false) c.map_err.ensures.cases c.in_ok-map_err.was
       (λ rest. c.xmss_link.ensures.sound key rest (c.requires.key key keyed) (ap (λ k. k.root) (sym own)))
-      c.write_xmss.ensures (take_at c.write_xmss.new.into _ c.make_room.new.out.len fits);
+      (c.write_signature.ensures.bytes
+      ∙ ap (λ p. signature_bytes (signed c.args.secret.now c.args.binding.now.leaf c.in_ok-digest.digest p)) c.xmss_link.ensures.path)
+      (take_at c.write_signature.new.into _ c.make_room.new.out.len fits);
   capacity =
       capacity_grows _ c.key-2.result.now _ _ (ap (λ w. key_in w.records) (sym c.self.view_is) ∙ c.key-2.ensures.first)
       c.make_room.ensures.capacity c.make_room.ensures.most;
