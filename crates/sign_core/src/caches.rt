@@ -11,7 +11,7 @@ ghost use Rattle.sign_core.specs.Textbook.{damaged_in};
 
 use crate::fault::SignFault;
 use crate::links::SigningTree;
-use crate::roots::xmss_root;
+use crate::roots::root_and_path;
 use lms::LmsTree;
 use merkle::{OutOfMemory, PathCache};
 use std::alloc::Global;
@@ -252,12 +252,9 @@ impl Caches {
         requires { level < 8 }
         ensures { IsSome result ↔ HasLevel self.now level secret.now }
     {
-        if !self.has(level, secret) {
-            return None;
-        }
         match &self.levels[usize::from(level)] {
-            Some(kept) => Some(kept.cache.leaves_made()),
-            None => None,
+            Some(kept) if kept.secret == *secret => Some(kept.cache.leaves_made()),
+            _ => None,
         }
     }
 
@@ -265,12 +262,9 @@ impl Caches {
     pub(crate) fn xmss_leaves(&self, secret: &XmssSecret) -> Option<u64>
         ensures { IsSome result ↔ (self.now.xmss ≡ Some secret.now) }
     {
-        if !self.has_xmss(secret) {
-            return None;
-        }
         match &self.xmss {
-            Some(kept) => Some(kept.cache.leaves_made()),
-            None => None,
+            Some(kept) if kept.secret == *secret => Some(kept.cache.leaves_made()),
+            _ => None,
         }
     }
 
@@ -308,12 +302,13 @@ impl Caches {
         ensures root { result ≡ xmss_root_in secret }
         ensures same { self.new ≡ self.old }
     {
+        let height = secret.tree.height();
         if !self.has_xmss(&secret) {
-            return xmss_root(secret, leaf, into);
+            return root_and_path(&mut XmssTree::new(secret), height, leaf, into);
         }
         match &mut self.xmss {
             Some(cache) => cache.root(leaf, into),
-            None => xmss_root(secret, leaf, into),
+            None => root_and_path(&mut XmssTree::new(secret), height, leaf, into),
         }
     }
 

@@ -5,10 +5,10 @@ ghost use Rattle.typecodes.specs.Types.{height_of};
 ghost use Rattle.lmots.specs.Key.{message_digest_of};
 ghost use Rattle.lms.specs.Writing.{public_bytes};
 
-use crate::roots::lms_root;
+use crate::roots::root_and_path;
 use hss::Level;
 use lmots::LmOts;
-use lms::{LmsPublic, write_public};
+use lms::{LmsPublic, LmsTree, write_public};
 use state_file::Extend;
 use typecodes::{LmsPair, LmsSecret, LmsType, OtsType};
 
@@ -42,8 +42,9 @@ impl SigningTree {
         ensures made { IsMade result }
     {
         let mut path = [[0; 32]; 25];
-        let height = usize::from(secret.pair.tree.height());
-        let root = lms_root(secret, leaf, &mut path[..height]);
+        let height = secret.pair.tree.height();
+        let nodes = &mut path[..usize::from(height)];
+        let root = root_and_path(&mut LmsTree::new(secret), height, leaf, nodes);
         SigningTree {
             secret,
             root,
