@@ -15,7 +15,9 @@ use sha2::{Digest, Sha256};
 use std::io;
 use std::io::Read;
 use std::process::Abort;
-use typecodes::{Cause, LevelCount, Levels, LmsPair, LmsSecret, LmsType, OtsType, ReadFault, Refusal};
+use typecodes::{
+    Cause, LevelCount, Levels, LmsPair, LmsSecret, LmsType, OtsType, ReadFault, Refusal,
+};
 
 const PAIR: LmsPair = LmsPair {
     tree: LmsType::H5,
