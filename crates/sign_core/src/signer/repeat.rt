@@ -45,28 +45,14 @@ impl<S: Store, R: Source> Signer<S, R> {
         ensures capacity { KeepsCapacity self.old.records (vec_capacity out.old) (vec_capacity out.new) }
         ensures keeps { KeepsForRepeat self.old self.new (is_fault is_before_repeat result) }
     {
+        // The caches are taken out, so that `self` can be lent beside them.
         let mut caches = self.caches.take();
-        let answer = self.repeat_by(&mut caches, binding, message, out);
+        let answer = match KeyTrees::of(&self.ledger.key().secret) {
+            Ok(trees) => self.repeat_chain(&mut caches, &trees, binding, message, out),
+            Err(secret) => self.repeat_xmss(&mut caches, &secret, binding, message, out),
+        };
         self.caches = caches;
         answer
-    }
-
-    // As `repeat`, with the caches taken out, so that `self` can be lent.
-    fn repeat_by<M: Message>(
-        &self,
-        caches: &mut Caches,
-        binding: &Binding,
-        message: &mut M,
-        out: &mut Vec<u8>,
-    ) -> Result<(), SignFault>
-        requires kept { IsSomeBinding self.now.records binding.now }
-        ensures { RepeatsBy M.Message (state_of self.now) binding.now caches.old caches.new message.old message.new
-            out.old out.new result }
-    {
-        match KeyTrees::of(&self.ledger.key().secret) {
-            Ok(trees) => self.repeat_chain(caches, &trees, binding, message, out),
-            Err(secret) => self.repeat_xmss(caches, &secret, binding, message, out),
-        }
     }
 
     // Makes the caches that a bound name lacks: one for each current tree that is older than the binding.
