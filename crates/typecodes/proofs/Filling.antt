@@ -10,7 +10,7 @@ use Rattle.typecodes.specs.Reading.{AsksForRest, ReadsFull, Request, RequestsFul
 use Rattle.typecodes.specs.Sink.{OffersRest, Write, WritesAll}
 use Rattle.typecodes.proofs.Messages.{fails, gives-all, gives-more}
 
--- ---- reads into a buffer, of which the first bytes were read: it was xs before the last read, and is zs
+-- ---- reads into a buffer whose first a bytes were read; it was xs before the last read, and is zs
 
 module _ {M : Type 0} (a : ℕ) (xs zs : List ℕ) (old before new : M) (front : take a zs ≡ take a xs) (same : length zs ≡ length xs) where
   -- a read fails

@@ -23,7 +23,7 @@ index_small h index most inside =
     let wider : 2 ^ h ≤ 2 ^ 25 = pow-le-pow_right (omega arith) most in
     omega arith
 
--- so does that of a leaf, since no tree is higher
+-- so does a leaf's, since no tree is higher
 pub lms_most : (t : LmsType) → height_of t ≤ 25
 lms_most lms.H5 = omega arith
 lms_most lms.H10 = omega arith

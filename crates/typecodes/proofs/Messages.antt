@@ -80,7 +80,7 @@ pub some_content : (known : Option (List ℕ)) → (text : List ℕ) × IsConten
 some_content None = ([], tt)
 some_content (Some text) = (text, refl)
 
--- ---- the same reads of something else
+-- ---- the same reads of another message
 
 -- Reads of the one are reads of the other, state by state.
 pub record Follows {M N : Type 0} (step : Transition M) (other : Transition N) (Fits : M → N → Type 0) : Type 0 where

@@ -1,4 +1,4 @@
--- A list whose place is filled up to its end with one value.
+-- A list, padded with one value to a fixed length.
 use Rattle.std.proofs.Common.{arith, ◌≡◌, ◌≤◌, ◌++◌, ◌+◌, ◌-◌, ◌∙◌, ap, sym, ℕ, List, length, replicate, take, drop}
 use Rattle.std.proofs.lemmas.List.{drop-replicate, length-append, length-replicate, take-append-le}
 use Rattle.std.proofs.Math.Seq.{take-length}
@@ -9,7 +9,7 @@ front xs ys rest same =
     let many : length ys ≡ length xs = ap length same in
     take-append-le (length xs) ys rest (omega (arith, many)) ∙ ap (λ n. take n ys) (sym many) ∙ take-length ys ∙ same
 
--- what stands after the list is the value, as often as there is room
+-- after the list the value fills the room that is left
 pub filled : {A : Type 0} → (xs ys : List A) (value : A) (most : ℕ) → ys ≡ xs → length xs ≤ most
     → (length (ys ++ drop (length xs) (replicate most value)) ≡ most)
     × (take (length xs) (ys ++ drop (length xs) (replicate most value)) ++ replicate (most - length xs) value

@@ -59,13 +59,13 @@ values_in-at (suc n) bytes (suc i) within =
     let size : 32 + 32 * i ≡ 32 * suc i = omega arith in
     values_in-at n (drop 32 bytes) i (omega arith) ∙ ap (take 32) (drop-drop (32 * i) 32 bytes ∙ ap (λ k. drop k bytes) size)
 
--- Value i of those that stand at a place, by its own.
+-- Value i of the values at a place, by its own place.
 pub values_at : (n place : ℕ) (bytes : List ℕ) (vs : List (List ℕ)) (j i : ℕ) → vs ≡ values_in n (drop place bytes) → i < n → j ≡ i
     → get_or vs j [] ≡ take 32 (drop (place + 32 * i) bytes)
 values_at n place bytes vs j i vs_are within same =
     ap₂ (λ vs j. get_or vs j []) vs_are same ∙ values_in-at n (drop place bytes) i within ∙ ap (take 32) (drop-drop (32 * i) place bytes)
 
--- values that are read are those that stand at the place, and end after them
+-- values that are read stand at the place, and reading ends after them
 pub values_read : (n : ℕ) (bytes : List ℕ) (place : ℕ) (vs : List (List ℕ)) (end : ℕ) → place ≤ length bytes → read (values n) bytes place ≡ Ok (vs, end)
     → (vs ≡ values_in n (drop place bytes)) × (end ≡ place + 32 * n)
 values_read n bytes place vs end within found =

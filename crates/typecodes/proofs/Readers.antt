@@ -6,7 +6,7 @@ use Rattle.typecodes.specs.Cursor.{read, whole, Reads, Gives}
 use Rattle.typecodes.proofs.Read.{read-outcome, HasOutcome}
 use Rattle.typecodes.proofs.Spelling.{one_value, one_fault, no_value}
 
--- what reading to the end reading_of_outcome is what the bytes are
+-- what reading to the end gives is what the bytes are
 pub outcome_of_reading : {V : Type 0} (layout : Layout V) (bytes : List ℕ) (answer : Result V ReadFault) → whole bytes (read layout bytes 0) ≡ answer → HasOutcome layout bytes 0 answer
 outcome_of_reading layout bytes answer read_is = subst (HasOutcome layout bytes 0) read_is (read-outcome layout bytes 0 (omega arith))
 

@@ -1,4 +1,4 @@
--- Layouts of which each spelling has the same number of bytes.
+-- Layouts whose spellings all have the same size.
 use Rattle.std.proofs.Common.{◌≡◌, ◌∙◌, ap, ap₂, arith, ℕ, ◌+◌, Bool, true, false, cond, List, length, Option, Some, None, length-append}
 use Rattle.typecodes.specs.declared.fault.Cause.{Cause}
 use Rattle.typecodes.specs.declared.fault.Cause.TheVariants.{UnknownType}

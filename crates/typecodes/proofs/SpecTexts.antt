@@ -168,7 +168,7 @@ no_levels text n part turn none levels are is =
     get_or-map levels n part (omega (arith, turn.0, ap length parts, length-map levels pair_text)) none
     (turn.1 ∙ ap (λ l. get_or l n part) parts)
 
--- the text of levels has as many parts
+-- a text of more than 8 parts is no text of levels
 pub no_more_levels : (text : List ℕ) → 8 < length (parts_of text) → (levels : List LmsPair) → AreLevels levels → text ≢ levels_text levels
 no_more_levels text many levels are is =
     let parts : parts_of text ≡ map pair_text levels = ap parts_of is ∙ parts_of-levels levels are.0 in

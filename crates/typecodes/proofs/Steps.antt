@@ -1,5 +1,4 @@
--- What the reader of a layout proves its contract with, call by call of its cursor: name `reading` or
--- `steps` in the reader's `using`.
+-- Lemmas for a reader of a layout, call by call of its cursor: name `reading` or `steps` in the reader's `using`.
 use Rattle.std.proofs.Common.{◌≡◌, ◌<◌, ℕ, List, length, Ok, Err, refl, ap, ◌∙◌, eq-eqb, ne_eqb, arith}
 use Rattle.typecodes.specs.declared.fault.Cause.TheVariants.{Trailing}
 use Rattle.typecodes.specs.declared.fault.ReadFault.{ReadFault}
@@ -19,7 +18,7 @@ pub ends-trailing : {V : Type 0} (layout : Layout V) (bytes : List ℕ) (v : V) 
 ends-trailing layout bytes v end found more =
     outcome_of_reading layout bytes (Err (fault_at end Trailing)) (ap (whole bytes) found ∙ rw (ne_eqb (length bytes) end (λ same. omega arith)) refl)
 
--- a fault on the way is that of the bytes
+-- a fault on the way is the fault of the bytes
 pub ends-faulty : {V : Type 0} (layout : Layout V) (bytes : List ℕ) (fault : ReadFault) → read layout bytes 0 ≡ Err fault → HasFault layout bytes 0 fault
 ends-faulty layout bytes fault found = outcome_of_reading layout bytes (Err fault) (ap (whole bytes) found)
 

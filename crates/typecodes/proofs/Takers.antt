@@ -9,7 +9,7 @@ use Rattle.typecodes.specs.Message.{GivesText, ReadWhole, Transition}
 use Rattle.typecodes.specs.Reading.{ReadsFull, ReadsToEnd, Refuses, Takes}
 use Rattle.typecodes.proofs.Messages.{fails-append, gives-all-append, gives-append, gives-none}
 
--- So many full pieces were read and taken.
+-- This many full pieces were read and taken.
 pub record HasTaken {M T : Type 0} (transition : Transition M) (remaining : M → Option (List ℕ)) (takes : Takes T) (pieces : ℕ) (old new : M)
     (before after : T) : Type 0 where
   pub text : List ℕ
@@ -102,7 +102,7 @@ module _ {M T : Type 0} (transition : Transition M) (remaining : M → Option (L
     inr (gives-all-append transition has.text (take n buffer) old read new has.gave gave),
   )
 
-  -- there is no end of it
+  -- the message doesn't end
   pub taken-endless : (A : Type 0) {E : Type 0} (refuses : Refuses T E) (pieces : ℕ) (old new : M) (before after : T)
       → HasTaken transition remaining takes pieces old new before after → 2 ^ 46 ≤ pieces
       → ReadsToEnd {A = A} transition remaining takes refuses (Err TooLong) old new before after

@@ -9,7 +9,7 @@ use Rattle.typecodes.proofs.Spelling.{no_value, one_fault, one_value}
 
 -- ---- by the digest of the message
 
--- What holds of a valid signature's Ok and of the other root's refusal holds of the answer.
+-- What holds of a valid signature's Ok, and of the refusal of another root, holds of the answer.
 pub of_digest : {A : Type 0} (P : Result A Refusal → Type 0) (valid : Type 0) (i : ℕ) (result : Result A Refusal)
     → DigestVerdict valid i result → ((x : A) → valid → P (Ok x))
     → ((level : ℕ) → level ≡ i → (valid → ⊥) → P (Err (RootMismatch level))) → P result
@@ -22,9 +22,9 @@ of_digest P valid i (Err (RootMismatch level)) (at, invalid) ok other = other le
 
 -- ---- by the bytes of the signature
 
--- What a refusal says of the bytes of a signature: they have a fault; or they spell a signature of other types than the
--- key's, or one of its types where the message can't be read, or one of its types that isn't valid. Where signatures
--- name no type, each has its key's.
+-- What a refusal says of the bytes of a signature. They have a fault, or they spell a signature. It has other types
+-- than the key; or it has the key's, and the message can't be read, or it isn't valid. Where signatures name no type,
+-- each has its key's.
 abbrev pub Refused : {S : Type 0} → Layout S → (S → Type 0) → (S → Type 0) → List ℕ → Refusal → Type 0
 Refused layout has_types is_valid bytes (Unreadable fault) = HasFault layout bytes 0 fault
 Refused {S} layout has_types is_valid bytes (TypeMismatch level) =
@@ -38,7 +38,7 @@ Refused {S} layout has_types is_valid bytes (RootMismatch level) =
 carried : {S : Type 0} (layout : Layout S) (P : S → Type 0) (bytes : List ℕ) (s t : S) → Spells layout s bytes → Spells layout t bytes → P s → P t
 carried layout P bytes s t s_spelled t_spelled = subst P (one_value layout s t bytes s_spelled t_spelled)
 
--- a valid signature is refused by none, unless the message can't be read
+-- a valid signature is refused only where the message can't be read
 never_refused : {S : Type 0} (layout : Layout S) (has_types is_valid : S → Type 0) (bytes : List ℕ) (refusal : Refusal)
     → ((s : S) → is_valid s → has_types s) → Refused layout has_types is_valid bytes refusal → refusal ≢ MessageRead
     → (s : S) → Spells layout s bytes → is_valid s → ⊥
@@ -50,7 +50,7 @@ never_refused layout has_types is_valid bytes MessageRead typed unread read s sp
 never_refused layout has_types is_valid bytes (RootMismatch level) typed (_, (t, t_spelled, types, invalid)) read s spelled valid =
     invalid (carried layout is_valid bytes s t spelled t_spelled valid)
 
--- two refusals are one, but for those of the message and of the root
+-- two refusals other than the message's are one
 one_refusal : {S : Type 0} (layout : Layout S) (has_types is_valid : S → Type 0) (bytes : List ℕ) (first second : Refusal)
     → Refused layout has_types is_valid bytes first → Refused layout has_types is_valid bytes second
     → first ≢ MessageRead → second ≢ MessageRead → first ≡ second
@@ -78,7 +78,7 @@ one_refusal layout has_types is_valid bytes (Unreadable f) MessageRead _ _ read 
 one_refusal layout has_types is_valid bytes (TypeMismatch l) MessageRead _ _ read read_too = absurd (read_too refl)
 one_refusal layout has_types is_valid bytes (RootMismatch l) MessageRead _ _ read read_too = absurd (read_too refl)
 
--- where the message may be refused, no refusal comes that stands before it
+-- where the message may be refused, another refusal is the root's
 read_in_turn : {S : Type 0} (layout : Layout S) (has_types is_valid : S → Type 0) (bytes : List ℕ) (first : Refusal)
     → Refused layout has_types is_valid bytes MessageRead → Refused layout has_types is_valid bytes first
     → (first ≡ MessageRead) ⊎ (first ≡ RootMismatch 0)

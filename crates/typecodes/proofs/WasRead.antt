@@ -1,11 +1,11 @@
--- What a reader answered, where a caller made errors of its own of the reader's faults.
+-- What a reader answered, where a caller turned the reader's faults into its own errors.
 use Rattle.std.proofs.Common.{◌≡◌, ℕ, List, Result, Ok, Err, ap, subst}
 use Rattle.std.specs.Prelude.{MatchResult}
 use Rattle.typecodes.specs.declared.fault.ReadFault.{ReadFault}
 use Rattle.typecodes.specs.Cursor.{Reads}
 use Rattle.typecodes.specs.Layout.{Layout, Spells}
 
--- a reader's answer, whatever was made of its faults
+-- a reader's answer, whatever its faults were turned into
 pub was_read : {X : Type 0} (E : Type 0) (result : Result X ReadFault) (x : X) (Q : ReadFault → Type 0)
     → MatchResult result (λ y. ◌≡◌ {A = Result X E} (Ok x) (Ok y)) Q → ((fault : ReadFault) → Q fault → ⊥) → result ≡ Ok x
 was_read E (Ok y) x Q same never = let e : y ≡ x = cc in ap Ok e

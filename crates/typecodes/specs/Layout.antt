@@ -1,19 +1,19 @@
--- How each layout of this project is described, and what follows from a description: which bytes
--- spell a value, and which fault other bytes have.
+-- How every layout of this project is described. From a description follow the bytes that spell a value, and the fault
+-- of other bytes.
 use Rattle.std.specs.Prelude.{◌≡◌, ℕ, ◌+◌, ◌-◌, ◌<◌, ◌⊎◌, List, [], ◌++◌, length, slice_index}
 use Rattle.typecodes.specs.declared.fault.Cause.{Cause}
 use Rattle.typecodes.specs.declared.fault.Cause.TheVariants.{Truncated, Trailing}
 use Rattle.typecodes.specs.declared.fault.ReadFault.{ReadFault}
 use Rattle.typecodes.specs.Fault.{fault_at}
 
--- A layout of values V is one field after the other. Which field comes next, and whether one meets
--- its condition, depends on the bytes of the fields before it.
+-- A layout of values V: one field after the other. The bytes before decide which field comes next, and whether a field
+-- meets its condition.
 pub data Layout (V : Type 0) : Type 0 where
   -- nothing more: the fields so far are the value
   done : V → Layout V
-  -- a field that began so many bytes before this place misses its condition
+  -- the field that began this many bytes before the place misses its condition
   refuse : ℕ → Cause → Layout V
-  -- a field of so many bytes, and what comes after these bytes
+  -- a field of this many bytes, and what follows them
   field : ℕ → (List ℕ → Layout V) → Layout V
 
 -- one layout, and then another that depends on its value
@@ -23,7 +23,7 @@ abbrev pub ◌>>=◌ : {A B : Type 0} → Layout A → (A → Layout B) → Layo
 (refuse back cause) >>= next = refuse back cause
 (field n rest) >>= next = field n (λ bytes. rest bytes >>= next)
 
--- the same, by a name that a contract can use
+-- the same, under a name that contracts can use
 abbrev pub followed_by : {A B : Type 0} → Layout A → (A → Layout B) → Layout B
 followed_by first next = first >>= next
 
@@ -34,13 +34,13 @@ Spells (refuse back cause) value bytes = ⊥
 Spells (field n next) value bytes =
     (front : List ℕ) × (rest : List ℕ) × (bytes ≡ front ++ rest) × (length front ≡ n) × Spells (next front) value rest
 
--- The bytes spell a value of one layout, and after it one of the layout that depends on this value.
+-- The bytes spell a value of one layout, and then a value of the layout that depends on it.
 abbrev pub InTurn : {A B : Type 0} → Layout A → (A → Layout B) → B → List ℕ → Type 0
 InTurn {A = A} first next w bytes =
     (v : A) × (a : List ℕ) × (b : List ℕ) × (bytes ≡ a ++ b) × Spells first v a × Spells (next v) w b
 
--- The first fault of bytes that begin at a place: that of the first field from the left that doesn't
--- fit or misses its condition; and where there is none, that bytes follow the value.
+-- The first fault of bytes that begin at a place: the first field that doesn't fit or misses its condition, or else
+-- bytes after the value.
 abbrev pub HasFault : {V : Type 0} → Layout V → List ℕ → ℕ → ReadFault → Type 0
 HasFault (done v) bytes place fault = (0 < length bytes) × (fault ≡ fault_at place Trailing)
 HasFault (refuse back cause) bytes place fault = fault ≡ fault_at (place - back) cause
@@ -53,7 +53,7 @@ HasFault (field n next) bytes place fault =
 abbrev pub AreBytes : List ℕ → Type 0
 AreBytes bytes = (i : ℕ) → slice_index bytes i < 256
 
--- Values are spelled in one way: bytes that spell one value are one list.
+-- Each value is spelled in one way: bytes that spell it are equal.
 abbrev pub OneSpelling : {V : Type 0} → Layout V → Type 0
 OneSpelling {V = V} layout =
     (v : V) (a b : List ℕ) → AreBytes a → AreBytes b → Spells layout v a → Spells layout v b → a ≡ b
@@ -64,6 +64,6 @@ pub record IsUnambiguous {V : Type 0} (layout : Layout V) : Type 0 where
   pub one_value : (v w : V) (bytes : List ℕ) → Spells layout v bytes → Spells layout w bytes → v ≡ w
   pub no_longer : (v w : V) (a b : List ℕ) → Spells layout v a → Spells layout w (a ++ b) → b ≡ []
 
--- Every value that the layout spells shows x: `of` the value is x.
+-- `of` each value that the layout spells is x.
 abbrev pub Shows : {V X : Type 0} → Layout V → (V → X) → X → Type 0
 Shows {V = V} layout of x = (v : V) (bytes : List ℕ) → Spells layout v bytes → of v ≡ x

@@ -10,6 +10,6 @@ most_levels = 8
 abbrev pub IsLevelCount : ℕ → Type 0
 IsLevelCount n = (1 ≤ n) × (n ≤ most_levels)
 
--- the pairs of so many levels, from the top down
+-- the pairs of 1 to 8 levels, from the top down
 abbrev pub AreLevels : List LmsPair → Type 0
 AreLevels pairs = IsLevelCount (length pairs)

@@ -10,17 +10,17 @@ use Rattle.std.specs.declared.io.ErrorKind.{ErrorKind}
 abbrev pub ReadOutcome : Type 0
 ReadOutcome = Result (List ℕ) ErrorKind
 
--- what a call that reads into a buffer gave
+-- the outcome of a call that reads into a buffer
 abbrev pub read_outcome : Result ℕ Error → List ℕ → ReadOutcome
 read_outcome (Ok count) buffer = Ok (take count buffer)
 read_outcome (Err error) buffer = Err (error_kind error)
 
--- how many bytes a call gave or took
+-- how many bytes were given or taken
 abbrev pub size_of : ReadOutcome → ℕ
 size_of (Ok bytes) = length bytes
 size_of (Err kind) = 0
 
--- What a read may do to a message: from this state of it, with this outcome, to that one.
+-- What a read may do to a message: (state before, outcome, state after).
 abbrev pub Transition : Type 0 → Type 1
 Transition M = M → ReadOutcome → M → Type 0
 
@@ -41,12 +41,12 @@ abbrev pub GivesText : {M : Type 0} → Transition M → List ℕ → M → M �
 GivesText transition text old new =
     (outcomes : List ReadOutcome) × Transitions transition outcomes old new × Gave outcomes text
 
--- It was read to its end, where a read gives nothing more, and gave this text.
+-- The message was read to its end, where a read gives nothing, and gave this text.
 abbrev pub GivesAll : {M : Type 0} → Transition M → List ℕ → M → M → Type 0
 GivesAll transition text old new =
     (outcomes : List ReadOutcome) × Transitions transition (outcomes ++ Ok [] ∷ []) old new × Gave outcomes text
 
--- It gave this text, and then a read failed, by this kind of error.
+-- It gave this text, and then a read failed with this kind of error.
 abbrev pub FailsBy : {M : Type 0} → Transition M → ErrorKind → List ℕ → M → M → Type 0
 FailsBy transition kind text old new =
     (outcomes : List ReadOutcome) × Transitions transition (outcomes ++ Err kind ∷ []) old new × Gave outcomes text
@@ -63,8 +63,7 @@ GoesOn transition old new = (text : List ℕ) × GivesText transition text old n
 abbrev pub CantBeRead : {M : Type 0} → Transition M → M → M → Type 0
 CantBeRead transition old new = ReadFails transition old new ⊎ GoesOn transition old new
 
--- The message was read whole: it gave this text, of fewer than 2^60 bytes, which is all that was known to be left of
--- it.
+-- The message was read whole and gave this text, of fewer than 2^60 bytes. Where its bytes were known, these were they.
 pub record ReadWhole {M : Type 0} (transition : Transition M) (remaining : M → Option (List ℕ)) (text : List ℕ)
     (old new : M) : Type 0 where
   pub gave : GivesAll transition text old new
@@ -77,14 +76,14 @@ abbrev pub IsContent : Option (List ℕ) → List ℕ → Type 0
 IsContent None text = ⊤
 IsContent (Some content) text = text ≡ content
 
--- The message was read whole and fed to what takes bytes, as a hasher does: it has the text after what it had before.
+-- The message was read whole and fed: what took its bytes has the text after what it had before.
 abbrev pub Feeds : {M H : Type 0} → Transition M → (M → Option (List ℕ)) → (H → List ℕ → Type 0) → H → H → M → M
     → Type 0
 Feeds transition remaining holds before after old new =
     (text : List ℕ) × ReadWhole transition remaining text old new
     × ((head : List ℕ) → holds before head → holds after (head ++ text))
 
--- The message was read whole, and the answer is this digest of its text; or the message can't be read.
+-- The message was read whole, and the answer is its digest; or it can't be read.
 abbrev pub Digests : {M E : Type 0} → Transition M → (M → Option (List ℕ)) → (List ℕ → List ℕ) → Result (List ℕ) E → M
     → M → Type 0
 Digests transition remaining digest_of (Ok digest) old new =

@@ -10,14 +10,14 @@ use Rattle.typecodes.specs.Message.{FailsBy, GivesAll, GivesText, ReadOutcome, R
 
 -- ---- until a buffer is full
 
--- The buffer is full; or the message is at its end and gave so many bytes, fewer than the buffer takes.
+-- The buffer is full; or the message ended after `count` bytes, fewer than the buffer takes.
 abbrev pub FillsOrEnds : {M : Type 0} → Transition M → ℕ → List ℕ → M → M → Type 0
 FillsOrEnds transition count buffer old new =
     ((count ≡ length buffer) × GivesText transition buffer old new)
     ⊎ ((count < length buffer) × GivesAll transition (take count buffer) old new)
 
--- A buffer was filled, as far as the message goes, with what was known to be left of it; or a read failed before, by
--- the kind of this very error, and the bytes that came before stand in the buffer.
+-- Ok: the buffer was filled up to the message's end, with what was known to be left. Err: a read failed before with the
+-- kind of this error; the bytes before it are in the buffer.
 abbrev pub ReadsFull : {M : Type 0} → Transition M → (M → Option (List ℕ)) → Result ℕ Error → List ℕ → M → M → Type 0
 ReadsFull transition remaining (Ok count) buffer old new =
     FillsOrEnds transition count buffer old new × Consumes (remaining old) (remaining new) (take count buffer)
@@ -26,16 +26,16 @@ ReadsFull transition remaining (Err error) buffer old new =
     (count : ℕ) × (count < length buffer) × FailsBy transition (error_kind error) (take count buffer) old new
     × Consumes (remaining old) (remaining new) (take count buffer)
 
--- what a read that asks for so many bytes does: from this state, with this outcome, to that one
+-- as `Transition`, with the number of bytes that the read asks for
 abbrev pub Request : Type 0 → Type 1
 Request M = M → ℕ → ReadOutcome → M → Type 0
 
--- Of so many bytes some were read, and a read asks for the rest, of which it may give a part.
+-- Of `all` bytes `done` were read; a read asks for the rest and may give a part.
 abbrev pub AsksForRest : {M : Type 0} → Request M → (all : ℕ) → Transition (ℕ × M)
 AsksForRest request all (done, old) outcome (after, new) =
     (after ≡ done + size_of outcome) × (after ≤ all) × request old (all - done) outcome new
 
--- Each of the reads asked for the rest of the buffer.
+-- Each read asked for the rest of the buffer.
 abbrev pub RequestsFull : {M : Type 0} → Request M → Result ℕ Error → List ℕ → M → M → Type 0
 RequestsFull request (Ok count) buffer old new =
     FillsOrEnds (AsksForRest request (length buffer)) count buffer (0, old) (count, new)
@@ -45,7 +45,7 @@ RequestsFull request (Err error) buffer old new =
 
 -- ---- to the end
 
--- what taking bytes does to what takes them: from this state to that one
+-- what taking bytes does: (state before, bytes, state after)
 abbrev pub Takes : Type 0 → Type 1
 Takes T = T → List ℕ → T → Type 0
 
@@ -58,9 +58,12 @@ abbrev pub TakesPiece : {T A E : Type 0} → Takes T → Refuses T E → Result 
 TakesPiece takes refuses (Ok _) piece old new = takes old piece new
 TakesPiece takes refuses (Err error) piece old new = refuses old piece error new
 
--- A message was read to its end, and its text was taken. Or a read failed, by the kind of this very error, and what
--- came before but for less than a piece was taken; or it gave 2^60 bytes, which were taken; or a piece was refused,
--- where the message went on or ended.
+-- How reading to the end ended.
+--
+-- - Ok: the message was read whole, and its text was taken.
+-- - `Failed`: a read failed with the kind of this error. What came before was taken, except for less than a piece.
+-- - `TooLong`: 2^60 bytes were given, and taken.
+-- - `Refused`: a piece was refused, whether the message had ended or not.
 abbrev pub ReadsToEnd : {M T A E : Type 0} → Transition M → (M → Option (List ℕ)) → Takes T → Refuses T E
     → Result A (ReadError E) → (old new : M) → (before after : T) → Type 0
 ReadsToEnd transition remaining takes refuses (Ok _) old new before after =

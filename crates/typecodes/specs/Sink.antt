@@ -6,21 +6,21 @@ use Rattle.std.specs.declared.io.Error.{Error}
 use Rattle.std.specs.declared.io.ErrorKind.TheVariants.{WriteZero}
 use Rattle.typecodes.specs.Message.{FailsBy, GivesAll, GivesText, ReadOutcome, Transition, size_of}
 
--- what one write took of the bytes that it was offered, or an error of this kind
+-- the bytes that one write took, or the kind of its error
 abbrev pub WriteOutcome : Type 0
 WriteOutcome = ReadOutcome
 
--- what a write that is offered these bytes does: from this state, with this outcome, to that one
+-- what a write does: (state before, offered bytes, outcome, state after)
 abbrev pub Write : Type 0 → Type 1
 Write S = S → List ℕ → WriteOutcome → S → Type 0
 
--- Of these bytes some were taken, and a write is offered the rest, of which it may take a part.
+-- Of the bytes `done` were taken; a write is offered the rest and may take a part.
 abbrev pub OffersRest : {S : Type 0} → Write S → (bytes : List ℕ) → Transition (ℕ × S)
 OffersRest write bytes (done, old) outcome (after, new) =
     (after ≡ done + size_of outcome) × (after ≤ length bytes) × write old (drop done bytes) outcome new
 
--- The bytes were written by writes each of which took one at least. Or they were so up to one that took nothing, or
--- failed, by the kind of this very error.
+-- Ok: the bytes were written, each write taking at least one. Err: so were the first ones, up to a write that took
+-- nothing, or that failed with the kind of this error.
 abbrev pub WritesAll : {S A : Type 0} → Write S → (S → Option (List ℕ)) → Result A Error → List ℕ → S → S → Type 0
 WritesAll write contents (Ok _) bytes old new =
     GivesText (OffersRest write bytes) bytes (0, old) (length bytes, new) × Appends (contents old) (contents new) bytes

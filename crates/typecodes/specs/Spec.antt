@@ -1,4 +1,4 @@
--- The texts that name the types of a key that is to be made.
+-- The texts of specs, which say which key to make.
 use Rattle.std.specs.Prelude.{ℕ, List, map, ◌++◌, codes}
 use Rattle.std.specs.List.{join_with_byte}
 use Rattle.typecodes.specs.declared.types.OtsType.{OtsType}

@@ -13,7 +13,7 @@ use Rattle.typecodes.specs.declared.types.XmssType.TheVariants as xmss
 abbrev pub IsWidth : ℕ → Type 0
 IsWidth w = (w ≡ 1) ⊎ (w ≡ 2) ⊎ (w ≡ 4) ⊎ (w ≡ 8)
 
--- the type that a code names: the one among these types that has this code
+-- the type in this list that has the code
 abbrev pub named : {T : Type 0} → (T → ℕ) → List T → ℕ → Option T
 named code types c = find (λ t. code t == c) types
 

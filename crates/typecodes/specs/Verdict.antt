@@ -6,8 +6,8 @@ use Rattle.typecodes.specs.declared.refusal.Refusal.{Refusal}
 use Rattle.typecodes.specs.declared.refusal.Refusal.TheVariants.{Unreadable, TypeMismatch, LevelMismatch}
 use Rattle.typecodes.specs.declared.refusal.Refusal.TheVariants.{RootMismatch, MessageRead}
 
--- What becomes of the message of a signature of one tree: it was read whole, and gave this text, where the root was
--- compared; it can't be read; and it is as it was where a refusal came before it was read.
+-- What a verification leaves of the message of a signature of one tree. Where the root was compared, the message was
+-- read whole and gave this text. Where a refusal came before reading, it is untouched.
 abbrev pub LeavesMessage : {M A : Type 0} → Transition M → (M → Option (List ℕ)) → List ℕ → M → M → Result A Refusal
     → Type 0
 LeavesMessage transition remaining text old new (Ok _) = ReadWhole transition remaining text old new
@@ -17,27 +17,28 @@ LeavesMessage transition remaining text old new (Err LevelMismatch) = ⊥
 LeavesMessage transition remaining text old new (Err MessageRead) = CantBeRead transition old new
 LeavesMessage transition remaining text old new (Err (RootMismatch level)) = ReadWhole transition remaining text old new
 
--- What verification answers of a signature that was read, as that of level i, by the digest of what it signs: it is
--- valid for the digest, or it leads to another root.
+-- The answer for a decoded signature of level i, by the digest of what it signs: it is valid, or leads to another root.
 abbrev pub DigestVerdict : {A : Type 0} → Type 0 → ℕ → Result A Refusal → Type 0
 DigestVerdict valid i (Ok _) = valid
 DigestVerdict valid i (Err (RootMismatch level)) = (level ≡ i) × (valid → ⊥)
 DigestVerdict valid i (Err other) = ⊥
 
--- The answer of a verification that reads its message from a reader: for some text the verdict is this answer, and the
--- reader is as this answer leaves it. Where the reader's content is known, it is this text.
+-- The answer of a verification that takes a reader. For some text the verdict is this answer, and the reader is left as
+-- the answer says. A reader's known content is this text.
 abbrev pub Verifies : {M A : Type 0} → (M → Option (List ℕ)) → (List ℕ → Result A Refusal → Type 0)
     → (List ℕ → M → M → Result A Refusal → Type 0) → M → M → Result A Refusal → Type 0
 Verifies remaining verdict leaves old new result =
     (text : List ℕ) × IsContent (remaining old) text × verdict text result × leaves text old new result
 
--- What a scheme's verification answers, by the key, the message and the bytes of the signature.
+-- What a scheme's verification answers for a key, a message and the bytes of a signature.
 abbrev pub Verdicts : Type 0 → Type 1
 Verdicts K = K → List ℕ → List ℕ → Result (Unit {0}) Refusal → Type 0
 
--- The laws of verdicts, where a key's signatures have this layout: bytes that spell a valid signature are refused by
--- none, unless the message can't be read; no bytes have two other refusals; and where this one may come, the only
--- other is that of the root, which stands after it.
+-- The laws of verdicts, for keys whose signatures have this layout.
+--
+-- - A valid signature is refused only where the message can't be read (`accepted`).
+-- - No bytes have two other refusals (`one_refusal`).
+-- - Where the message may be refused, the only other refusal is the root's, which comes later (`read_in_turn`).
 pub record VerdictLaws {K S : Type 0} (verdict : Verdicts K) (layout : K → Layout S)
     (is_valid : K → List ℕ → S → Type 0) (is_of_root : K → Refusal → Type 0) : Type 0 where
   pub accepted : (key : K) (message bytes : List ℕ) (result : Result (Unit {0}) Refusal)

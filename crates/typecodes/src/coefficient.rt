@@ -4,8 +4,8 @@ ghost use Rattle.std.specs.Prelude.{◌≡◌, ◌<◌, ◌*◌, ◌/◌, ◌^�
 ghost use Rattle.typecodes.specs.Types.{IsWidth};
 ghost use Rattle.typecodes.specs.Coefficient.{coef_of};
 
-/// Digit i of the bytes s, each cut into digits of w bits, the highest first (RFC 8554 3.1.3). The caller keeps w in
-/// 1, 2, 4, 8 and i inside s.
+/// Digit i of s, cut into digits of w bits, the highest first (RFC 8554 3.1.3). w is 1, 2, 4 or 8, and digit i lies
+/// inside s.
 pub fn coef(s: &[u8], i: u32, w: u8) -> u8
     requires width { IsWidth w }
     requires inside { i * w / 8 < length s.now }

@@ -1,12 +1,11 @@
-//! A count that contracts alone see, for the ghost members of traits that count, as failures or draws.
-//! A `u64` could wrap, and would be there at run time.
+//! A count that only contracts see: ghost members of traits count failures or draws by it. A `u64` could wrap, and
+//! would exist at run time.
 ghost use Rattle.std.specs.Prelude.{◌≡◌, ℕ, ◌+◌};
 ghost use Rattle.std.specs.Borrow.{ftrue};
 
 use std::marker::Model;
 
-/// A count that contracts alone see, as a whole number with no greatest value. It takes no bytes;
-/// `add_one` raises it.
+/// A whole number that only contracts see. It takes no bytes and has no greatest value; `add_one` alone raises it.
 #[derive(Debug, Drop)]
 pub struct Count {
     ghost total: { ℕ },
@@ -22,14 +21,14 @@ impl Model for Count {
 }
 
 impl Count {
-    /// A count of nothing.
+    /// Zero.
     pub fn new() -> Self
         ensures { result ≡ 0 }
     {
         Count {}
     }
 
-    /// Counts one more.
+    /// Adds one.
     pub fn add_one(&mut self)
         ensures { self.new ≡ self.old + 1 }
     {}

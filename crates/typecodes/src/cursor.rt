@@ -6,11 +6,10 @@ use crate::fault::{Cause, ReadFault};
 use crate::types::{LmsType, OtsType, XmssType};
 use byteorder::{BigEndian, ByteOrder};
 
-/// Reads the fields of its bytes one after the other, without copying. It has no `Debug`, since the bytes may hold a
-/// secret, as a state file's do.
+/// Reads fields one after the other, without copying. No `Debug`: the bytes may hold a secret, as a state file's do.
 #[derive(Clone, Copy)]
 pub struct Cursor<'a> {
-    /// The bytes, whole.
+    /// All the bytes.
     pub bytes: &'a [u8],
     /// Where the next field begins.
     pub place: u32,
@@ -31,7 +30,7 @@ impl<'a> Cursor<'a> {
         Cursor { bytes, place: 0 }
     }
 
-    /// The next n bytes, a field. A field that doesn't fit leaves the cursor where it is.
+    /// The next n bytes. If fewer are left, the fault is `Truncated`, and the cursor stays.
     pub fn block(&mut self, n: u32) -> Result<&'a [u8], ReadFault>
         requires { self.old.place + n < 2 ^ 32 }
         ensures read { Gives (λ taken. (taken.now, self.new.place)) result
@@ -47,7 +46,7 @@ impl<'a> Cursor<'a> {
         Ok(taken)
     }
 
-    /// The next N bytes, a field.
+    /// As `block`, with a length known at compile time.
     pub fn array<const N: usize>(&mut self) -> Result<&'a [u8; N], ReadFault>
         requires { self.old.place + N < 2 ^ 32 }
         ensures read { Gives (λ taken. (taken.now, self.new.place)) result
@@ -59,7 +58,7 @@ impl<'a> Cursor<'a> {
         taken.as_array().ok_or(fault)
     }
 
-    /// The next number, a field of 4 bytes.
+    /// The next 4 bytes as a big-endian number.
     pub fn number(&mut self) -> Result<u32, ReadFault>
         requires { self.old.place + 4 < 2 ^ 32 }
         ensures read { Gives (λ n. (n, self.new.place)) result (read number self.old.bytes.now self.old.place) }
@@ -69,8 +68,8 @@ impl<'a> Cursor<'a> {
         Ok(BigEndian::read_u32(bytes))
     }
 
-    /// The next one-time type, by its code in a field of 4 bytes. A code that names none leaves the
-    /// cursor before it.
+    /// The one-time type whose code the next 4 bytes are. An unknown code is `UnknownType`, and the cursor stays before
+    /// it.
     #[tactic(auto, unfolding(crate::specs::Fields::ots_type))]
     pub fn ots_type(&mut self) -> Result<OtsType, ReadFault>
         requires { self.old.place + 4 < 2 ^ 32 }
@@ -84,8 +83,7 @@ impl<'a> Cursor<'a> {
         Ok(named)
     }
 
-    /// The next tree type, by its code in a field of 4 bytes. A code that names none leaves the
-    /// cursor before it.
+    /// As `ots_type`, for a tree type of LMS.
     #[tactic(auto, unfolding(crate::specs::Fields::lms_type))]
     pub fn lms_type(&mut self) -> Result<LmsType, ReadFault>
         requires { self.old.place + 4 < 2 ^ 32 }
@@ -99,8 +97,7 @@ impl<'a> Cursor<'a> {
         Ok(named)
     }
 
-    /// The next type of XMSS, by its code in a field of 4 bytes. A code that names none leaves the
-    /// cursor before it.
+    /// As `ots_type`, for a type of XMSS.
     #[tactic(auto, unfolding(crate::specs::Fields::xmss_type))]
     pub fn xmss_type(&mut self) -> Result<XmssType, ReadFault>
         requires { self.old.place + 4 < 2 ^ 32 }
@@ -114,7 +111,8 @@ impl<'a> Cursor<'a> {
         Ok(named)
     }
 
-    /// The next count values of 32 bytes, each a field.
+    /// The next `count` values of 32 bytes each. If they don't all fit, the fault is at the first that doesn't, and the
+    /// cursor stays.
     pub fn values(&mut self, count: u32) -> Result<&'a [[u8; 32]], ReadFault>
         requires { self.old.place + 32 * count < 2 ^ 32 }
         ensures read { Gives (λ taken. (taken.now, self.new.place)) result
@@ -143,7 +141,7 @@ impl<'a> Cursor<'a> {
         self.block(32 * count)
     }
 
-    /// Refuses bytes that follow the value.
+    /// `Trailing` if bytes are left.
     pub fn end(&self) -> Result<(), ReadFault>
         ensures { MatchResult result (λ _. length self.now.bytes.now ≡ self.now.place)
             (λ e. (self.now.place < length self.now.bytes.now) × (e ≡ fault_at self.now.place Cause.Trailing)) }
@@ -155,7 +153,6 @@ impl<'a> Cursor<'a> {
         }
     }
 
-    // The fault of the field at the cursor.
     fn fault(&self, cause: Cause) -> ReadFault
         ensures { result ≡ fault_at self.now.place cause }
     {

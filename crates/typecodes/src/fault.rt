@@ -6,7 +6,7 @@ ghost use Rattle.typecodes.specs.Fault.{cause_number};
 use std::fmt;
 use thiserror::Error;
 
-/// What is wrong with a field, in the words of the refusal that reports it.
+/// What is wrong with a field. Refusals print these texts.
 #[derive(Clone, Copy, Debug, PartialEq, Eq, Error)]
 pub enum Cause {
     /// 1: the field doesn't fit into the bytes that are left.
@@ -18,7 +18,7 @@ pub enum Cause {
     /// 3: a number of levels that is out of range.
     #[error("a number of levels is out of range")]
     LevelCount,
-    /// 4: a leaf's index that is at or above the number of leaves.
+    /// 4: a leaf's index at or above the number of leaves.
     #[error("an index is past the last leaf")]
     LeafOutOfRange,
     /// 5: bytes follow the value.
@@ -41,11 +41,11 @@ impl Cause {
     }
 }
 
-/// The first fault of a list of bytes.
+/// The first fault in a list of bytes.
 #[derive(Clone, Copy, Debug, PartialEq, Eq, Error)]
 #[error("{cause} at {place}")]
 pub struct ReadFault {
-    /// How many bytes stand before it.
+    /// The offset of the faulty field, or of the first byte past the value.
     pub place: u32,
     /// What is wrong.
     pub cause: Cause,

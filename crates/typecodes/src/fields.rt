@@ -1,17 +1,17 @@
-//! The laws of the fields that layouts are made of, which are described in `specs/Fields.antt`. The function does
-//! nothing: what its contract says is proved once.
+//! The laws of the fields that layouts are made of (`specs/Fields.antt`). The function does nothing: its contract is
+//! the law, proved once.
 
 ghost use Rattle.std.specs.Prelude.{◌≡◌, ◌≢◌, All, ◌↔◌, ℕ, List, Some, None};
 ghost use Rattle.typecodes.specs.Layout.{OneSpelling};
 ghost use Rattle.typecodes.specs.Fields.{number, block, values, typed};
 ghost use Rattle.typecodes.specs.Types.{named};
 
-/// What holds of the fields that layouts are made of, and of any table of codes for types T.
+/// Laws of the fields of layouts, and of any table of codes for types T.
 ///
-/// - Each field's values are spelled in one way: numbers, blocks, values, and types by their code
-///   (`number`, `block`, `values`, `typed`).
-/// - The type that a code names has this code (`named`), and a code names none exactly where no type
-///   of the table has it (`unnamed`).
+/// - Each field's values are spelled in one way: numbers, blocks, values, and types by their code (`number`, `block`,
+///   `values`, `typed`).
+/// - The type that a code names has this code (`named`). A code names none exactly where no type of the table has it
+///   (`unnamed`).
 pub fn field_laws<T>()
     ensures number { OneSpelling number }
     ensures block { (n : ℕ) → OneSpelling (block n) }

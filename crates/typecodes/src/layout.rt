@@ -1,20 +1,18 @@
-//! The laws of layouts, which are described in `specs/Layout.antt`. These functions do nothing: what their contracts
-//! say is proved of every layout, so that no format proves it again.
+//! The laws of layouts (`specs/Layout.antt`). These functions do nothing: their contracts are proved for every layout,
+//! so that no format proves them again.
 
 ghost use Rattle.std.specs.Prelude.{◌≡◌, ◌≤◌, ◌+◌, ◌↔◌, ◌⊎◌, ℕ, List, [], ◌++◌, length, Result, Ok, Err};
 ghost use Rattle.typecodes.specs.declared.fault.ReadFault.{ReadFault};
 ghost use Rattle.typecodes.specs.Layout.{Layout, Spells, HasFault, InTurn, followed_by, OneSpelling, Shows};
 ghost use Rattle.typecodes.specs.Cursor.{read, read_all, and_then, Gives, Reads, StandsAt};
 
-/// What holds of every layout of values V.
+/// Laws of every layout of values V.
 ///
-/// - Bytes spell a value or have a fault (`either`), not both (`not_both`), and of each but one
-///   (`one_value`, `one_fault`).
-/// - No spelling of a value begins another (`no_longer`).
-/// - Reading to the end gives the value that the bytes spell (`value_read`), or else their first fault
-///   (`fault_read`).
-/// - Reading in the middle of other bytes finds the value that stands at the place, and only such a
-///   value (`found`, `stands`).
+/// - Bytes spell a value or have a fault (`either`), not both (`not_both`), and only one of each (`one_value`,
+///   `one_fault`).
+/// - No spelling begins another (`no_longer`).
+/// - Reading to the end gives the spelled value (`value_read`), or else the first fault (`fault_read`).
+/// - Reading amid other bytes finds the value that stands at the place, and only such a value (`found`, `stands`).
 pub fn layout_laws<V>()
     ensures either { (layout : Layout V) (bytes : List ℕ) →
         ((v : V) × Spells layout v bytes) ⊎ ((fault : ReadFault) × HasFault layout bytes 0 fault) }
@@ -36,14 +34,11 @@ pub fn layout_laws<V>()
         read layout bytes place ≡ Ok (v, next) → StandsAt layout v bytes place next }
 {}
 
-/// What holds of a layout of values V, and of one of values W that follows it and depends on the
-/// first's value.
+/// Laws of a layout of values V, followed by a layout of values W that depends on the first value.
 ///
-/// - Their bytes spell the one and then the other (`in_turn`), and are read one after the other
-///   (`read_on`).
-/// - Where each is spelled in one way, and the second's values show the first's, so are both
-///   (`one_spelling`).
-/// - A reader that gives what reading to the end gives, seen as a V, reads the layout (`reader`).
+/// - The bytes spell one value after the other (`in_turn`), and are read in this order (`read_on`).
+/// - If each layout spells its values in one way, and the second's show the first's, both together do (`one_spelling`).
+/// - A reader whose answer, seen as a V, is the answer of reading to the end reads the layout (`reader`).
 pub fn following_laws<V, W>()
     ensures in_turn { (first : Layout V) (next : V → Layout W) (w : W) (bytes : List ℕ) →
         Spells (followed_by first next) w bytes ↔ InTurn first next w bytes }

@@ -6,7 +6,7 @@ ghost use Rattle.typecodes.specs.Levels.{AreLevels, IsLevelCount};
 use crate::types::LmsPair;
 use std::marker::Model;
 
-/// How many levels an HSS key has, 1 to 8 (RFC 8554 6.1).
+/// The number of levels of an HSS key, 1 to 8 (RFC 8554 6.1).
 #[derive(Clone, Copy, Debug, PartialEq, Eq)]
 pub struct LevelCount {
     number: u8,
@@ -26,7 +26,7 @@ impl Model for LevelCount {
 }
 
 impl LevelCount {
-    /// The count of this number, if it is 1 to 8.
+    /// `None` unless the number is 1 to 8.
     pub fn new(number: u8) -> Option<Self>
         ensures some { IsSome result ↔ IsLevelCount number }
         ensures value { IfSome result (λ count. count ≡ number) }
@@ -50,7 +50,7 @@ impl LevelCount {
 /// The types of an HSS key's levels, from the top down: 1 to 8 pairs.
 #[derive(Debug, Drop)]
 pub struct Levels {
-    // those past the count are the first one again
+    // pairs past the count repeat the first one
     pairs: [LmsPair; 8],
     count: u8,
 }
@@ -68,7 +68,7 @@ impl Model for Levels {
 }
 
 impl Levels {
-    /// The levels of these pairs, if they are 1 to 8.
+    /// `None` unless there are 1 to 8 pairs.
     pub fn new(pairs: &[LmsPair]) -> Option<Self>
         ensures some { IsSome result ↔ AreLevels pairs.now }
         ensures value { IfSome result (λ levels. levels ≡ pairs.now) }
@@ -85,7 +85,7 @@ impl Levels {
         })
     }
 
-    /// One level, of this pair.
+    /// A single level.
     pub fn one(pair: LmsPair) -> Self
         ensures { result ≡ pair ∷ [] }
     {
@@ -104,14 +104,14 @@ impl Levels {
         &self.pairs[..usize::from(self.count)]
     }
 
-    /// How many they are.
+    /// The number of levels.
     pub fn count(&self) -> LevelCount
         ensures { result ≡ length self.now }
     {
         LevelCount { number: self.count }
     }
 
-    /// The same levels once more.
+    /// A copy.
     pub fn copied(&self) -> Self
         ensures { result ≡ self.now }
     {

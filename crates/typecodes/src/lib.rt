@@ -1,13 +1,15 @@
-//! The bytes and numbers that the other crates stand on: the types of the standards' tables with
-//! their codes, `coef`, the reading of layouts field by field, and the writing of bytes part by part.
+//! The bytes and numbers that the other crates stand on: the standards' types and codes, `coef`, layouts read field by
+//! field, bytes written part by part.
 //!
-//! Its model is `specs/Layout.antt`: a layout is a list of fields, each of which may depend on those
-//! before it, and from it follow both which bytes spell a value and which fault other bytes have.
-//! What holds of every layout is proved once, on `layout_laws`, `following_laws` and `field_laws`.
-//! Its contract for the crates above: a code names exactly one type, a cursor hands out exactly the
-//! field that the layout names, or its fault, levels are 1 to 8, and a text is that of one spec or of
-//! none. A message is any reader: there is one loop that reads until a buffer is full, one that reads to the
-//! end, and one that writes all bytes, and in each the first call that fails is the answer.
+//! A layout is a list of fields, where each may depend on those before it (`specs/Layout.antt`). From it follow the
+//! bytes that spell a value and the fault of any other bytes. The laws of every layout are proved once, on
+//! `layout_laws`, `following_laws` and `field_laws`.
+//!
+//! What the crates above rely on: a code names exactly one type. A cursor hands out exactly the layout's field, or its
+//! fault. Levels are 1 to 8. A text is the text of one spec or of none.
+//!
+//! A message is any reader. One loop reads until a buffer is full, one reads to the end, and one writes all bytes. Each
+//! answers the first call that fails.
 //!
 //! ```rust
 //! use typecodes::{Cursor, LmsType};

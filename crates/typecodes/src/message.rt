@@ -1,4 +1,4 @@
-//! Messages, which are read in pieces and kept nowhere whole.
+//! Messages, which are read in pieces and never kept whole.
 
 ghost use Rattle.std.specs.Prelude.{◌<◌, ℕ, List, ⊤, length};
 ghost use Rattle.std.specs.Io.{ReadsAtMost};
@@ -10,23 +10,23 @@ use std::io;
 use std::io::Read;
 use thiserror::Error;
 
-/// What gives the bytes of a message: any reader.
+/// A message: any reader.
 ///
-/// Verification judges the bytes that it gives, where it says which (`remaining`). Where it says what each read does to
-/// it (`transition`), as the program's reader does, the text that the reads gave is judged, and 14 comes only where the
-/// last one failed, or after 2^60 bytes. Of a reader that says neither the contracts speak of some text: that it is the
-/// reader's is tested.
+/// `remaining` says which bytes the reader will give, if that is known; verification then judges these. `transition`
+/// says what each read does, as the program's reader knows. Then the text that the reads gave is judged, and 14 comes
+/// only if the last read failed, or after 2^60 bytes. Of a reader that says neither the contracts speak of some text;
+/// that it is the reader's is only tested.
 pub trait Message {
-    // the bytes that reads will give from here on, where they are known
+    // the bytes that later reads will give, if known
     ghost remaining: { Self → Option (List ℕ) };
 
-    // what a read does to the message, where that is known: from this state, with this outcome, to that one
+    // what a read does to the message, if known: (state before, outcome, state after)
     ghost transition: { Self → ReadOutcome → Self → Type 0 } = { λ _ _ _. ⊤ };
 
-    // the same for a read that asks for so many bytes
+    // as `transition`, with the number of bytes that the read asks for
     ghost request: { Self → ℕ → ReadOutcome → Self → Type 0 } = { λ _ _ _ _. ⊤ };
 
-    /// Reads into the buffer, as `Read::read` does. The buffer takes a byte at least, so that no bytes mean the end.
+    /// Reads into the buffer, as `Read::read` does. The buffer isn't empty, so that no bytes mean the end.
     fn read_into(&mut self, buffer: &mut [u8]) -> io::Result<usize>
         requires { 0 < length buffer.old }
         ensures bound { ReadsAtMost result buffer.new }
@@ -43,7 +43,7 @@ impl<R: Read> Message for R {
     }
 }
 
-/// Why a message can't be read: a read of it failed, also one that was interrupted; or it gave 2^60 bytes.
+/// The message can't be read: a read failed, even if only interrupted, or 2^60 bytes came.
 #[derive(Clone, Copy, Debug, PartialEq, Eq, Error)]
 #[error("the message can't be read")]
 pub struct MessageFailed;

@@ -10,7 +10,7 @@ use thiserror::Error;
 /// A name: 1 to 128 bytes, each a visible character of ASCII, 0x21 to 0x7E.
 #[derive(Clone, Copy, Debug)]
 pub struct Name {
-    // those past `len` are zeros
+    // bytes past `len` are zeros
     bytes: [u8; 128],
     len: u8,
 }
@@ -46,7 +46,7 @@ impl Model for Name {
 pub struct BadName;
 
 impl Name {
-    /// The name of these bytes.
+    /// 34 unless the bytes are a name.
     pub fn new(bytes: &[u8]) -> Result<Name, BadName>
         ensures ok { IsOk result ↔ IsName bytes.now }
         ensures value { IfOk result (λ name. name ≡ bytes.now) }
@@ -62,7 +62,6 @@ impl Name {
         })
     }
 
-    /// The bytes of the name.
     pub fn as_bytes(&self) -> &[u8]
         ensures value { result.now ≡ self.now }
         ensures name { IsName result.now }
@@ -71,7 +70,6 @@ impl Name {
     }
 }
 
-// Whether these are the bytes of a name.
 fn is_name(bytes: &[u8]) -> bool
     ensures { result ≡ true ↔ IsName bytes.now }
 {

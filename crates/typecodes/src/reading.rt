@@ -7,15 +7,15 @@ use crate::message::Message;
 use std::io;
 use thiserror::Error;
 
-/// How many bytes of a message are read at a time.
+/// The bytes read at a time: 16 KiB.
 pub const PIECE: usize = 1 << 14;
 
-/// How many pieces a message has at most: with so many full ones it has 2^60 bytes, and counts as failed.
+/// The most pieces of a message. After that many full ones, 2^60 bytes, it counts as failed.
 pub const PIECES: u64 = 1 << 46;
 
-/// Reads until the buffer is full or the message ends, and gives how many bytes that were. The first read that fails is
-/// the answer, whatever its kind: one that was interrupted, too. The bytes that came before stand in the buffer then.
-/// Each read asks for the rest of the buffer, and each but the last gives a byte at least.
+/// Reads until the buffer is full or the message ends, and returns the number of bytes. The first failing read is the
+/// answer, even an interrupted one; the bytes before it are in the buffer. Each read asks for the rest of the buffer,
+/// and each but the last gives at least one byte.
 pub fn read_full<M: Message>(message: &mut M, buffer: &mut [u8]) -> io::Result<usize>
     ensures within { IfOk result (λ n. n ≤ length buffer.new) }
     ensures reads { ReadsFull M.transition M.remaining result buffer.new message.old message.new }
@@ -32,25 +32,25 @@ pub fn read_full<M: Message>(message: &mut M, buffer: &mut [u8]) -> io::Result<u
     Ok(at)
 }
 
-/// What takes the bytes of a message, piece by piece.
+/// Takes the bytes of a message, piece by piece.
 pub trait PieceTaker {
-    /// Why it refuses a piece.
+    /// Why a piece is refused.
     type Error;
 
-    // Taking these bytes leads from this state to that one.
+    // taking these bytes: (state before, bytes, state after)
     ghost takes: { Self → List ℕ → Self → Type 0 };
 
-    // Refusing this piece with this error leads from this state to that one.
+    // refusing this piece with this error: (state before, piece, error, state after)
     ghost refuses: { Self → List ℕ → Self.Error → Self → Type 0 };
 
     /// Takes the next bytes.
     fn take_piece(&mut self, piece: &[u8]) -> Result<(), Self::Error>
         ensures { TakesPiece takes refuses result piece.now self.old self.new };
 
-    // before the first piece nothing was taken
+    // taking no bytes leaves each state as it is
     ghost takes_nothing: { (state : Self) → takes state [] state };
 
-    // bytes, and then others, are all of these bytes
+    // taking bytes and then others is taking both together
     ghost takes_more: { (old middle new : Self) (first later : List ℕ) → takes old first middle
         → takes middle later new → takes old (first ++ later) new };
 }
@@ -64,16 +64,17 @@ pub enum ReadError<E> {
     /// It gave 2^60 bytes.
     #[error("the message is too long")]
     TooLong,
-    /// What takes its bytes refused a piece.
+    /// The taker refused a piece.
     #[error("a piece was refused")]
     Refused(E),
 }
 
-/// Reads a message to its end, and hands on each piece. The first read that fails is the answer, whatever its kind.
+/// Reads a message to its end and hands on each piece. The first failing read is the answer, even an interrupted one.
 ///
-/// At an Ok the whole text was taken, of fewer than 2^60 bytes. At `Failed` what came before the read that failed was
-/// taken, but for less than a piece; at `TooLong` 2^60 bytes were; at `Refused` the pieces before the one that was
-/// refused.
+/// - `Ok`: the whole text was taken, fewer than 2^60 bytes.
+/// - `Failed`: what came before the failed read was taken, except for less than one piece.
+/// - `TooLong`: 2^60 bytes were taken.
+/// - `Refused`: the pieces before the refused one were taken.
 pub fn read_to_end<M: Message, T: PieceTaker>(
     message: &mut M,
     taker: &mut T,

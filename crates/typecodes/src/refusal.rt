@@ -1,4 +1,4 @@
-//! Why a signature isn't verified.
+//! Why a signature is refused.
 
 ghost use Rattle.std.specs.Prelude.{◌≡◌};
 ghost use Rattle.typecodes.specs.Refusal.{refusal_number};
@@ -7,8 +7,8 @@ use crate::fault::ReadFault;
 use std::fmt;
 use thiserror::Error;
 
-/// The first reason why a signature isn't verified. A level is that of a tree, 0 for the top one; a
-/// scheme of one tree has level 0 alone.
+/// The first reason why a signature is refused. Levels count from 0, the top tree; a scheme of one tree has level 0
+/// alone.
 #[derive(Clone, Copy, Debug, PartialEq, Eq, Error)]
 pub enum Refusal {
     /// 1 to 5: the bytes spell no signature.
@@ -17,13 +17,13 @@ pub enum Refusal {
     /// 10: the signature's tree type or one-time type isn't the key's.
     #[error("level {0}: the signature's types aren't the key's")]
     TypeMismatch(u8),
-    /// 11: the signature hasn't as many levels as the key.
+    /// 11: the signature's number of levels isn't the key's.
     #[error("the signature's levels aren't the key's")]
     LevelMismatch,
     /// 12: the root to which the signature leads isn't the key's.
     #[error("level {0}: the signature doesn't lead to the key's root")]
     RootMismatch(u8),
-    /// 14: a read of the message failed, also one that was interrupted; or it gave 2^60 bytes.
+    /// 14: a read of the message failed, even if only interrupted, or it gave 2^60 bytes.
     #[error("the message can't be read")]
     MessageRead,
 }

@@ -1,8 +1,8 @@
-//! What the trees of keys are made from.
+//! The secrets that trees are made from.
 
 use crate::types::{LmsPair, XmssType};
 
-/// What an LMS key is made from (RFC 8554 5.2 and Appendix A). It has no `Debug`, since its seed is secret.
+/// The secret of an LMS tree (RFC 8554 5.2 and Appendix A). No `Debug`, since the seed is secret.
 #[derive(Clone, Copy, PartialEq, Eq)]
 pub struct LmsSecret {
     pub pair: LmsPair,
@@ -12,15 +12,15 @@ pub struct LmsSecret {
     pub seed: [u8; 32],
 }
 
-/// What an XMSS key is made from (RFC 8391 4.1.3). It has no `Debug`, since S_XMSS and SK_PRF are secret.
+/// The secret of an XMSS tree (RFC 8391 4.1.3). No `Debug`, since S_XMSS and SK_PRF are secret.
 #[derive(Clone, Copy, PartialEq, Eq)]
 pub struct XmssSecret {
     /// The tree's type.
     pub tree: XmssType,
-    /// S_XMSS, of which all private values are made, 32 bytes (RFC 8391 4.1.11).
+    /// S_XMSS, 32 bytes: all private values are derived from it (RFC 8391 4.1.11).
     pub secret_seed: [u8; 32],
-    /// SK_PRF, of which the randomizers are made, 32 bytes.
+    /// SK_PRF, 32 bytes: the randomizers are derived from it.
     pub prf_key: [u8; 32],
-    /// SEED, 32 bytes. It is public.
+    /// SEED, 32 bytes, public.
     pub public_seed: [u8; 32],
 }

@@ -1,4 +1,4 @@
-//! What takes bytes, a part of them at a time.
+//! Writers, which take a part of the bytes at a time.
 
 ghost use Rattle.std.specs.Prelude.{List, ℕ, ⊤};
 ghost use Rattle.std.specs.Io.{WritesAtMost};
@@ -10,16 +10,15 @@ ghost use Rattle.typecodes.specs.Sink.{WritesAll};
 use std::io;
 use std::io::{ErrorKind, Write};
 
-/// What takes bytes: any writer.
+/// Any writer.
 pub trait Sink {
-    // the bytes that it holds, where they are known
+    // the bytes that it holds, if known
     ghost contents: { Self → Option (List ℕ) };
 
-    // what a write that is offered these bytes does, where that is known: from this state, with this outcome, to that
-    // one
+    // what a write of these bytes does, if known: (state before, bytes, outcome, state after)
     ghost transition: { Self → List ℕ → ReadOutcome → Self → Type 0 } = { λ _ _ _ _. ⊤ };
 
-    /// Writes some of the first of these bytes, as `Write::write` does.
+    /// Writes some of the first bytes, as `Write::write` does.
     fn write_from(&mut self, bytes: &[u8]) -> io::Result<usize>
         ensures bound { WritesAtMost result bytes.now }
         ensures bytes { WriteAppends (contents self.old) (contents self.new) result bytes.now }
@@ -34,9 +33,8 @@ impl<W: Write> Sink for W {
     }
 }
 
-/// Writes all of the bytes. The first write that fails is the answer, whatever its kind: one that was interrupted, too.
-/// One that takes nothing is `WriteZero`. Each write is offered the rest. At an Err the first bytes were written, up to
-/// that write, and no others.
+/// Writes all bytes. The first failing write is the answer, even an interrupted one; a write that takes nothing is
+/// `WriteZero`. Each write is offered the rest. At an `Err` the bytes before that write were written, and no others.
 pub fn write_all<S: Sink>(sink: &mut S, bytes: &[u8]) -> io::Result<()>
     ensures { WritesAll S.transition S.contents result bytes.now sink.old sink.new }
 {

@@ -1,4 +1,4 @@
-//! The specs, which say what key is to be made.
+//! Specs, the texts that say which key to make.
 
 ghost use Rattle.std.specs.Prelude.{◌≡◌, ◌≢◌, IfErr, IfOk, List, Ok};
 ghost use Rattle.typecodes.specs.declared.spec.Spec.{Spec as S};
@@ -13,14 +13,14 @@ use crate::levels::Levels;
 use crate::types::{LmsPair, LmsType, OtsType, XmssType};
 use thiserror::Error;
 
-/// What key is to be made: its scheme, and the types of the scheme.
+/// Which key to make: its scheme and types.
 #[derive(Debug, Drop, PartialEq, Eq)]
 pub enum Spec {
-    /// `lms:` and a pair, as `lms:H5/W8`.
+    /// `lms:` and a pair: `lms:H5/W8`.
     Lms(LmsPair),
-    /// `hss:` and a pair for each level, the top one first, as `hss:H10/W4,H5/W8`.
+    /// `hss:` and a pair for each level, the top one first: `hss:H10/W4,H5/W8`.
     Hss(Levels),
-    /// `xmss:` and a height, as `xmss:10`.
+    /// `xmss:` and a height: `xmss:10`.
     Xmss(XmssType),
 }
 
@@ -31,12 +31,12 @@ pub enum Spec {
 pub struct BadSpec;
 
 impl Spec {
-    /// The spec that this is the text of.
+    /// The spec with this text.
     pub fn parse(text: &str) -> Result<Spec, BadSpec>
         ensures ok { IfOk result (λ spec. text.now ≡ spec_text spec) }
         ensures spec { IfOk result IsSpec }
         ensures err { IfErr result (λ _. (spec : S) → IsSpec spec → text.now ≢ spec_text spec) }
-        // No other spec has the text.
+        // no other spec has this text
         ensures alone { (spec : S) → IsSpec spec → text.now ≡ spec_text spec → result ≡ Ok spec }
     {
         if let Some(pair) = text.strip_prefix("lms:") {
@@ -50,7 +50,7 @@ impl Spec {
     }
 }
 
-// The levels that this is the text of, pairs with commas between them.
+// Pairs with commas between them.
 fn parse_levels(text: &str) -> Result<Levels, BadSpec>
     ensures ok { IfOk result (λ levels. text.now ≡ levels_text levels) }
     ensures levels { IfOk result AreLevels }
@@ -71,7 +71,7 @@ fn parse_levels(text: &str) -> Result<Levels, BadSpec>
     Levels::new(&pairs[..count]).ok_or(BadSpec)
 }
 
-// The pair that this is the text of, a tree and a one-time type.
+// A tree type and a one-time type, with a slash between them.
 fn parse_pair(text: &str) -> Result<LmsPair, BadSpec>
     ensures ok { IfOk result (λ pair. text.now ≡ pair_text pair) }
     ensures err { IfErr result (λ _. (pair : Pair) → text.now ≢ pair_text pair) }

@@ -21,7 +21,7 @@ pub enum OtsType {
 }
 
 impl OtsType {
-    /// The type that a code names: 1 to 4 in the order of the widths.
+    /// Codes 1 to 4 name the types in the order of the widths, others none.
     pub fn from_code(code: u32) -> Option<Self>
         ensures named { result ≡ ots_of_code code }
         ensures some { IfSome result (λ t. ots_code t ≡ code) }
@@ -36,7 +36,7 @@ impl OtsType {
         }
     }
 
-    /// The code of the type, 1 to 4.
+    /// The type's code, 1 to 4.
     pub fn code(self) -> u32
         ensures value { result ≡ ots_code self }
         ensures alone { (other : OtsType) → ots_code other ≡ result → other ≡ self }
@@ -49,7 +49,7 @@ impl OtsType {
         }
     }
 
-    /// w: the bits of one Winternitz digit, 1, 2, 4 or 8.
+    /// w: the bits of a Winternitz digit, 1, 2, 4 or 8.
     pub fn width(self) -> u8
         ensures value { result ≡ width_of self }
         ensures is_width { IsWidth result }
@@ -62,7 +62,7 @@ impl OtsType {
         }
     }
 
-    /// p: the number of chains of a key, from 34 to 265.
+    /// p: the number of chains, 34 to 265.
     pub fn chains(self) -> u16
         ensures value { result ≡ chains_of self }
         ensures most { result ≤ 265 }
@@ -75,7 +75,7 @@ impl OtsType {
         }
     }
 
-    /// The bytes of a one-time signature: its code, the randomizer and a value for each chain.
+    /// The bytes of a one-time signature: code, randomizer, one value per chain.
     pub fn signature_len(self) -> u32
         ensures { result ≡ signature_len_of self }
     {
@@ -99,7 +99,7 @@ pub enum LmsType {
 }
 
 impl LmsType {
-    /// The type that a code names: 5 to 9 in the order of the heights.
+    /// Codes 5 to 9 name the types in the order of the heights, others none.
     pub fn from_code(code: u32) -> Option<Self>
         ensures named { result ≡ lms_of_code code }
         ensures some { IfSome result (λ t. lms_code t ≡ code) }
@@ -115,7 +115,7 @@ impl LmsType {
         }
     }
 
-    /// The code of the type, 5 to 9.
+    /// The type's code, 5 to 9.
     pub fn code(self) -> u32
         ensures value { result ≡ lms_code self }
         ensures alone { (other : LmsType) → lms_code other ≡ result → other ≡ self }
@@ -129,7 +129,7 @@ impl LmsType {
         }
     }
 
-    /// h: the height of the tree, which has `2^h` leaves.
+    /// h: the height. The tree has `2^h` leaves.
     pub fn height(self) -> u8
         ensures value { result ≡ height_of self }
         ensures most { result ≤ 25 }
@@ -144,7 +144,7 @@ impl LmsType {
     }
 }
 
-/// The two types of an LMS key: its tree's, and its leaves' one-time signatures'.
+/// The two types of an LMS key.
 #[derive(Clone, Copy, Debug, PartialEq, Eq)]
 pub struct LmsPair {
     /// The type of the tree.
@@ -154,8 +154,7 @@ pub struct LmsPair {
 }
 
 impl LmsPair {
-    /// The bytes of a signature: its leaf's index, the one-time signature, the tree's code and the
-    /// nodes of the path.
+    /// The bytes of a signature: leaf index, one-time signature, tree code, path.
     pub fn signature_len(self) -> u32
         ensures { result ≡ lms_signature_len_of self }
     {
@@ -166,7 +165,7 @@ impl LmsPair {
 /// len: the chains of a one-time key of WOTS+, for n = 32 and w = 16 (RFC 8391 3.1.1).
 pub const WOTS_CHAINS: usize = 67;
 
-/// A type of XMSS, by the height of its tree. Each has `WOTS_CHAINS` chains of 15 steps in a leaf.
+/// A type of XMSS, by its height. Each leaf has `WOTS_CHAINS` chains of 15 steps.
 #[derive(Clone, Copy, Debug, PartialEq, Eq)]
 pub enum XmssType {
     /// XMSS-SHA2_10_256, 1,024 leaves.
@@ -178,7 +177,7 @@ pub enum XmssType {
 }
 
 impl XmssType {
-    /// The type that a code names: 1 to 3 in the order of the heights.
+    /// Codes 1 to 3 name the types in the order of the heights, others none.
     pub fn from_code(code: u32) -> Option<Self>
         ensures named { result ≡ xmss_of_code code }
         ensures some { IfSome result (λ t. xmss_code t ≡ code) }
@@ -192,7 +191,7 @@ impl XmssType {
         }
     }
 
-    /// The code of the type, 1 to 3.
+    /// The type's code, 1 to 3.
     pub fn code(self) -> u32
         ensures value { result ≡ xmss_code self }
         ensures alone { (other : XmssType) → xmss_code other ≡ result → other ≡ self }
@@ -204,7 +203,7 @@ impl XmssType {
         }
     }
 
-    /// h: the height of the tree, which has `2^h` leaves.
+    /// h: the height. The tree has `2^h` leaves.
     pub fn height(self) -> u8
         ensures value { result ≡ xmss_height_of self }
         ensures most { result ≤ 20 }
@@ -216,8 +215,7 @@ impl XmssType {
         }
     }
 
-    /// The bytes of a signature: its leaf's index, the randomizer, a value for each chain and the nodes
-    /// of the path.
+    /// The bytes of a signature: leaf index, randomizer, one value per chain, path.
     pub fn signature_len(self) -> u32
         ensures { result ≡ xmss_signature_len_of self }
     {

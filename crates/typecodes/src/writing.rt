@@ -1,8 +1,8 @@
-//! Bytes that are written part by part.
+//! Writing bytes part by part.
 
 ghost use Rattle.std.specs.Prelude.{◌≡◌, ◌+◌, ◌≤◌, ◌++◌, drop, length, take};
 
-/// Writes bytes at an offset, and gives the offset after them. What follows them stays as it was.
+/// Writes bytes at an offset and returns the offset after them. Later bytes stay as they were.
 pub fn put(into: &mut [u8], offset: usize, bytes: &[u8]) -> usize
     requires { offset + length bytes.now ≤ length into.old }
     ensures offset { result ≡ offset + length bytes.now }

@@ -1,4 +1,5 @@
--- `add_one` does nothing at run time: the walk opens the borrow and closes it at fields whose count is one higher. What the struct owns, no bytes and no memory, does not depend on the count.
+-- `add_one` does nothing at run time. The walk opens the borrow, and closes it at fields whose count is one higher. The
+-- struct owns no bytes and no memory, so what it owns doesn't depend on the count.
 use Rattle.std.proofs.Common.{◌≡◌, ℕ, ◌+◌, [], ◌∷◌, refl}
 use Rattle.std.proofs.raw_atomic.Walks.{proved}
 use base.Fml.{ftrue, flft, fsep}

@@ -1,4 +1,4 @@
--- `new` makes a value of no bytes, and the walk sets its ghost field to 0.
+-- `new` makes a value of no bytes; the walk sets its ghost field to 0.
 use Rattle.std.proofs.Common.{[], ◌∷◌, refl}
 use Rattle.std.proofs.raw_atomic.Walks.{proved}
 use mir.Val.{vstruct, vnil}
