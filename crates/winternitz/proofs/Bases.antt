@@ -4,7 +4,7 @@ use Rattle.std.specs.Int.Digits.{number_from_digits_after, AllBelowBase}
 use Rattle.std.proofs.lemmas.Nat.{same_from_place}
 use Rattle.winternitz.specs.Digest.{AreDigitsOf}
 
--- as many digits in a base that read as one number are the same digits, also after others
+-- lists of one length in a base that read as one number are equal, also after other digits
 same_after : (b m n : ℕ) (xs ys : List ℕ) → length xs ≡ length ys → AllBelowBase b xs → AllBelowBase b ys
     → number_from_digits_after b m xs ≡ number_from_digits_after b n ys → (m ≡ n) × (xs ≡ ys)
 same_after b m n [] [] count p q e = (e, refl)

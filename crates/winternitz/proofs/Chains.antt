@@ -1,11 +1,11 @@
--- How many digits the digests have that a type signs.
+-- How many digits the digests of a type have.
 use Rattle.std.proofs.Common.{◌≡◌, ◌≤◌, refl, arith}
 use Rattle.typecodes.specs.declared.types.OtsType.{OtsType}
 use Rattle.typecodes.specs.declared.types.OtsType.TheVariants.{W1, W2, W4, W8}
 use Rattle.typecodes.specs.Types.{chains_of, width_of}
 use Rattle.winternitz.specs.Digest.{digit_count}
 
--- as many as the type has chains
+-- one for each chain
 pub digits_are_chains : (ots : OtsType) → digit_count (width_of ots) ≡ chains_of ots
 digits_are_chains W1 = refl
 digits_are_chains W2 = refl

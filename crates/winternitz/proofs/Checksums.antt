@@ -13,7 +13,7 @@ use Rattle.winternitz.proofs.Widths.{by_width}
 use Rattle.winternitz.proofs.Bases.{same_digits}
 use Rattle.winternitz.proofs.Coefs.{digits_below, number_within, number_of_digits, first_digits-append}
 
--- what as many digits lack as a digest has, all together
+-- the greatest unshifted checksum of a digest
 pub lacking_at_most : (w : ℕ) (digits : List ℕ) → length digits ≡ message_count w
     → lacking_of w digits ≤ 256 / w * (2 ^ w - 1)
 lacking_at_most w digits count =
@@ -23,7 +23,7 @@ lacking_at_most w digits count =
     let same : length digits * (2 ^ w - 1) ≡ 256 / w * (2 ^ w - 1) = ap (λ n. n * (2 ^ w - 1)) count in
     omega arith
 
--- that and the shifted checksum fit 16 bits
+-- it fits 16 bits, shifted or not
 pub lacking_fits : (w s : ℕ) → IsWidth w → s ≤ 256 / w * (2 ^ w - 1) → (s < 2 ^ 16) × (s * 2 ^ checksum_shift w < 2 ^ 16)
 lacking_fits w s is bound =
     by_width (λ w. s ≤ 256 / w * (2 ^ w - 1) → (s < 2 ^ 16) × (s * 2 ^ checksum_shift w < 2 ^ 16)) w is
@@ -76,7 +76,7 @@ made_digits w v is digest message two digits size first sum count all =
     all ∙ ap (λ t. message ++ first_digits w v t) sum ∙ ap (λ n. message ++ first_digits w n (big_bytes 2 (checksum_of w message))) count
     ∙ ap (λ m. m ++ first_digits w (checksum_count w) (big_bytes 2 (checksum_of w m))) first ∙ standard_digits w is digest size
 
--- and that list is what the law says
+-- and that list meets the definition
 pub are_winternitz_digits : (w : ℕ) → IsWidth w → (digest : List ℕ) → length digest ≡ 32
     → ((i : ℕ) → get_or digest i 0 < 256) → AreWinternitzDigits w digest (digits_of w digest)
 are_winternitz_digits w is digest size fits =
@@ -102,7 +102,7 @@ are_winternitz_digits w is digest size fits =
           ∙ ap (λ n. take (n + checksum_count w) (message ++ checksum)) count;
     }
 
--- the first digits of the checksum's two bytes are those of what stands shifted there
+-- the first digits of the checksum's two bytes are the unshifted checksum's
 number_kept : (w s : ℕ) → IsWidth w → s * 2 ^ checksum_shift w < 2 ^ 16
     → number_from_digits (2 ^ w) (first_digits w (checksum_count w) (big_bytes 2 (s * 2 ^ checksum_shift w))) ≡ s
 number_kept w s is small =
@@ -151,7 +151,7 @@ same_winternitz_digits w digest xs ys p q =
     p.all ∙ ap (λ m. take (digit_count w) (m ++ p.checksum)) message
     ∙ ap (λ c. take (digit_count w) (q.message ++ c)) checksum ∙ sym q.all
 
--- what the law allows has its checksum whole
+-- a list that meets the definition has the checksum whole
 pub whole_of_law : (w : ℕ) → IsWidth w → (digest digits : List ℕ) → length digest ≡ 32
     → ((i : ℕ) → get_or digest i 0 < 256) → AreWinternitzDigits w digest digits → HasWholeChecksum w digest digits
 whole_of_law w is digest digits size fits law =

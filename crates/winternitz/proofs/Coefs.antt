@@ -121,7 +121,7 @@ coef_rest w is xs ys i =
     let place : (length xs * (8 / w) + i) % (8 / w) ≡ i % (8 / w) = mul-add-mod_self_right (length xs) (8 / w) i in
     rw (byte, place, get_or-append-add xs ys (i * w / 8) 0) refl
 
--- the digits of bytes one after the other: those of the first bytes, and then those of the others
+-- the digits of joined bytes: the first bytes' digits, and then the others'
 pub first_digits-append : (w : ℕ) → IsWidth w → (n : ℕ) (xs ys : List ℕ)
     → first_digits w (length xs * (8 / w)) xs ++ first_digits w n ys ≡ first_digits w (length xs * (8 / w) + n) (xs ++ ys)
 first_digits-append w is n xs ys =

@@ -22,7 +22,7 @@ pub same_ends : (step : Steps) (w : ℕ) (digits : List ℕ) (values ends : List
 same_ends step w digits values ends are =
     fill_by_all (end_of step w digits values) ends (length digits) [] are.count are.each
 
--- the first n values, where each is that of its chain
+-- the first n values, each its chain's
 pub first_are : (value : ℕ → List ℕ) (n : ℕ) (values : List (List ℕ)) → n ≤ length values
     → ((i : ℕ) → i < n → slice_index_or values i [] ≡ value i) → take n values ≡ map value (range_with_len 0 n)
 first_are value n values room each =
@@ -32,7 +32,7 @@ first_are value n values room each =
 pub first_at : (n i : ℕ) (values : List (List ℕ)) → i < n → slice_index_or (take n values) i [] ≡ slice_index_or values i []
 first_at n i values within = get_or-take n values i [] within
 
--- those of all lanes are made after those that were, which stay
+-- the values of all lanes are added after the earlier ones, which stay
 pub lanes_more : (value : ℕ → List ℕ) (place : ℕ) (old new : List (List ℕ))
     → ((i : ℕ) → i < place → slice_index_or old i [] ≡ value i)
     → ((i : ℕ) → i < place → slice_index_or new i [] ≡ slice_index_or old i [])

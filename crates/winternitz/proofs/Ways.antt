@@ -17,7 +17,7 @@ way_begun step from at to values ends i place value order = record {
       ∙ ap (λ b. walk step i (slice_index from i) b (slice_index_or values i [])) (sym place);
 }
 
--- the same of one of the first n chains
+-- the same, for one of the first n chains
 pub way_begun_of : (step : Steps) (from at to : List ℕ) (values ends : List (List ℕ)) (n i : ℕ) → i < n
     → slice_index at i ≡ slice_index (take n from) i → slice_index_or ends i [] ≡ slice_index_or values i []
     → slice_index from i ≤ slice_index to i → IsOnItsWay step from at (take n to) values ends i

@@ -1,4 +1,4 @@
--- Words and the bytes of which they consist.
+-- Words and their bytes.
 use Rattle.std.proofs.Common.{◌≡◌, ◌∙◌, ℕ, zero, suc, ◌<◌, ◌≤◌, ◌+◌, ◌-◌, ◌*◌, ◌/◌, ◌%◌, ◌^◌, List, [], ◌∷◌, ◌++◌, length, take, slice_index, arith, refl, sym, ap, ap₂, inl, inr}
 use Rattle.std.proofs.lemmas.Nat.{from_be_bytes-to_be_bytes_4}
 use Rattle.std.proofs.Math.Nat.{div-div-eq-div-mul}
@@ -55,7 +55,7 @@ take_four v i room =
       append_assoc (take i v) (slice_index v i ∷ slice_index v (i + 1) ∷ slice_index v (i + 2) ∷ []) (slice_index v (i + 3) ∷ []),
     ) refl
 
--- the bytes of the words of which bytes consist are these bytes
+-- the bytes of the words that bytes are cut into are these bytes
 bytes_until : (h v : List ℕ) (n i : ℕ) → length v ≡ 4 * n
     → ((k : ℕ) → k < n → to_be_bytes w32 (slice_index h k) ≡ four_bytes v (4 * k)) → i ≤ n → digest_bytes h i ≡ take (4 * i) v
 unfolding digest_bytes
@@ -145,7 +145,7 @@ each_from_five P p5 p6 p7 p8 p9 p10 p11 p12 p13 p14 p15 k low high = elim (cases
   ]
 ]
 
--- the words of what a step hashes after the beginning, with the padding
+-- the words of a step's bytes after the beginning, with the padding
 pub tail_words : (a b c d e w5 w6 w7 w8 w9 w10 w11 w12 w13 w14 w15 n x0 x1 x2 x3 x4 x5 x6 x7 chain at : ℕ)
     → w5 ≡ joined_word n x0 → w6 ≡ joined_word x0 x1 → w7 ≡ joined_word x1 x2 → w8 ≡ joined_word x2 x3 → w9 ≡ joined_word x3 x4
     → w10 ≡ joined_word x4 x5 → w11 ≡ joined_word x5 x6 → w12 ≡ joined_word x6 x7 → w13 ≡ joined_word x7 0x80000000 → w14 ≡ 0 → w15 ≡ 440

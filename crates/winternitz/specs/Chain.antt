@@ -15,15 +15,15 @@ walk_on step c a (suc n) v = step c (a + n) (walk_on step c a n v)
 abbrev pub walk : Steps → ℕ → ℕ → ℕ → List ℕ → List ℕ
 walk step c a b v = walk_on step c a (b - a) v
 
--- the walk of chain i's value by the chain's own steps
+-- chain i's value, walked by the chain's own steps
 abbrev pub walk_of : Steps → List ℕ → List ℕ → List (List ℕ) → ℕ → List ℕ
 walk_of step from to values i = walk step i (slice_index from i) (slice_index to i) (slice_index_or values i [])
 
--- the walk of chain i's value from the chain's digit to its end
+-- chain i's value, walked from the chain's digit to its end
 abbrev pub end_of : Steps → ℕ → List ℕ → List (List ℕ) → ℕ → List ℕ
 end_of step w digits values i = walk step i (slice_index digits i) (2 ^ w - 1) (slice_index_or values i [])
 
--- each end is that of its chain
+-- a list of the ends of all chains
 pub record AreEnds (step : Steps) (w : ℕ) (digits : List ℕ) (values ends : List (List ℕ)) : Type 0 where
   pub count : length ends ≡ length digits
   pub each : (i : ℕ) → i < length digits → slice_index_or ends i [] ≡ end_of step w digits values i

@@ -19,15 +19,15 @@ checksum_count w = if w == 1 then 9 else (if w == 2 then 5 else (if w == 4 then 
 abbrev pub digit_count : ℕ → ℕ
 digit_count w = message_count w + checksum_count w
 
--- ls: the bits to the left of which the checksum stands in its 16
+-- ls: the shift that puts the checksum at the left end of 16 bits
 abbrev pub checksum_shift : ℕ → ℕ
 checksum_shift w = 16 - w * checksum_count w
 
--- what the digits lack to their greatest value, all together
+-- the checksum before shifting: the sum of 2^w - 1 - d over all digits d
 abbrev pub lacking_of : ℕ → List ℕ → ℕ
 lacking_of w digits = sum_by (λ d. 2 ^ w - 1 - d) digits
 
--- the same, shifted to the left end of 16 bits
+-- the checksum, shifted to the left end of 16 bits
 abbrev pub checksum_of : ℕ → List ℕ → ℕ
 checksum_of w digits = lacking_of w digits * 2 ^ checksum_shift w
 
@@ -37,8 +37,8 @@ pub record AreDigitsOf (base n x : ℕ) (digits : List ℕ) : Type 0 where
   pub below : AllBelowBase base digits
   pub number : number_from_digits base digits ≡ x
 
--- The Winternitz digits of a digest: the digits of the digest as a big-endian number, and after them
--- the digits of their checksum in 16 bits, cut to p digits in all.
+-- The Winternitz digits of a digest: its own, as a big-endian number, and then its 16-bit checksum's, cut to p digits
+-- in all.
 pub record AreWinternitzDigits (w : ℕ) (digest digits : List ℕ) : Type 0 where
   pub message : List ℕ
   pub checksum : List ℕ
@@ -46,8 +46,7 @@ pub record AreWinternitzDigits (w : ℕ) (digest digits : List ℕ) : Type 0 whe
   pub checksum_digits : AreDigitsOf (2 ^ w) (16 / w) (checksum_of w message) checksum
   pub all : digits ≡ take (digit_count w) (message ++ checksum)
 
--- The checksum stands whole in the list: v digits are enough for what the digits of a digest lack, and
--- the cut takes none of them away.
+-- The list has the whole checksum: v digits are enough for it before the shift, and the cut takes none of them away.
 pub record HasWholeChecksum (w : ℕ) (digest digits : List ℕ) : Type 0 where
   pub message : List ℕ
   pub checksum : List ℕ
@@ -55,7 +54,7 @@ pub record HasWholeChecksum (w : ℕ) (digest digits : List ℕ) : Type 0 where
   pub checksum_digits : AreDigitsOf (2 ^ w) (checksum_count w) (lacking_of w message) checksum
   pub all : digits ≡ message ++ checksum
 
--- No other digest's digits are all at least these: digits that grow make their checksum fall.
+-- No other digest's digits are all at least these: when digits grow, their checksum falls.
 abbrev pub NoneAbove : ℕ → List ℕ → List ℕ → Type 0
 NoneAbove w digest digits =
     (other others : List ℕ) → length other ≡ length digest → ((i : ℕ) → slice_index other i < 256)
@@ -65,7 +64,7 @@ NoneAbove w digest digits =
 abbrev pub first_digits : ℕ → ℕ → List ℕ → List ℕ
 first_digits w n bytes = map (λ i. coef_of bytes i w) (range_with_len 0 n)
 
--- the same digits, as the standard computes them: coef of the digest followed by the checksum in two bytes
+-- the same digits, as the standard computes them: coef of the digest and the checksum's two bytes
 abbrev pub digits_of : ℕ → List ℕ → List ℕ
 digits_of w digest =
     first_digits w (digit_count w) (digest ++ big_bytes 2 (checksum_of w (first_digits w (message_count w) digest)))

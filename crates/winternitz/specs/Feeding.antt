@@ -8,7 +8,7 @@ use Rattle.sha2.specs.Hashers.{Holds256}
 abbrev pub HasherTakes : Sha256 → List ℕ → Sha256 → Type 0
 HasherTakes before bytes after = (head : List ℕ) → Holds256 before head → Holds256 after (head ++ bytes)
 
--- ---- laws of that
+-- ---- its laws
 
 pub takes_no_bytes : (hasher : Sha256) → HasherTakes hasher [] hasher
 takes_no_bytes hasher head holds = subst (Holds256 hasher) (sym (append-nil head)) holds

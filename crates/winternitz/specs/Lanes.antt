@@ -4,7 +4,7 @@ use Rattle.std.specs.Coded.{Coded-set, coded_list, coded_ℕ}
 use Rattle.std.specs.Int.{w16, w32, from_be_bytes, to_be_bytes}
 use Rattle.sha2.specs.Sha256.{digest_bytes}
 
--- How many lanes there are. What another number changes besides, docs/CONTRIBUTING.md lists.
+-- The number of lanes. docs/CONTRIBUTING.md lists what else another number changes.
 abbrev pub lanes : ℕ
 lanes = 8
 
@@ -35,11 +35,11 @@ four_bytes bytes i =
 abbrev pub joined_word : ℕ → ℕ → ℕ
 joined_word x y = from_be_bytes w32 (drop 1 (to_be_bytes w32 x) ++ take 1 (to_be_bytes w32 y))
 
--- what a step of a chain hashes after the beginning that all steps of a key share: the number of the chain, that of the
--- step, and the value (RFC 8554 4.3)
+-- what a step hashes after the beginning that all steps of a key share: the chain's number, the step's, and the value
+-- (RFC 8554 4.3)
 abbrev pub step_bytes : ℕ → ℕ → List ℕ → List ℕ
 step_bytes chain at value = to_be_bytes w16 chain ++ at ∷ value
 
--- Which words or bytes a list has is a fact: two proofs of it are one.
+-- Two proofs that two lists are equal are one.
 pub words-prop : (words other : List ℕ) → IsProp (words ≡ other)
 words-prop words other = Coded-set (coded_list coded_ℕ) words other

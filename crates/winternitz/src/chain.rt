@@ -6,16 +6,16 @@ ghost use Rattle.winternitz.specs.Lanes.{lanes};
 
 use crate::lanes::LANES;
 
-/// One step along a chain, as a standard's hash takes it.
+/// One step along a chain: the standard's hash.
 pub trait Step {
-    // the next value, from the chain, the step's number and the value
+    // the next value, by the chain's number, the step's number and the value
     ghost step_of: { Self → ℕ → ℕ → List ℕ → List ℕ };
 
     /// The value after step `at` of a chain, from the value before it (RFC 8554 4.3, RFC 8391 3.1.2).
     fn step(&self, chain: u16, at: u8, value: &[u8; 32]) -> [u8; 32]
         ensures { result ≡ step_of self.now chain at value.now };
 
-    /// A step of a chain in each lane, each at its own place. A hash with lanes takes them together.
+    /// One step in each lane, each at its own place. A hash with lanes takes them together.
     fn step_in_lanes(
         &self,
         chains: &[u16; LANES],
@@ -32,8 +32,8 @@ pub trait Step {
         after
     }
 
-    /// So many steps of a chain in each lane, each from its own place. A hash with lanes can keep the values as words
-    /// until all steps are taken. The caller keeps the last places below 256.
+    /// `steps` steps in each lane, each from its own place. A hash with lanes can keep the values as words until the
+    /// last step. The caller keeps the places after them below 256.
     fn steps_in_lanes(
         &self,
         chains: &[u16; LANES],
@@ -66,7 +66,7 @@ pub fn climb<S: Step>(step: &S, chain: u16, from: u8, to: u8, value: &[u8; 32]) 
     value
 }
 
-/// The places of the chains of all lanes after as many steps of each. The caller keeps them below 256.
+/// The lanes' places after `taken` more steps. The caller keeps them below 256.
 pub fn added(from: &[u8; LANES], taken: u8) -> [u8; LANES]
     requires { (j : ℕ) → j < lanes → slice_index from.now j + taken < 256 }
     ensures { (j : ℕ) → j < lanes → slice_index result j ≡ slice_index from.now j + taken }

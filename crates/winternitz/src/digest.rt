@@ -11,21 +11,21 @@ ghost use Rattle.winternitz.specs.Digest.{checksum_of, first_digits, lacking_of,
 use arrayvec::ArrayVec;
 use typecodes::coef;
 
-/// The digits of a digest and its checksum: one for each chain, at most 265, as many as width 1 has.
+/// The digits of a digest and its checksum, one per chain: at most 265, for width 1.
 pub type Digits = ArrayVec<u8, 265>;
 
-/// The digits of a digest, and after them those of its checksum, each of `width` bits (RFC 8554 4.4,
-/// RFC 8391 3.1.5). The caller keeps the width in 1, 2, 4, 8.
+/// The digits of a digest, then its checksum's, each of `width` bits (RFC 8554 4.4, RFC 8391 3.1.5). The caller keeps
+/// the width 1, 2, 4 or 8.
 pub fn digits(width: u8, digest: &[u8; 32]) -> Digits
     requires { IsWidth width }
     // As the standard computes them.
     ensures computed { result.items ≡ digits_of width digest.now }
-    // What they are, and that no others are.
+    // What they are, and that no other list is.
     ensures digits { AreWinternitzDigits width digest.now result.items }
     ensures only { (others : List ℕ) → AreWinternitzDigits width digest.now others → others ≡ result.items }
     // Nothing of the checksum is lost.
     ensures whole { HasWholeChecksum width digest.now result.items }
-    // No other digest's digits are reached from them up the chains alone.
+    // No other digest has digits that are all at least as great.
     ensures apart { NoneAbove width digest.now result.items }
     ensures count { length result.items ≡ digit_count width }
     ensures below { (i : ℕ) → i < length result.items → slice_index result.items i < 2 ^ width }
@@ -37,7 +37,7 @@ pub fn digits(width: u8, digest: &[u8; 32]) -> Digits
     all
 }
 
-// Pushes the first digits of the bytes, `count` of them.
+// Pushes the first `count` digits of the bytes.
 fn push_digits(all: &mut Digits, width: u8, count: u32, bytes: &[u8])
     requires width { IsWidth width }
     requires inside { count * width ≤ length bytes.now * 8 }
@@ -50,7 +50,7 @@ fn push_digits(all: &mut Digits, width: u8, count: u32, bytes: &[u8])
     }
 }
 
-// How many digits the checksum has.
+// v of RFC 8554 Appendix B, len_2 of RFC 8391 3.1.1.
 fn checksum_count(width: u8) -> u8
     requires { IsWidth width }
     ensures { result ≡ spec.checksum_count width }
@@ -63,7 +63,7 @@ fn checksum_count(width: u8) -> u8
     }
 }
 
-// The checksum of a digest's digits, at the left end of its two bytes.
+// The checksum, shifted to the left end of its two bytes.
 fn checksum(width: u8, digits: &[u8]) -> [u8; 2]
     requires width { IsWidth width }
     requires count { length digits.now ≡ message_count width }
@@ -74,7 +74,7 @@ fn checksum(width: u8, digits: &[u8]) -> [u8; 2]
     (lacking(width, digits) << shift).to_be_bytes()
 }
 
-// What the digits lack to their greatest value, all together.
+// The checksum before shifting: the sum of 2^width - 1 - d over all digits d.
 fn lacking(width: u8, digits: &[u8]) -> u16
     requires width { width ≤ 8 }
     requires below { All (λ d. d < 2 ^ width) digits.now }

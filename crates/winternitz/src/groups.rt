@@ -9,13 +9,13 @@ use crate::chain::{Step, added, climb};
 use crate::lanes::LANES;
 use crate::shares::{Shares, Turn};
 
-/// The greatest number of chains of a key, as many as width 1 has.
+/// The most chains of a key: p for width 1.
 pub const MOST_CHAINS: usize = 265;
 
 /// A value for each chain of a key.
 pub type Values = [[u8; 32]; MOST_CHAINS];
 
-/// The values of chains after the steps 0, .., last - 1. The caller gives at most 265 values.
+/// Each value after the steps 0, .., last - 1 of its chain. The caller gives at most 265 values.
 pub fn climb_whole<S: Step>(step: &S, last: u8, values: &[[u8; 32]]) -> Values
     requires { length values.now ≤ 265 }
     ensures { (i : ℕ) → i < length values.now
@@ -24,8 +24,7 @@ pub fn climb_whole<S: Step>(step: &S, last: u8, values: &[[u8; 32]]) -> Values
     climb_each(step, &the_same(0), &the_same(last), values)
 }
 
-/// The values of chains after the steps 0, .., digit - 1, by a digit for each chain. The caller gives at most 265
-/// values, and a digit for each.
+/// Each value after the steps 0, .., digit - 1 of its chain. The caller gives at most 265 values, and a digit for each.
 pub fn climb_to<S: Step>(step: &S, digits: &[u8], values: &[[u8; 32]]) -> Values
     requires few { length values.now ≤ 265 }
     requires digits { length values.now ≤ length digits.now }
@@ -35,8 +34,8 @@ pub fn climb_to<S: Step>(step: &S, digits: &[u8], values: &[[u8; 32]]) -> Values
     climb_each(step, &the_same(0), digits, values)
 }
 
-/// The values of chains after the steps digit, .., last - 1, by a digit for each chain. The caller gives at most 265
-/// values, and a digit for each, at most `last`.
+/// Each value after the steps digit, .., last - 1 of its chain. The caller gives at most 265 values, and for each a
+/// digit of at most `last`.
 pub fn climb_from<S: Step>(step: &S, digits: &[u8], last: u8, values: &[[u8; 32]]) -> Values
     requires few { length values.now ≤ 265 }
     requires digits { length values.now ≤ length digits.now }
@@ -47,7 +46,7 @@ pub fn climb_from<S: Step>(step: &S, digits: &[u8], last: u8, values: &[[u8; 32]
     climb_each(step, digits, &the_same(last), values)
 }
 
-// The same place for each chain. It is a function of its own so that the long list stays out of its callers' goals.
+// For the prover: a function of its own, so that the long list stays out of its callers' goals.
 fn the_same(place: u8) -> [u8; MOST_CHAINS]
     ensures long { length result ≡ 265 }
     ensures each { (i : ℕ) → i < 265 → slice_index result i ≡ place }
@@ -55,8 +54,8 @@ fn the_same(place: u8) -> [u8; MOST_CHAINS]
     [place; MOST_CHAINS]
 }
 
-// Climbs each chain from its value by the steps from, .., to - 1 of its own: side by side as far as the lanes are
-// shared out among them, and what is left of each by itself.
+// Climbs each chain by its steps from, .., to - 1: side by side while the lanes share them, then the rest chain by
+// chain.
 pub(crate) fn climb_each<S: Step>(step: &S, from: &[u8], to: &[u8], values: &[[u8; 32]]) -> Values
     requires few { length values.now ≤ 265 }
     requires from { length values.now ≤ length from.now }
@@ -73,7 +72,7 @@ pub(crate) fn climb_each<S: Step>(step: &S, from: &[u8], to: &[u8], values: &[[u
     ends
 }
 
-// The places of the first chains, and 0 for the others.
+// The places of the given chains, padded with 0.
 fn places(from: &[u8]) -> [u8; MOST_CHAINS]
     requires { length from.now ≤ 265 }
     ensures long { length result ≡ 265 }
@@ -86,7 +85,7 @@ fn places(from: &[u8]) -> [u8; MOST_CHAINS]
     at
 }
 
-// The values of the first chains, and zeros for the others.
+// The values of the given chains, padded with zeros.
 fn starts(values: &[[u8; 32]]) -> Values
     requires { length values.now ≤ 265 }
     ensures { (i : ℕ) → i < length values.now → slice_index_or result i [] ≡ slice_index_or values.now i [] }
@@ -98,8 +97,8 @@ fn starts(values: &[[u8; 32]]) -> Values
     starts
 }
 
-// Climbs chains side by side, in turns, until every lane has taken its share. Which chains climb together, and how far,
-// decides the time that it takes, and not where they stand: each stays on its way.
+// Climbs chains side by side, turn by turn, until every lane has taken its share. Which chains climb together decides
+// only the time: each chain stays on its way, whatever is chosen.
 fn climb_together<S: Step>(step: &S, to: &[u8], at: &mut [u8; MOST_CHAINS], ends: &mut Values)
     requires few { length to.now ≤ 265 }
     requires order { (i : ℕ) → i < length to.now → slice_index at.old i ≤ slice_index to.now i }
@@ -116,7 +115,7 @@ fn climb_together<S: Step>(step: &S, to: &[u8], at: &mut [u8; MOST_CHAINS], ends
     }
 }
 
-// Climbs the chains of a turn by its steps, side by side.
+// Climbs a turn's chains by its steps, side by side.
 fn climb_by<S: Step>(
     step: &S,
     turn: &Turn,
@@ -141,7 +140,7 @@ fn climb_by<S: Step>(
     }
 }
 
-// Climbs what is left of each chain, by itself.
+// Climbs the rest of each chain, one chain after the other.
 fn climb_rest<S: Step>(step: &S, to: &[u8], at: &[u8; MOST_CHAINS], ends: &mut Values)
     requires few { length to.now ≤ 265 }
     requires order { (i : ℕ) → i < length to.now → slice_index at.now i ≤ slice_index to.now i }
@@ -153,7 +152,7 @@ fn climb_rest<S: Step>(step: &S, to: &[u8], at: &[u8; MOST_CHAINS], ends: &mut V
     }
 }
 
-// The bytes that stand at the places of the chains of all lanes.
+// The bytes at the places of the lanes' chains.
 fn bytes_of(bytes: &[u8], chains: &[u16; LANES]) -> [u8; LANES]
     requires { (j : ℕ) → j < lanes → slice_index chains.now j < length bytes.now }
     ensures { (j : ℕ) → j < lanes → slice_index result j ≡ slice_index bytes.now (slice_index chains.now j) }
@@ -165,7 +164,7 @@ fn bytes_of(bytes: &[u8], chains: &[u16; LANES]) -> [u8; LANES]
     picked
 }
 
-// The values that stand there.
+// The values at the places of the lanes' chains.
 fn values_of(values: &[[u8; 32]], chains: &[u16; LANES]) -> [[u8; 32]; LANES]
     requires { (j : ℕ) → j < lanes → slice_index chains.now j < length values.now }
     ensures { (j : ℕ) → j < lanes

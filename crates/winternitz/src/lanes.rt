@@ -1,4 +1,4 @@
-//! SHA-256 of blocks side by side, one in each lane of a vector. In each lane it is the SHA-256 of the library `sha2`.
+//! SHA-256 of blocks side by side, one per lane of a vector: in each lane, the SHA-256 of the library `sha2`.
 
 ghost use Rattle.std.specs.Prelude.{◌≡◌, ℕ, ◌+◌, ◌*◌, ◌<◌, ◌≤◌, ◌^◌, List, [], ◌∷◌, ◌++◌, length};
 ghost use Rattle.std.specs.Prelude.{slice_index, slice_index_or};
@@ -19,16 +19,16 @@ mod rounds;
 pub use crate::lanes::beginning::Beginning;
 pub use crate::lanes::long::sha256_in_lanes;
 
-/// How many blocks stand side by side. What another number changes besides, docs/CONTRIBUTING.md lists.
+/// The number of lanes. docs/CONTRIBUTING.md lists what else another number changes.
 pub const LANES: usize = 8;
 
-/// A word of each block.
+/// One word of each block.
 pub type Words = u32x8;
 
 /// A hash value in each lane.
 pub type States = [Words; 8];
 
-/// A hash value, the same in each lane.
+/// The same hash value in each lane.
 pub fn in_each(state: &[u32; 8]) -> States
     ensures { (j : ℕ) → j < lanes → lane_state result j ≡ state.now }
 {
@@ -63,7 +63,7 @@ pub fn initial() -> States
     in_each(&INITIAL)
 }
 
-/// The hash values after a block more in each lane (FIPS 180-4 6.2.2).
+/// The hash values after one more block in each lane (FIPS 180-4 6.2.2).
 pub fn compress(states: &States, blocks: &[[u8; 64]; LANES]) -> States
     ensures { (j : ℕ) → j < lanes
         → lane_state result j ≡ spec.compress (lane_state states.now j) (slice_index_or blocks.now j []) }
@@ -75,7 +75,7 @@ pub fn compress(states: &States, blocks: &[[u8; 64]; LANES]) -> States
     compress_words(states, &words)
 }
 
-// The words at byte i of the lists of bytes of all lanes.
+// The words at byte i of each lane's bytes.
 pub(crate) fn load<const N: usize>(bytes: &[[u8; N]; LANES], i: usize) -> Words
     requires { i + 4 ≤ N }
     ensures { (j : ℕ) → j < lanes → slice_index result j ≡ word_at (slice_index_or bytes.now j []) i }
@@ -87,7 +87,7 @@ pub(crate) fn load<const N: usize>(bytes: &[[u8; N]; LANES], i: usize) -> Words
     Words::from_array(words)
 }
 
-// The word at byte i (FIPS 180-4 5.2.1).
+// The big-endian word at byte i (FIPS 180-4 5.2.1).
 pub(crate) fn word(bytes: &[u8], i: usize) -> u32
     requires { i + 4 ≤ length bytes.now }
     ensures word { result ≡ word_at bytes.now i }
@@ -107,7 +107,6 @@ pub fn digests(states: &States) -> [[u8; 32]; LANES]
     digests
 }
 
-// The bytes of a hash value.
 fn digest(state: &[u32; 8]) -> [u8; 32]
     ensures { result ≡ digest_bytes state.now 8 }
 {
@@ -118,7 +117,7 @@ fn digest(state: &[u32; 8]) -> [u8; 32]
     bytes
 }
 
-/// The words of a value of 32 bytes in each lane.
+/// The words of each lane's value of 32 bytes.
 pub fn in_words(values: &[[u8; 32]; LANES]) -> States
     ensures { (j : ℕ) → j < lanes → value_in result j ≡ slice_index_or values.now j [] }
 {
@@ -138,7 +137,7 @@ pub fn in_words(values: &[[u8; 32]; LANES]) -> States
     ]
 }
 
-// The words of which bytes consist.
+// The big-endian words of the bytes.
 pub(crate) fn words_of<const B: usize, const N: usize>(bytes: &[u8; B]) -> [u32; N]
     requires { B ≡ 4 * N }
     ensures bytes { digest_bytes result N ≡ bytes.now }
@@ -163,7 +162,7 @@ pub(crate) fn side_by_side<const N: usize>(words: &[[u32; N]; LANES], k: usize) 
     Words::from_array(side_by_side)
 }
 
-/// SHA-256 of messages of 96 bytes, by the hash values after the first blocks and the last 32 bytes.
+/// SHA-256 of messages of 96 bytes, from the hash values after their first blocks, and their last 32 bytes.
 pub fn sha256_of_96(first: &States, last: &[[u8; 32]; LANES]) -> [[u8; 32]; LANES]
     ensures { (j : ℕ) → j < lanes → (block : List ℕ) → length block ≡ 64
         → lane_state first.now j ≡ spec.compress initial_hash_256 block
@@ -176,8 +175,9 @@ pub fn sha256_of_96(first: &States, last: &[[u8; 32]; LANES]) -> [[u8; 32]; LANE
     digests(&compress(first, &blocks))
 }
 
-// The second block of a message of 96 bytes, whose compression after the first gives the message's SHA-256. It is a
-// function apart from `padded_96` so that the long list of the block's bytes stays out of the goals about SHA-256.
+// The second block of a message of 96 bytes. Compressed after the first, it gives the message's SHA-256.
+//
+// For the prover: apart from `padded_96`, so that the block's long list of bytes stays out of goals about SHA-256.
 fn last_of_96(last: &[u8; 32]) -> [u8; 64]
     ensures { (block : List ℕ) → length block ≡ 64
         → digest_bytes (spec.compress (spec.compress initial_hash_256 block) result) 8 ≡ sha256 (block ++ last.now) }
@@ -196,7 +196,7 @@ fn padded_96(last: &[u8; 32]) -> [u8; 64]
     block
 }
 
-/// SHA-256 of messages of 128 bytes, by the hash values after the first blocks and the second ones.
+/// SHA-256 of messages of 128 bytes, from the hash values after their first blocks, and their second blocks.
 pub fn sha256_of_128(first: &States, second: &[[u8; 64]; LANES]) -> [[u8; 32]; LANES]
     ensures { (j : ℕ) → j < lanes → (block : List ℕ) → length block ≡ 64 → length (slice_index_or second.now j []) ≡ 64
         → lane_state first.now j ≡ spec.compress initial_hash_256 block
@@ -205,7 +205,7 @@ pub fn sha256_of_128(first: &States, second: &[[u8; 64]; LANES]) -> [[u8; 32]; L
     digests(&compress(&compress(first, second), &[padding_of_128(); LANES]))
 }
 
-// The padding of a message of 128 bytes, which is a block (FIPS 180-4 5.1.1).
+// The padding of a message of 128 bytes, a whole block (FIPS 180-4 5.1.1).
 fn padding_of_128() -> [u8; 64]
     ensures { result ≡ padding 128 }
 {

@@ -1,4 +1,4 @@
-//! A law of the standards' tables. The function does nothing: what its contract says is proved once.
+//! A law of the standards' tables. The function does nothing: its contract is proved once.
 
 ghost use Rattle.std.specs.Prelude.{◌≡◌, ◌+◌, ◌*◌};
 ghost use Rattle.typecodes.specs.declared.types.OtsType.{OtsType};
@@ -8,10 +8,10 @@ ghost use Rattle.winternitz.specs.Digest.{checksum_count, digit_count, message_c
 
 /// A leaf has a chain for each digit of its width.
 ///
-/// - p of each one-time type of LM-OTS (RFC 8554 4.1, table 1) is the number of its digits (`lm_ots`).
-/// - len of WOTS+, whose digits have 4 bits, is len_1 + len_2: the digits of a digest, and those of its checksum
-///   (`wots`; RFC 8391 3.1.1).
-/// - So is the number of the values in a signature of XMSS (`xmss`; RFC 8391 5.3).
+/// - p of each LM-OTS type is the number of its digits (`lm_ots`; RFC 8554 4.1, table 1).
+/// - len of WOTS+, whose digits have 4 bits, is len_1 + len_2: a digest's digits and its checksum's (`wots`; RFC 8391
+///   3.1.1).
+/// - A signature of XMSS has as many values (`xmss`; RFC 8391 5.3).
 pub fn chain_law()
     ensures lm_ots { (ots : OtsType) → chains_of ots ≡ digit_count (width_of ots) }
     ensures wots { wots_chains ≡ message_count 4 + checksum_count 4 }

@@ -39,7 +39,7 @@ impl PieceTaker for Hashing<'_> {
     ) };
 }
 
-/// Reads a message to its end and updates the hasher with each piece. Refused where the message can't be read.
+/// Reads a message to its end and updates the hasher with each piece. `Err` if the message can't be read.
 pub fn feed<M: Message>(hasher: &mut Sha256, message: &mut M) -> Result<(), MessageFailed>
     ensures ok { OnOk result (Feeds M.transition M.remaining Holds256 hasher.old hasher.new message.old message.new) }
     ensures err { OnErr result (CantBeRead M.transition message.old message.new) }
@@ -47,7 +47,7 @@ pub fn feed<M: Message>(hasher: &mut Sha256, message: &mut M) -> Result<(), Mess
     let mut hashing = Hashing { hasher };
     let answer = read_to_end(message, &mut hashing);
     let Hashing { hasher } = hashing;
-    // Only the proof needs this use: it tells what was hashed.
+    // For the prover: this use tells what was hashed.
     let _ = &*hasher;
     answer.map_err(|_| MessageFailed)
 }

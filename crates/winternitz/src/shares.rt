@@ -1,9 +1,8 @@
-//! How the chains of a key are shared out among the lanes.
+//! How the steps of a key's chains are shared out among the lanes.
 //!
-//! The steps of all chains are laid in a row, chain after chain, and each lane takes a part of it; all parts are of one
-//! length. So no lane waits for a longer chain of another one. A chain in which a part begins is climbed in two lanes:
-//! its first steps at the beginning of the later lane, and the others at the end of the earlier one, which comes to it
-//! only then.
+//! The steps of all chains are laid in a row, chain after chain, and each lane takes an equal part. So all lanes finish
+//! together. A chain that crosses a boundary is split: the later lane takes its first steps right away, the earlier
+//! lane takes the rest last.
 
 ghost use Rattle.std.specs.Prelude.{◌≡◌, ◌≤◌, ◌<◌, ◌+◌, ◌*◌, ℕ, true, IfSome, length, slice_index};
 ghost use Rattle.winternitz.specs.Groups.{IsWithin};
@@ -11,27 +10,27 @@ ghost use Rattle.winternitz.specs.Lanes.{lanes};
 
 use crate::lanes::LANES;
 
-/// The chains of all lanes, which climb together, and by how many steps.
+/// The chains that climb together, one per lane, and by how many steps.
 #[derive(Clone, Copy)]
 pub(crate) struct Turn {
     pub(crate) chains: [u16; LANES],
     pub(crate) steps: u8,
 }
 
-/// What each lane has still to do.
+/// What each lane still has to do.
 #[derive(Drop)]
 pub(crate) struct Shares {
-    // the chain at which each lane is
+    // each lane's current chain
     chains: [u16; LANES],
     // how many of its steps are this lane's
     own: [u8; LANES],
-    // how many steps each lane has still to take in all
+    // how many steps each lane still has to take
     left: usize,
 }
 
 impl Shares {
-    /// The parts of the row of chains, each of which has the steps from a place to its end. The caller gives at most
-    /// 265 chains, and a place for each.
+    /// Shares out the steps of chains, each from a place to its end. The caller gives at most 265 chains, and a place
+    /// for each.
     pub(crate) fn of(to: &[u8], at: &[u8]) -> Shares
         requires few { length to.now ≤ 265 }
         requires long { length to.now ≤ length at.now }
@@ -45,8 +44,8 @@ impl Shares {
         Shares { chains, own, left }
     }
 
-    /// The chains that climb together next, until a lane is at the end of its chain. None where every lane has taken
-    /// its part, or where a chain would stand in two lanes, as one that is longer than a part.
+    /// The chains that climb together next, until a lane's chain ends. `None` if every lane has taken its part, or if
+    /// two lanes would stand in one chain, as in one longer than a part.
     pub(crate) fn next_turn(&mut self, to: &[u8], at: &[u8]) -> Option<Turn>
         requires few { length to.now ≤ 265 }
         requires long { length to.now ≤ length at.now }
@@ -65,7 +64,7 @@ impl Shares {
         })
     }
 
-    // Each lane whose chain is at its end goes on to the next one.
+    // Moves each lane whose chain is at its end to the next chain.
     fn pass_ends(&mut self, to: &[u8], at: &[u8])
         requires few { length to.now ≤ 265 }
         requires long { length to.now ≤ length at.now }
@@ -95,7 +94,7 @@ impl Shares {
         steps
     }
 
-    // Each lane has taken so many steps.
+    // Counts steps that every lane has taken.
     fn take(&mut self, steps: u8)
         requires own { (j : ℕ) → j < lanes → steps ≤ slice_index self.old.own j }
         requires left { steps ≤ self.old.left }
@@ -108,7 +107,7 @@ impl Shares {
     }
 }
 
-// How many steps all chains have.
+// The steps of all chains.
 fn all_steps(to: &[u8], at: &[u8]) -> usize
     requires few { length to.now ≤ 265 }
     requires long { length to.now ≤ length at.now }
@@ -121,8 +120,8 @@ fn all_steps(to: &[u8], at: &[u8]) -> usize
     steps
 }
 
-// The chain in which a step of the row lies, counted from a chain on, and how many of the chain's steps there are from
-// this one on; past the row the number of chains and none.
+// The chain where step `nth` of the row lies, counted from chain `first`, and how many of its steps are left from
+// there. Past the row: the number of chains, and 0.
 fn step_at(nth: usize, first: usize, to: &[u8], at: &[u8]) -> (u16, u8)
     requires few { length to.now ≤ 265 }
     requires long { length to.now ≤ length at.now }
@@ -138,7 +137,7 @@ fn step_at(nth: usize, first: usize, to: &[u8], at: &[u8]) -> (u16, u8)
     (to.len() as u16, 0)
 }
 
-// Whether each lane has a chain after that of the lane before, and so one of its own, and all are below a count.
+// Whether the lanes' chains rise from lane to lane, so that no two are one, and are all below a count.
 fn are_apart(chains: &[u16; LANES], count: usize) -> bool
     ensures { result ≡ true → (j : ℕ) → j < lanes → slice_index chains.now j < count }
 {

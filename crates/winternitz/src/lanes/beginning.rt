@@ -1,4 +1,4 @@
-//! SHA-256 of messages of 55 bytes that begin alike from hash to hash, as the steps of a chain do (RFC 8554 4.3).
+//! SHA-256 of messages of 55 bytes that share their beginning, as the steps of a chain do (RFC 8554 4.3).
 
 ghost use Rattle.std.specs.Prelude.{◌≡◌, ℕ, ◌+◌, ◌-◌, ◌*◌, ◌<◌, ◌≤◌, ◌^◌, ◌∷◌, ◌++◌, [], length};
 ghost use Rattle.std.specs.Prelude.{slice_index, slice_index_or};
@@ -10,8 +10,8 @@ ghost use Rattle.winternitz.specs.Lanes.{joined_word, lane, lanes, lane_state, s
 use crate::lanes::rounds::{add, compress_from_five, constant, five_rounds, shifted, shifted_left};
 use crate::lanes::{LANES, States, Words, initial, side_by_side, words_of};
 
-/// What the messages of the lanes begin with, 20 bytes each. The rounds over these five words are made only once
-/// (FIPS 180-4 6.2.2).
+/// What the messages begin with in each lane, 20 bytes. The rounds over these five words are made only once (FIPS 180-4
+/// 6.2.2).
 #[derive(Clone, Copy)]
 pub struct Beginning {
     // The 20 bytes of each lane, as words.
@@ -38,7 +38,7 @@ pub struct Beginning {
 impl Beginning {
     ghost use Rattle.winternitz.specs.Beginning.{first_in};
 
-    /// What messages begin with in each lane.
+    /// The messages' beginning in each lane.
     pub fn new(first: &[[u8; 20]; LANES]) -> Beginning
         ensures { (j : ℕ) → j < lanes → first_in result j ≡ slice_index_or first.now j [] }
     {
@@ -62,8 +62,8 @@ impl Beginning {
         }
     }
 
-    /// SHA-256 of a message in each lane, which goes on with the numbers of a chain and of a step, two bytes and one,
-    /// and with a value. Values are given and made as the words of which they consist.
+    /// SHA-256 of a message in each lane: the beginning, the chain's number in two bytes, the step's number in one, and
+    /// a value. Values are given and returned as words.
     pub fn hash(&self, chains: &[u16; LANES], at: &[u8; LANES], values: &States) -> States
         ensures { (j : ℕ) → j < lanes → value_in result j ≡ sha256 (first_in self.now j
             ++ step_bytes (slice_index chains.now j) (slice_index at.now j) (value_in values.now j)) }
@@ -96,7 +96,7 @@ fn first_words(first: &[[u8; 20]; LANES]) -> [Words; 5]
     ]
 }
 
-// The numbers of chains and of steps, three bytes together.
+// A chain's number and a step's in one word, three bytes together.
 fn numbers(chains: &[u16; LANES], at: &[u8; LANES]) -> Words
     ensures { (j : ℕ) → j < lanes → slice_index result j ≡ slice_index chains.now j * 2 ^ 8 + slice_index at.now j }
 {
@@ -107,8 +107,8 @@ fn numbers(chains: &[u16; LANES], at: &[u8; LANES]) -> Words
     Words::from_array(numbers)
 }
 
-// The words of blocks: the first five, and those of a number of three bytes, a value, and the padding of a message of
-// 55 bytes (FIPS 180-4 5.1.1). The value's bytes stand three bytes behind the ends of words.
+// The words of blocks: the first five, then the numbers in three bytes, the value, and the padding of 55 bytes (FIPS
+// 180-4 5.1.1). The value begins at byte 23, so its words cross the block's.
 fn block_words(first: &[Words; 5], numbers: Words, values: &States) -> [Words; 16]
     ensures first { (j : ℕ) → j < lanes → (k : ℕ) → k < 5
         → slice_index (lane j result) k ≡ slice_index (lane j first.now) k }

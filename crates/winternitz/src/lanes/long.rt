@@ -1,4 +1,4 @@
-//! SHA-256 of messages of one length side by side, of any number of blocks.
+//! SHA-256 side by side of messages of one length, of any number of blocks.
 
 ghost use Rattle.std.specs.Prelude.{◌≡◌, ℕ, ◌+◌, ◌*◌, ◌<◌, ◌≤◌, ◌^◌, [], drop, length, slice_index_or, take};
 ghost use Rattle.sha2.specs.Sha256.{hash_after, initial_hash_256, padded_message, padding, sha256};
@@ -7,9 +7,9 @@ ghost use Rattle.winternitz.specs.Lanes.{lane_state, lanes};
 use crate::lanes::{LANES, States, compress, digests, initial};
 use typecodes::put;
 
-/// SHA-256 of messages of one length side by side, one in each lane. Each stands at the beginning of its bytes, behind
-/// which there is room for the padding (FIPS 180-4 5.1.1), which is written there: what the bytes hold afterwards isn't
-/// promised. The caller keeps 72 bytes of room behind the messages. Messages and their room have less than 2^32 bytes.
+/// SHA-256 side by side of messages of one length. Each stands at the start of its bytes, and its padding is written
+/// behind it (FIPS 180-4 5.1.1); what the bytes hold afterwards isn't promised. The caller keeps 72 bytes of room
+/// behind the messages. Messages and room have less than 2^32 bytes.
 pub fn sha256_in_lanes<const N: usize>(
     messages: &mut [[u8; N]; LANES],
     length: usize,
@@ -23,7 +23,7 @@ pub fn sha256_in_lanes<const N: usize>(
     digests(&hash_blocks(messages, end / 64))
 }
 
-// Writes the padding behind each message, which ends at `end`, and gives the end of the padding.
+// Pads each message, which ends at `end`, and returns the end of the padding.
 fn pad<const N: usize>(messages: &mut [[u8; N]; LANES], end: usize) -> usize
     requires room { end + 72 ≤ N }
     requires short { N < 2 ^ 32 }
@@ -40,7 +40,7 @@ fn pad<const N: usize>(messages: &mut [[u8; N]; LANES], end: usize) -> usize
     end + count
 }
 
-// The padding of a message that ends at `end`, and how many bytes of it there are (FIPS 180-4 5.1.1).
+// The padding of a message that ends at `end`, and its length (FIPS 180-4 5.1.1).
 fn padding_of(end: usize) -> ([u8; 72], usize)
     requires { end < 2 ^ 32 }
     ensures bytes { take result.1 result.0 ≡ padding end }
@@ -53,7 +53,7 @@ fn padding_of(end: usize) -> ([u8; 72], usize)
     (bytes, count)
 }
 
-// Writes the padding of a message that ends at `end` behind it.
+// Writes the padding behind a message that ends at `end`.
 fn put_padding<const N: usize>(message: &mut [u8; N], end: usize, bytes: &[u8])
     requires room { end + length bytes.now ≤ N }
     requires bytes { bytes.now ≡ padding end }
@@ -63,7 +63,7 @@ fn put_padding<const N: usize>(message: &mut [u8; N], end: usize, bytes: &[u8])
     put(message, end, bytes);
 }
 
-// The hash values after the first blocks of each message (FIPS 180-4 6.2.2).
+// The hash values after the first `count` blocks of each message (FIPS 180-4 6.2.2).
 fn hash_blocks<const N: usize>(messages: &[[u8; N]; LANES], count: usize) -> States
     requires { count * 64 ≤ N }
     ensures { (j : ℕ) → j < lanes
@@ -89,7 +89,6 @@ fn blocks_at<const N: usize>(messages: &[[u8; N]; LANES], k: usize) -> [[u8; 64]
     blocks
 }
 
-// Block k of a message.
 fn block_at<const N: usize>(message: &[u8; N], k: usize) -> [u8; 64]
     requires { (k + 1) * 64 ≤ N }
     ensures { result ≡ take 64 (drop (k * 64) message.now) }

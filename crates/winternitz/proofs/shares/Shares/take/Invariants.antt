@@ -1,4 +1,4 @@
--- The lanes to come have as many steps.
+-- The later lanes still have at least this many steps.
 use Rattle.std.proofs.Common.{◌≡◌, ℕ, ◌≤◌, ◌<◌, length, slice_index}
 use Rattle.winternitz.specs.Lanes.{lanes}
 use Rattle.winternitz.proofs.shares.Shares.take.Given as goal
