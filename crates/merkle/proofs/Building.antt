@@ -18,7 +18,7 @@ node_children leaf join h j above =
     let e : h ≡ h - 1 + 1 = omega arith in
     ap (λ h. node leaf join h j) e ∙ node_more leaf join (h - 1) j
 
--- a tree has twice the leaves of one that is a height lower
+-- a tree has twice the leaves of one a height lower
 pub leaves_twice : (h : ℕ) → 0 < h → 2 ^ h ≡ 2 ^ (h - 1) + 2 ^ (h - 1)
 leaves_twice h above =
     let e : h ≡ h - 1 + 1 = omega arith in
@@ -30,12 +30,12 @@ children_inside h j above within inside =
     let e : 25 - (h - 1) ≡ 25 - h + 1 = omega arith in
     rw e (let p = pow_more 2 (25 - h) in omega arith)
 
--- a leaf of a tree of height h is one of a tree of height 25
+-- a leaf of a tree of height h is within a tree of height 25
 pub leaf_inside : (h q : ℕ) → h ≤ 25 → q < 2 ^ h → q < 2 ^ 25
 leaf_inside h q within inside =
     let wider : 2 ^ h ≤ 2 ^ 25 = pow-le-pow_right (omega arith) within in omega arith
 
--- below an even bound the sibling is too
+-- below an even bound the sibling is below it, too
 pub sibling_below : (i n : ℕ) → i < 2 * n → sibling i < 2 * n
 sibling_below i n below = grind arith
 
@@ -55,6 +55,6 @@ pub over_inside : (h q k i : ℕ) → h ≤ 25 → q < 2 ^ h → i ≡ q / 2 ^ k
 over_inside h q k i within inside index_over =
     omega (arith, leaf_inside h q within inside, div-le_self q (2 ^ k))
 
--- the leaves that the first k nodes of a path stand on
+-- the leaves under the first k nodes of a path
 pub path_leaves_more : (k : ℕ) → 2 ^ k - 1 + 2 ^ k ≡ 2 ^ (k + 1) - 1
 path_leaves_more k = let p = pow_more 2 k in let some = pow_pos k in omega arith

@@ -1,4 +1,4 @@
--- The nodes above a leaf, one height at a time, and that every ascent is the list of them.
+-- The nodes above a leaf, height by height; every ascent is the list of them.
 use Rattle.std.proofs.Common.{◌≡◌, ℕ, zero, suc, ◌+◌, ◌<◌, ◌≤◌, ◌/◌, ◌%◌, ◌^◌, List, [], length, sym, refl, ap, ◌∙◌, arith, add-one}
 use Rattle.std.specs.Prelude.{◌==◌, map, if◌then◌else◌}
 use Rattle.std.specs.List.{range_with_len}
@@ -59,7 +59,7 @@ climb_end join q leaf path k node climbed_to within past =
     let all : k ≡ length path = omega arith in
     climbed_to ∙ ap (climbed join q leaf path) all
 
--- each ascent is at k the node climbed to
+-- node k of each ascent is the node climbed to at k
 pub ascent_at : (join : Joins) (q : ℕ) (leaf : List ℕ) (path nodes : List (List ℕ)) (k : ℕ)
     → IsAscent join q leaf path nodes → k ≤ length path → at nodes k ≡ climbed join q leaf path k
 ascent_at join q leaf path nodes zero ascent below = ascent.first ∙ sym (climbed-zero join q leaf path)
@@ -80,7 +80,7 @@ pub climbed_nodes_count : (join : Joins) (q : ℕ) (leaf : List ℕ) (path : Lis
 unfolding climbed_nodes
 climbed_nodes_count join q leaf path = length-map-range_with_len (climbed join q leaf path) 0 (length path + 1)
 
--- the node at k of that list
+-- node k of that list
 pub climbed_nodes_at : (join : Joins) (q : ℕ) (leaf : List ℕ) (path : List (List ℕ)) (k : ℕ)
     → k < length path + 1 → at (climbed_nodes join q leaf path) k ≡ climbed join q leaf path k
 unfolding climbed_nodes

@@ -1,4 +1,4 @@
--- The leaves under a node are those under its left child, and then those under its right one.
+-- The leaves under a node: first its left child's, then its right child's.
 use Rattle.std.proofs.Common.{◌≡◌, ℕ, ◌+◌, ◌-◌, ◌*◌, ◌<◌, ◌/◌, ◌^◌, List, [], length, ap, ◌∙◌, arith}
 use Rattle.std.specs.Prelude.{slice_index_or, take, drop}
 use Rattle.std.proofs.lemmas.List.{get_or-take, get_or-drop, length-take-le, length-drop}
@@ -7,7 +7,7 @@ use Rattle.merkle.specs.Lanes.{lanes, lanes_height}
 use Rattle.merkle.specs.Nodes.{AreUnder}
 use Rattle.merkle.proofs.Building.{leaves_twice}
 
--- how many each half has
+-- how many leaves each half has
 pub first_count : (h n : ℕ) (leaves : List (List ℕ)) → 0 < h → length leaves ≡ 2 ^ h → n ≡ length leaves / 2
     → length (take n leaves) ≡ 2 ^ (h - 1)
 first_count h n leaves above count half =
@@ -31,7 +31,7 @@ first_under leaf h j n leaves above count half under = λ k low.
     let place : 2 ^ h * j + k ≡ 2 ^ (h - 1) * (2 * j) + k = omega arith in
     get_or-take n leaves k [] (omega arith) ∙ under k (omega arith) ∙ ap leaf place
 
--- those of the right half
+-- the leaves of the right half
 pub second_under : (leaf : Leaves) (h j n : ℕ) (leaves : List (List ℕ)) → 0 < h → length leaves ≡ 2 ^ h → n ≡ length leaves / 2
     → AreUnder leaf h j leaves → AreUnder leaf (h - 1) (2 * j + 1) (take (length leaves - n) (drop n leaves))
 second_under leaf h j n leaves above count half under = λ k low.
@@ -42,7 +42,7 @@ second_under leaf h j n leaves above count half under = λ k low.
     get_or-take (length leaves - n) (drop n leaves) k [] (omega arith) ∙ get_or-drop n leaves k [] ∙ under (n + k) (omega arith)
     ∙ ap leaf place
 
--- as many leaves as there are lanes, from the first one under a node that stands over so many
+-- the leaves of all lanes, from the first one under a node of the lanes' height
 pub under_lanes : (leaf : Leaves) (h j : ℕ) (leaves : List (List ℕ)) → h ≡ lanes_height
     → ((k : ℕ) → k < lanes → slice_index_or leaves k [] ≡ leaf (lanes * j + k)) → AreUnder leaf h j leaves
 under_lanes leaf h j leaves height are = λ k low.

@@ -11,7 +11,7 @@ use Rattle.merkle.specs.Nodes.{path_from}
 use Rattle.merkle.specs.Cache.{View, KeepsNodes, block_height, block_nodes, upper_nodes}
 use Rattle.merkle.proofs.Listing.{nodes_count, nodes_last}
 
--- the upper tree and a block are all that is kept, and no more nodes than may be
+-- the upper tree and one block are all that is kept, and no more nodes than the bound
 pub keeps_both : {T : Type 0} (leaf : Leaves) (join : Joins) (height index : ℕ) (cache : View T)
     → cache.height ≡ height → cache.kept ≡ index
     → cache.upper ≡ upper_nodes leaf join height → cache.block ≡ block_nodes leaf join height index
@@ -37,7 +37,7 @@ block_inside height index within inside =
     = pow-le-pow_right (omega arith) (omega arith) in
     omega arith
 
--- the index of a leaf's block is that of one of the tree's blocks
+-- the index of a leaf's block is a block's
 pub index_inside : (height q : ℕ) → q < 2 ^ height → q / 2 ^ block_height height < 2 ^ (height - block_height height)
 index_inside height q inside =
     let b = block_height height in
@@ -45,7 +45,7 @@ index_inside height q inside =
     = sym (pow-add 2 (height - b) b) ∙ (let e : height - b + b ≡ height = omega arith in ap (λ n. 2 ^ n) e) in
     (div-lt_iff_lt-mul (pow_pos b)).1 (omega (arith, all))
 
--- a cache that keeps a block already
+-- a cache that already keeps the block
 pub kept_already : {T : Type 0} (leaf_of : T → Leaves) (join_of : T → Joins) (inner cache : View T) (index : ℕ)
     → inner ≡ cache
     → index ≡ inner.kept
@@ -58,7 +58,7 @@ kept_already {T} leaf_of join_of inner cache index same is upper block =
     (keeps_both (leaf_of inner.tree) (join_of inner.tree) inner.height index inner refl (sym is) upper
     (block ∙ ap (block_nodes (leaf_of inner.tree) (join_of inner.tree) inner.height) (sym is)))
 
--- a cache with another block in the place of the one that it kept
+-- a cache that keeps another block instead
 pub kept_now : {T : Type 0} (leaf_of : T → Leaves) (join_of : T → Joins) (inner cache after : View T) (index : ℕ)
     → inner ≡ cache
     → after.height ≡ inner.height → after.upper ≡ inner.upper → after.kept ≡ index
@@ -83,7 +83,7 @@ pub upper_count : (leaf : Leaves) (join : Joins) (height : ℕ) (nodes : List (L
 upper_count leaf join height nodes are =
     ap (λ xs. length xs + 1) are ∙ nodes_count leaf join (block_height height) (height - block_height height) 0
 
--- from the leaves up it is the path
+-- a path that begins at the leaves is the path
 from_lowest : (leaf : Leaves) (join : Joins) (depth q : ℕ) → path_of leaf join depth q ≡ path_from leaf join 0 depth q
 from_lowest leaf join zero q = refl
 from_lowest leaf join (suc depth) q =
@@ -97,7 +97,7 @@ from_lowest leaf join (suc depth) q =
     ∙ sym (map-range_with_len_more g 0 depth depth (omega arith))
     ∙ ap (λ d. path_from leaf join 0 d q) (add-one depth)
 
--- a path is its part up to a height, and the part from there
+-- a path up to a height, and from there on
 path_parts : (leaf : Leaves) (join : Joins) (base depth q : ℕ)
     → path_of leaf join (base + depth) q ≡ path_from leaf join 0 base q ++ path_from leaf join base depth (q / 2 ^ base)
 path_parts leaf join base zero q =
@@ -135,14 +135,14 @@ whole_path leaf join height q index lower upper lower_is upper_is is =
     ∙ sym (path_parts leaf join b (height - b) q)
     ∙ ap (λ h. path_of leaf join h q) all
 
--- it isn't empty
+-- the upper tree isn't empty
 pub upper_some : (leaf : Leaves) (join : Joins) (height : ℕ) (nodes : List (List ℕ))
     → nodes ≡ upper_nodes leaf join height → 1 ≤ length nodes
 upper_some leaf join height nodes are =
     let depth = height - block_height height in
     omega (arith, upper_count leaf join height nodes are, pow_more 2 depth, pow_pos depth)
 
--- its last node is the root
+-- the upper tree's last node is the root
 pub upper_last : (leaf : Leaves) (join : Joins) (height n : ℕ) (nodes : List (List ℕ)) (other : List ℕ)
     → nodes ≡ upper_nodes leaf join height → n + 1 ≡ length nodes
     → slice_index_or nodes n other ≡ root_of leaf join height

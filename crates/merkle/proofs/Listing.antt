@@ -91,7 +91,7 @@ one_written [] x one = absurd (omega arith)
 one_written (y ∷ []) x one = refl
 one_written (y ∷ (z ∷ zs)) x one = absurd (omega arith)
 
--- half of a list of nodes that isn't one alone is as long as the lists of both halves, which aren't empty
+-- half of a list of more than one node is as long as each child's list, which isn't empty
 pub half_long : (n depth : ℕ) → n + 1 ≡ 2 ^ (depth + 1) → 0 < depth → n / 2 + 1 ≡ 2 ^ depth
 half_long n depth all above = let p = pow_more 2 depth in omega arith
 
@@ -106,7 +106,7 @@ half_some n depth all above =
     let some = pow_pos (depth - 1) in
     omega arith
 
--- as many leaves stand below a node as below both of its children
+-- a node has as many leaves as its children together
 pub leaves_below : (base depth : ℕ) → 0 < depth
     → 2 ^ (base + depth) ≡ 2 ^ (base + (depth - 1)) + 2 ^ (base + (depth - 1))
 leaves_below base depth above =

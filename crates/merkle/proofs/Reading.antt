@@ -67,7 +67,7 @@ under_second i depth j p above under power other =
     = λ over halved not_first. omega arith in
     other_half (i / 2 ^ (depth - 1)) (sym (over_both i depth above) ∙ under) (λ e. other (ap (λ n. i / n) power ∙ e))
 
--- where the index is even, a node's half is the first one, and its sibling's the second
+-- where the index is even, a node is under the first half, and its sibling under the second
 pub even_first : (i depth over : ℕ) → 0 < depth → over ≡ i / 2 ^ (depth - 1) → over % 2 ≡ 0 → 2 * (i / 2 ^ depth) ≡ over
 even_first i depth over above is even =
     let halved : i / 2 ^ depth ≡ over / 2 = over_both i depth above ∙ ap (λ n. n / 2) (sym is) in omega arith
@@ -114,7 +114,7 @@ path_more leaf join base depth i n other lower into above long last other_is low
     ∙ sym (map-range_with_len_more f 0 d d (omega arith))
     ∙ ap (λ k. path_from leaf join base k i) e
 
--- what is said of a list's length, said of a number that it is
+-- what is said of a list's length, said of a number equal to it
 pub read_below : (leaf : Leaves) (join : Joins) (base n depth i : ℕ) (half lower : List (List ℕ)) → n ≡ depth
     → (half ≡ nodes_under leaf join base n (i / 2 ^ n) → lower ≡ path_from leaf join base n i)
     → half ≡ nodes_under leaf join base depth (i / 2 ^ depth)

@@ -6,8 +6,8 @@ use Rattle.merkle.specs.Tree.{Joins}
 abbrev pub at : List (List ℕ) → ℕ → List ℕ
 at nodes k = slice_index_or nodes k []
 
--- The nodes above a leaf, the leaf first: each next one is the join of the node before with the
--- path's, the node before on the right exactly where bit k of q is 1.
+-- The nodes above a leaf, the leaf first. Node k is joined with the path's node k, and is the right child exactly where
+-- bit k of q is 1.
 pub record IsAscent (join : Joins) (q : ℕ) (leaf : List ℕ) (path nodes : List (List ℕ)) : Type 0 where
   pub count : length nodes ≡ length path + 1
   pub first : at nodes 0 ≡ leaf
@@ -16,7 +16,7 @@ pub record IsAscent (join : Joins) (q : ℕ) (leaf : List ℕ) (path nodes : Lis
       then join k (q / 2 ^ (k + 1)) (at path k) (at nodes k)
       else join k (q / 2 ^ (k + 1)) (at nodes k) (at path k))
 
--- The node to which a path leads from a leaf: the last of the nodes above the leaf, of the path's height.
+-- The node to which a path leads from a leaf: the last node above the leaf, as high as the path is long.
 pub record PathLeadsTo (join : Joins) (q : ℕ) (leaf : List ℕ) (path : List (List ℕ)) (node : List ℕ) : Type 0 where
   pub nodes : List (List ℕ)
   pub ascent : IsAscent join q leaf path nodes

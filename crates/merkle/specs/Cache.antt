@@ -3,8 +3,7 @@ use Rattle.std.specs.Prelude.{◌≡◌, ℕ, ◌+◌, ◌-◌, ◌/◌, ◌<◌
 use Rattle.merkle.specs.Tree.{Leaves, Joins}
 use Rattle.merkle.specs.Nodes.{nodes_under}
 
--- What a cache is to its callers: its tree with the tree's height, all nodes that it keeps, in two lists, and the index
--- of the block that is kept.
+-- What callers see of a cache: the tree, its height, the kept nodes in two lists, and the index of the kept block.
 pub record View (T : Type 0) : Type 0 where
   pub tree : T
   pub height : ℕ
@@ -12,7 +11,7 @@ pub record View (T : Type 0) : Type 0 where
   pub block : List (List ℕ)
   pub kept : ℕ
 
--- one with these parts
+-- the view with these parts
 abbrev pub view_of : {T : Type 0} → T → ℕ → List (List ℕ) → List (List ℕ) → ℕ → View T
 view_of tree height upper block kept = record {
   tree = tree;
@@ -22,7 +21,7 @@ view_of tree height upper block kept = record {
   kept = kept;
 }
 
--- the height of a block's root in a tree
+-- the height of a block's root
 abbrev pub block_height : ℕ → ℕ
 block_height height = height / 2
 
@@ -34,7 +33,7 @@ upper_nodes leaf join height = nodes_under leaf join (block_height height) (heig
 abbrev pub block_nodes : Leaves → Joins → ℕ → ℕ → List (List ℕ)
 block_nodes leaf join height index = nodes_under leaf join 0 (block_height height) index
 
--- A cache keeps the upper tree and the block of this index, and no more.
+-- A cache keeps the upper tree and this block, and no more.
 pub record KeepsNodes {T : Type 0} (leaf : Leaves) (join : Joins) (height index : ℕ) (cache : View T) : Type 0 where
   pub same_height : cache.height ≡ height
   pub same_index : cache.kept ≡ index
@@ -43,7 +42,7 @@ pub record KeepsNodes {T : Type 0} (leaf : Leaves) (join : Joins) (height index 
   pub most : length cache.upper + length cache.block
       ≤ 2 ^ (height - block_height height + 1) + 2 ^ (block_height height + 1) - 2
 
--- what holds of every cache, whose tree has made so many leaves, of which it counts so many
+-- what holds of every cache: `made` leaves were made, and it counts `counted` of them
 pub record IsCache {T : Type 0} (leaf : Leaves) (join : Joins) (made counted : ℕ) (cache : View T) : Type 0 where
   pub within : cache.height ≤ 25
   pub inside : cache.kept < 2 ^ (cache.height - block_height cache.height)

@@ -1,20 +1,19 @@
--- The nodes of a part of a tree, listed as they are made (RFC 8391 4.1.6), and an authentication path's nodes in it.
+-- The nodes of a part of a tree, listed as they are made (RFC 8391 4.1.6), and an authentication path in this list.
 use Rattle.std.specs.Prelude.{◌≡◌, ℕ, zero, suc, ◌+◌, ◌*◌, ◌/◌, ◌<◌, ◌^◌, List, [], ◌∷◌, ◌++◌, map, slice_index_or}
 use Rattle.std.specs.List.{range_with_len}
 use Rattle.merkle.specs.Tree.{Leaves, Joins, node, sibling}
 
--- the nodes from node j of height base + depth down to those of height base: all of its left child, all of its right
--- child, then itself
+-- the nodes from node j of height base + depth down to height base: its left child's, its right child's, then itself
 unfoldable pub nodes_under : Leaves → Joins → ℕ → ℕ → ℕ → List (List ℕ)
 nodes_under leaf join base zero j = node leaf join base j ∷ []
 nodes_under leaf join base (suc depth) j =
     nodes_under leaf join base depth (2 * j)
     ++ (nodes_under leaf join base depth (2 * j + 1) ++ node leaf join (base + suc depth) j ∷ [])
 
--- the siblings of node i of height base and of the nodes over it, at `depth` heights
+-- the siblings of node i of height base and of the nodes over it, `depth` heights
 abbrev pub path_from : Leaves → Joins → ℕ → ℕ → ℕ → List (List ℕ)
 path_from leaf join base depth i = map (λ k. node leaf join (base + k) (sibling (i / 2 ^ k))) (range_with_len 0 depth)
 
--- these are the leaves under node j of height h
+-- the leaves under node j of height h
 abbrev pub AreUnder : Leaves → ℕ → ℕ → List (List ℕ) → Type 0
 AreUnder leaf h j leaves = (k : ℕ) → k < 2 ^ h → slice_index_or leaves k [] ≡ leaf (2 ^ h * j + k)

@@ -6,7 +6,7 @@ use Rattle.std.specs.List.{range_with_len}
 abbrev pub Leaves : Type 0
 Leaves = ℕ → List ℕ
 
--- a node from its two children, by the children's height and the node's index among those of its height
+-- a node from its two children, by their height and the node's index at its own height
 abbrev pub Joins : Type 0
 Joins = ℕ → ℕ → List ℕ → List ℕ → List ℕ
 
@@ -19,7 +19,7 @@ node leaf join (suc k) j = join k j (node leaf join k (2 * j)) (node leaf join k
 abbrev pub root_of : Leaves → Joins → ℕ → List ℕ
 root_of leaf join h = node leaf join h 0
 
--- the index with its last bit turned
+-- the index with its last bit flipped
 abbrev pub sibling : ℕ → ℕ
 sibling j = if j % 2 == 0 then j + 1 else j - 1
 

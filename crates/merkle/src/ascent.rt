@@ -6,8 +6,8 @@ ghost use Rattle.merkle.specs.Tree.{path_of, root_of};
 
 use crate::tree::NodeHash;
 
-/// The node to which an authentication path leads leaf q (RFC 8554 5.4.2, RFC 8391 4.1.10): the root, where the
-/// path is q's in its tree. The caller keeps the path at most 25 long and q below `2^(path.len())`.
+/// The node to which an authentication path leads leaf q (RFC 8554 5.4.2, RFC 8391 4.1.10). It is the root if the path
+/// is q's. The caller keeps the path at most 25 long and q below `2^(path.len())`.
 pub fn root_from_path<T: NodeHash>(tree: &T, q: u32, leaf: &[u8; 32], path: &[[u8; 32]]) -> [u8; 32]
     requires height { length path.now ≤ 25 }
     requires inside { q < 2 ^ length path.now }

@@ -1,4 +1,4 @@
-//! A tree that is made once, of which enough nodes are kept that a path costs few leaves.
+//! A tree that is made once. Enough of its nodes are kept that a path costs few leaves.
 
 ghost use Rattle.std.specs.Prelude.{◌≡◌, ◌==◌, ◌≤◌, ◌<◌, ◌+◌, ◌-◌, ◌/◌, ◌^◌, IfOk, length, min, vec_len};
 ghost use Rattle.std.specs.Prelude.{if◌then◌else◌};
@@ -12,19 +12,20 @@ use crate::tree::TreeHash;
 use std::alloc::Global;
 use std::marker::Model;
 
-/// A tree with its root and some of its nodes, so that paths cost few leaves. A block is the `2^b` leaves, and all
-/// nodes, under a node of height b, which is half of the tree's height, rounded down. Kept are the nodes from the
-/// blocks' roots upwards and one block, `2^(height - b + 1) + 2^(b + 1) - 2` nodes of 32 bytes in all. Its memory is
-/// taken when it is made, by `new` or `for_leaf`, and no other call takes any.
+/// A tree with its root and some of its nodes, so that paths cost few leaves.
+///
+/// Let b be half of the tree's height, rounded down. A block is a node of height b with all nodes and the `2^b` leaves
+/// under it. Kept are the nodes from height b upwards, and one block: `2^(height - b + 1) + 2^(b + 1) - 2` nodes of 32
+/// bytes. Only `new` and `for_leaf` take memory.
 #[derive(Drop)]
 pub struct PathCache<T: TreeHash> {
     tree: T,
     height: u8,
     upper: Vec<[u8; 32]>,
     block: Vec<[u8; 32]>,
-    // Which block is kept, from the left.
+    // The index of the kept block, from the left.
     kept: u32,
-    // How many leaves the tree has made, as far as a u64 goes.
+    // How many leaves the tree has made, or the greatest u64.
     leaves: u64,
 }
 
@@ -40,9 +41,9 @@ impl<T: TreeHash> Model for PathCache<T> {
 }
 
 impl<T: TreeHash> PathCache<T> {
-    /// The cache of a tree that has made no leaf. Each of its leaves is made, once, and the first block is kept. The
-    /// caller keeps the height at most 25. Where memory is refused it refuses, and lets the tree go. That it refuses
-    /// only there is tested (`tests::trees::memory` of `crates/scheme_tests`), and no clause says it.
+    /// The cache of a tree that has made no leaf. Each leaf is made once, and the first block is kept. The caller keeps
+    /// the height at most 25. `Err` if memory is refused; the tree is dropped then. That nothing else is refused is
+    /// tested (`tests::trees::memory` of `crates/scheme_tests`), and no clause says it.
     pub fn new(alloc: Global, tree: T, height: u8) -> Result<PathCache<T>, OutOfMemory>
     where
         T: Drop,
@@ -56,8 +57,8 @@ impl<T: TreeHash> PathCache<T> {
         Self::for_leaf(alloc, tree, height, 0)
     }
 
-    /// As `new`, but the block of leaf `q` is kept in place of the first one: a path of one of its leaves then makes
-    /// none. Each leaf of the tree is made once, as by `new`. The caller keeps q below `2^height`.
+    /// As `new`, but keeps the block of leaf `q`: a path of a leaf in it then makes no leaf. The caller keeps q below
+    /// `2^height`.
     pub fn for_leaf(alloc: Global, tree: T, height: u8, q: u32) -> Result<PathCache<T>, OutOfMemory>
     where
         T: Drop,
@@ -73,7 +74,7 @@ impl<T: TreeHash> PathCache<T> {
         Self::for_leaf_telling(alloc, tree, height, q, Silent::new())
     }
 
-    /// As `for_leaf`, and a `Progress` is told of the leaves while they are made. Where memory is refused it is told of
+    /// As `for_leaf`, and tells a `Progress` of the leaves while they are made. If memory is refused, it is told of
     /// none.
     pub fn for_leaf_telling<P: Progress + Drop>(
         alloc: Global,
@@ -119,14 +120,14 @@ impl<T: TreeHash> PathCache<T> {
         })
     }
 
-    /// The authentication path of leaf q (RFC 8554 5.4, RFC 8391 4.1.9), the leaf's sibling first. The caller keeps q
-    /// below `2^height`, and `into` as long as the tree is high. Where q's block isn't kept, its leaves are made and it
-    /// is kept from then on.
+    /// The authentication path of leaf q (RFC 8554 5.4, RFC 8391 4.1.9), the leaf's sibling first. If q's block isn't
+    /// kept, its leaves are made, and it is kept from then on. The caller keeps q below `2^height`, and `into` as long
+    /// as the tree is high.
     pub fn path_at(&mut self, q: u32, into: &mut [[u8; 32]])
         requires inside { q < 2 ^ self.old.height }
         requires room { length into.old ≡ self.old.height }
         ensures value { into.new ≡ path_of (T.leaf_of self.old.tree) (T.join_of self.old.tree) self.old.height q }
-        // The leaves of a block that isn't kept, and no others.
+        // The leaves of a block are made if it isn't kept, and no others.
         ensures counted { let index = q / 2 ^ block_height self.old.height in
             T.made self.new.tree
             ≡ T.made self.old.tree + (if index == self.old.kept then 0 else 2 ^ block_height self.old.height) }
@@ -143,7 +144,7 @@ impl<T: TreeHash> PathCache<T> {
         read_path(&self.upper, index, upper);
     }
 
-    // Makes a block, unless it is kept.
+    // Makes and keeps a block, unless it is the kept one.
     fn keep(&mut self, index: u32)
         requires { index < 2 ^ (self.old.height - block_height self.old.height) }
         ensures counted { T.made self.new.tree
@@ -169,7 +170,7 @@ impl<T: TreeHash> PathCache<T> {
         self.upper[self.upper.len() - 1]
     }
 
-    /// How many leaves the tree has made since it was new, or the greatest u64 where that is passed.
+    /// How many leaves the tree has made since it was new, or the greatest u64.
     pub fn leaves_made(&self) -> u64
         ensures { result ≡ min (T.made self.now.tree) (2 ^ 64 - 1) }
     {
@@ -177,7 +178,7 @@ impl<T: TreeHash> PathCache<T> {
     }
 }
 
-// Which block leaf q stands in, from the left.
+// The block of leaf q, from the left.
 fn block_of(height: u8, q: u32) -> u32
     requires height { height ≤ 25 }
     requires inside { q < 2 ^ height }
@@ -187,7 +188,7 @@ fn block_of(height: u8, q: u32) -> u32
     q / 2u32.pow(u32::from(height / 2))
 }
 
-// Room for the nodes of a tree of this height.
+// Room for the nodes of a tree of this height: `2^(height + 1) - 1`.
 fn nodes_of(alloc: Global, height: u8) -> Result<Vec<[u8; 32]>, OutOfMemory>
     requires { height ≤ 25 }
     ensures { IfOk result (λ nodes. vec_len nodes + 1 ≡ 2 ^ (height + 1)) }

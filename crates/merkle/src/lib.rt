@@ -1,20 +1,19 @@
 //! Binary hash trees, over any leaves and any join (RFC 8554 5.3 and 5.4; RFC 8391 4.1.6 and 4.1.9).
 //!
-//! Its model is `specs/Tree.antt`, nodes, roots and authentication paths by recursion over whole
-//! trees, `specs/Ascent.antt`, the nodes through which a path leads, and `specs/Nodes.antt` with
-//! `specs/Cache.antt`, which nodes a cache keeps. Its contract for the crates above: `root` and
-//! `path` are those of the model, from as many leaves as they need; so are those of a `PathCache`,
-//! which makes each leaf once, keeping the first block or that of a leaf, and then, for a path, the
-//! leaves of one block at most; `root_from_path` gives the last node of the ascent, and the path of
-//! leaf q leads from it to the root.
+//! The model: `specs/Tree.antt` has nodes, roots and authentication paths, by recursion over whole trees.
+//! `specs/Ascent.antt` has the nodes through which a path leads, `specs/Nodes.antt` and `specs/Cache.antt` the nodes
+//! that a cache keeps.
 //!
-//! Leaves are made in lanes, eight at a time, where eight stand under one node of height 3, by
-//! `TreeHash::leaves_in_lanes`: a tree may make these together, and makes them one by one otherwise. The
-//! leaves of a tree or of a cache's block that is less than 3 high are made one by one, and so are
-//! those under the three lowest nodes of a path that is made without a cache.
+//! What the crates above rely on: `root` and `path` are the model's, and make as many leaves as they need. A
+//! `PathCache` gives the same. It makes each leaf once, and then for a path the leaves of at most one block.
+//! `root_from_path` gives the last node of the ascent, and the path of leaf q leads from it to the root.
 //!
-//! A tree that takes long can tell how far it is: `Told` is a tree that tells a `Progress` how many leaves were made,
-//! and `PathCache::for_leaf_telling` tells one while a cache is made. What is made is the same.
+//! Where eight leaves stand under one node of height 3, `TreeHash::leaves_in_lanes` makes them. A tree may make these
+//! together; by default it makes them one by one. Fewer leaves are made one by one: in a tree or block of height less
+//! than 3, and under the three lowest nodes of a path that is made without a cache.
+//!
+//! `Told` is a tree that tells a `Progress` how many leaves were made; `PathCache::for_leaf_telling` tells one while a
+//! cache is made. What is made is the same.
 //!
 //! ```rust
 //! use merkle::{PathCache, path, root, root_from_path};

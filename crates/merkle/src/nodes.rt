@@ -1,4 +1,4 @@
-//! The nodes of a part of a tree, listed as they are made, and what is read of such a list.
+//! The nodes of a part of a tree, listed as they are made, and reading a path from such a list.
 
 ghost use Rattle.std.specs.Prelude.{◌≡◌, ◌≤◌, ◌<◌, ◌+◌, ◌-◌, ◌*◌, ◌/◌, ◌^◌, ℕ, List, length};
 ghost use Rattle.merkle.specs.Tree.{Leaves, Joins, node};
@@ -6,9 +6,8 @@ ghost use Rattle.merkle.specs.Nodes.{AreUnder, nodes_under, path_from};
 
 use crate::tree::{LANES, LANES_HEIGHT, NodeHash, TreeHash, node_at, node_over};
 
-/// Writes the nodes from node `index` of height `base + depth` down to those of height `base`, `2^(depth + 1) - 1` in
-/// all. Of what stands under a node of height `base` nothing is kept. Leaves are made in lanes where there are
-/// enough for all lanes under node `index`, or under each of those nodes.
+/// Writes the nodes from node `index` of height `base + depth` down to height `base`: `2^(depth + 1) - 1` in all.
+/// Nothing below height `base` is kept. Leaves are made in lanes if eight or more stand under node `index`.
 pub(crate) fn fill<T: TreeHash>(
     tree: &mut T,
     base: u8,
@@ -42,7 +41,7 @@ pub(crate) fn fill<T: TreeHash>(
     top[0] = tree.join(base + below, index, &left[half - 1], &right[half - 1]);
 }
 
-/// As `fill`, of the leaves under node `index`, which are made already.
+/// As `fill`, from leaves that are made already.
 fn fill_over<T: NodeHash>(
     tree: &T,
     base: u8,
@@ -73,7 +72,7 @@ fn fill_over<T: NodeHash>(
     top[0] = tree.join(base + below, index, &left[half - 1], &right[half - 1]);
 }
 
-/// As `fill`, where one node of height `base` under the node is known: its leaves aren't made again.
+/// As `fill`, where one node of height `base` is known, and its leaves aren't made again.
 pub(crate) fn fill_from<T: TreeHash>(
     tree: &mut T,
     base: u8,
@@ -101,7 +100,7 @@ pub(crate) fn fill_from<T: TreeHash>(
     let half = into.len() / 2;
     let (left, rest) = into.split_at_mut(half);
     let (right, top) = rest.split_at_mut(half);
-    // Which of the two children is over the known node.
+    // The child that is over the known node, or is it.
     let over = known_index / 2u32.pow(u32::from(below));
     if over == 2 * index {
         fill_from(tree, base, below, 2 * index, known_index, known, left);

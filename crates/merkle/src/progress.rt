@@ -4,24 +4,24 @@ ghost use Rattle.std.specs.Prelude.{◌≡◌, ◌-◌, ◌^◌, ℕ, min};
 
 use crate::tree::{LANES, NodeHash, TreeHash};
 
-/// What is told how far the making of a tree is. It can change nothing of the tree.
+/// Is told how many leaves were made. It can't change the tree.
 pub trait Progress {
-    // the number that it was told last
+    // the last number told
     ghost told: { Self → ℕ };
 
-    /// So many leaves of the tree were made until now.
+    /// `made` leaves of the tree were made until now.
     fn tell(&mut self, made: u64)
         ensures { told self.new ≡ made };
 }
 
-/// What is told and does nothing.
+/// Ignores what it is told.
 #[derive(Clone, Copy, Debug, Drop)]
 pub struct Silent {
     told: u64,
 }
 
 impl Silent {
-    /// One that was told of no leaf.
+    /// Was told of no leaf.
     pub const fn new() -> Self
         ensures { result.told ≡ 0 }
     {
@@ -37,19 +37,19 @@ impl Progress for Silent {
     }
 }
 
-/// A tree that tells how many leaves were made of it: after each leaf, and after each eight that are made together.
+/// A tree that tells how many leaves were made: after each leaf, and after each eight that are made together.
 #[derive(Drop)]
 pub struct Told<T: TreeHash, P: Progress> {
     tree: T,
     progress: P,
-    // How many leaves the tree has made, as far as a u64 goes.
+    // How many leaves the tree has made, or the greatest u64.
     made: u64,
     ghost counted: { made ≡ min (T.made tree) (2 ^ 64 - 1) },
     ghost told: { P.told progress ≡ made },
 }
 
 impl<T: TreeHash, P: Progress> Told<T, P> {
-    /// The same tree, of which no leaf was made yet.
+    /// Wraps a tree that has made no leaf.
     pub fn new(tree: T, mut progress: P) -> Self
         requires fresh { T.made tree ≡ 0 }
         ensures { result.tree ≡ tree }
@@ -62,7 +62,7 @@ impl<T: TreeHash, P: Progress> Told<T, P> {
         }
     }
 
-    /// The tree, of which nothing more is told.
+    /// The tree. Nothing more is told.
     pub fn into_tree(self) -> T
     where
         P: Drop,

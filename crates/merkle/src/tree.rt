@@ -1,23 +1,23 @@
-//! Trees by their leaves and their join: their roots and authentication paths.
+//! Trees by their leaves and their join: roots and authentication paths.
 
 ghost use Rattle.std.specs.Prelude.{◌≡◌, ◌≤◌, ◌<◌, ◌+◌, ◌-◌, ◌^◌, ℕ, List, [], length, slice_index_or};
 ghost use Rattle.merkle.specs.Lanes.{lanes};
 ghost use Rattle.merkle.specs.Nodes.{AreUnder};
 ghost use Rattle.merkle.specs.Tree.{Leaves, node, root_of, path_of, sibling};
 
-/// How many leaves are made together, one in each lane of a hash. What another number changes besides,
-/// docs/CONTRIBUTING.md lists.
+/// How many leaves are made together, one in each lane of a hash. docs/CONTRIBUTING.md lists what else another number
+/// changes.
 pub const LANES: usize = 8;
 
-/// The height of a node that stands over so many leaves.
+/// The height of a node over `LANES` leaves.
 pub(crate) const LANES_HEIGHT: u8 = 3;
 
-/// How a hash tree's nodes are made from those below them.
+/// How a hash tree's nodes are made from their children.
 pub trait NodeHash {
     // the join of two nodes, by their height and the index of the node above them
     ghost join_of: { Self → ℕ → ℕ → List ℕ → List ℕ → List ℕ };
 
-    /// The node above two nodes of a height, by its index among those of its own height.
+    /// The node above two nodes of this height. `index` counts the nodes of its own height from the left.
     fn join(&self, height: u8, index: u32, left: &[u8; 32], right: &[u8; 32]) -> [u8; 32]
         ensures { result ≡ join_of self.now height index left.now right.now };
 }
@@ -37,8 +37,8 @@ pub trait TreeHash: NodeHash {
         ensures leaves { leaf_of self.new ≡ leaf_of self.old }
         ensures joins { Self.join_of self.new ≡ Self.join_of self.old };
 
-    /// The leaves from `first` on, one for each lane, which count as so many leaves made. They are made one by one, but
-    /// for a tree that has a function of its own, which may make them together.
+    /// The leaves from `first` on, one for each lane; they count as `LANES` leaves made. By default they are made one
+    /// by one.
     fn leaves_in_lanes(&mut self, first: u32) -> [[u8; 32]; LANES]
         requires inside { first + lanes ≤ 2 ^ 32 }
         ensures values { (j : ℕ) → j < lanes → slice_index_or result j [] ≡ leaf_of self.old (first + j) }
@@ -54,7 +54,7 @@ pub trait TreeHash: NodeHash {
     }
 }
 
-/// Node `index` of a height, of the leaves below it.
+/// Node `index` of a height, from the leaves below it.
 pub(crate) fn node_over<T: NodeHash>(
     tree: &T,
     height: u8,
@@ -77,12 +77,12 @@ pub(crate) fn node_over<T: NodeHash>(
     tree.join(lower, index, &left, &right)
 }
 
-/// Node `index` of a height, from the leaves below it, made in lanes where there are enough for all lanes.
+/// Node `index` of a height. Its leaves are made in lanes where eight or more stand below it.
 pub(crate) fn node_at<T: TreeHash>(tree: &mut T, height: u8, index: u32) -> [u8; 32]
     requires height { height ≤ 25 }
     requires inside { index < 2 ^ (25 - height) }
     ensures value { result ≡ node (T.leaf_of tree.old) (T.join_of tree.old) height index }
-    // As many leaves are made as stand below it.
+    // Each leaf below it is made once.
     ensures counted { T.made tree.new ≡ T.made tree.old + 2 ^ height }
     ensures leaves { T.leaf_of tree.new ≡ T.leaf_of tree.old }
     ensures joins { T.join_of tree.new ≡ T.join_of tree.old }
@@ -100,7 +100,7 @@ pub(crate) fn node_at<T: TreeHash>(tree: &mut T, height: u8, index: u32) -> [u8;
     tree.join(below, index, &left, &right)
 }
 
-/// The index with its last bit turned.
+/// The index with its last bit flipped.
 fn sibling_of(index: u32) -> u32
     requires { index < 2 ^ 25 }
     ensures { result ≡ sibling index }
@@ -112,7 +112,7 @@ fn sibling_of(index: u32) -> u32
 pub fn root<T: TreeHash>(tree: &mut T, height: u8) -> [u8; 32]
     requires { height ≤ 25 }
     ensures value { result ≡ root_of (T.leaf_of tree.old) (T.join_of tree.old) height }
-    // As many leaves are made as the tree has.
+    // Each leaf of the tree is made once.
     ensures counted { T.made tree.new ≡ T.made tree.old + 2 ^ height }
     ensures leaves { T.leaf_of tree.new ≡ T.leaf_of tree.old }
     ensures joins { T.join_of tree.new ≡ T.join_of tree.old }
@@ -120,14 +120,14 @@ pub fn root<T: TreeHash>(tree: &mut T, height: u8) -> [u8; 32]
     node_at(tree, height, 0)
 }
 
-/// The authentication path of leaf q of a tree (RFC 8554 5.4, RFC 8391 4.1.9), the leaf's sibling first. The caller
-/// keeps the tree's height at most 25, q below `2^height`, and `into` as long as the tree is high.
+/// The authentication path of leaf q (RFC 8554 5.4, RFC 8391 4.1.9), the leaf's sibling first. The caller keeps the
+/// height at most 25, q below `2^height`, and `into` as long as the tree is high.
 pub fn path<T: TreeHash>(tree: &mut T, height: u8, q: u32, into: &mut [[u8; 32]])
     requires height { height ≤ 25 }
     requires inside { q < 2 ^ height }
     requires room { length into.old ≡ height }
     ensures value { into.new ≡ path_of (T.leaf_of tree.old) (T.join_of tree.old) height q }
-    // One leaf less is made than the tree has.
+    // Each leaf but q is made once.
     ensures counted { T.made tree.new ≡ T.made tree.old + (2 ^ height - 1) }
     ensures leaves { T.leaf_of tree.new ≡ T.leaf_of tree.old }
     ensures joins { T.join_of tree.new ≡ T.join_of tree.old }
