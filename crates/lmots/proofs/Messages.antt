@@ -1,4 +1,4 @@
--- The message of which a public hash is made, end by end.
+-- The message of a public hash, end by end.
 use Rattle.std.proofs.Common.{◌≡◌, ◌∙◌, sym, ap, ℕ, ◌+◌, ◌-◌, ◌^◌, List, [], ◌∷◌, ◌++◌, map, arith}
 use Rattle.std.specs.List.{concat, range_with_len}
 use Rattle.std.proofs.lemmas.List.{append-nil, append_assoc}
@@ -17,7 +17,7 @@ ends_until identifier q ots seed n = map (λ i. chain_value identifier q seed i 
 abbrev pub message_until : List ℕ → ℕ → OtsType → List ℕ → ℕ → List ℕ
 message_until identifier q ots seed n = identifier ++ u32str q ++ u16str public_separator ++ concat (ends_until identifier q ots seed n)
 
--- with none of them it ends before them
+-- with no end yet
 pub message_none : (identifier : List ℕ) (q : ℕ) (ots : OtsType) (seed : List ℕ)
     → identifier ++ u32str q ++ u16str public_separator ≡ message_until identifier q ots seed 0
 message_none identifier q ots seed = sym (append-nil _)
@@ -25,7 +25,7 @@ message_none identifier q ots seed = sym (append-nil _)
 concat_more : (xs : List (List ℕ)) (x : List ℕ) → concat (xs ++ x ∷ []) ≡ concat xs ++ x
 concat_more xs x = concat-append xs (x ∷ []) ∙ ap (λ l. concat xs ++ l) (append-nil x)
 
--- and with one more
+-- with one more
 pub message_more : (identifier : List ℕ) (q : ℕ) (ots : OtsType) (seed : List ℕ) (n last : ℕ) (before message end : List ℕ)
     → before ≡ message_until identifier q ots seed n → message ≡ before ++ end
     → end ≡ chain_value identifier q seed n last → last ≡ 2 ^ width_of ots - 1

@@ -1,4 +1,4 @@
--- What a signature carries of a key's chains climbs to the ends of these chains.
+-- A signature's values climb to the ends of the key's chains.
 use Rattle.std.proofs.Common.{◌≡◌, sym, ℕ, ◌<◌, List, [], length, get_or}
 use Rattle.std.specs.List.{concat}
 use Rattle.sha2.proofs.Facts256.{length-sha256}

@@ -12,7 +12,7 @@ u16str x = big_bytes 2 x
 abbrev pub u32str : ℕ → List ℕ
 u32str x = big_bytes 4 x
 
--- D_PBLC (4.3) and D_MESG (4.5), which keep the hashes of the scheme apart
+-- D_PBLC (4.3) and D_MESG (4.5), which keep the scheme's hashes apart
 abbrev pub public_separator : ℕ
 public_separator = 0x8080
 

@@ -1,5 +1,5 @@
--- A leaf's one-time key: its chains, its public hash, what a signature carries of it and where that leads (RFC 8554,
--- section 4 and Appendix A). I is the identifier of the tree, q the leaf's number.
+-- A leaf's one-time key: its chains, its public hash, a signature's values and where they lead (RFC 8554, section 4 and
+-- Appendix A). I is the tree's identifier, q the leaf's number.
 use Rattle.std.specs.Prelude.{ℕ, ◌-◌, ◌^◌, List, ◌++◌, map, slice_index}
 use Rattle.std.specs.List.{concat, range_with_len}
 use Rattle.sha2.specs.Sha256.{sha256}
@@ -21,8 +21,7 @@ private_value identifier q seed i = sha256 (identifier ++ u32str q ++ u16str i +
 abbrev pub chain_value : List ℕ → ℕ → List ℕ → ℕ → ℕ → List ℕ
 chain_value identifier q seed i n = walk (step_of identifier q) i 0 n (private_value identifier q seed i)
 
--- the ends of all chains of a key whose private values are made of a seed: each value walked from the
--- first step to the last (4.3)
+-- the ends of all chains of a key whose private values are derived from a seed (4.3)
 abbrev pub ends_of_seed : List ℕ → ℕ → OtsType → List ℕ → List (List ℕ)
 ends_of_seed identifier q ots seed =
     map (λ i. chain_value identifier q seed i (2 ^ width_of ots - 1)) (range_with_len 0 (chains_of ots))
@@ -40,15 +39,13 @@ abbrev pub message_digest_of : List ℕ → ℕ → List ℕ → List ℕ → Li
 message_digest_of identifier q randomizer message =
     sha256 (identifier ++ u32str q ++ u16str message_separator ++ randomizer ++ message)
 
--- the values of the signature of a digest Q, by a key whose private values are made of a seed: each
--- private value walked from the first step to the chain's digit of Q (4.5)
+-- the values of a signature of the digest Q: each private value walked to the chain's digit of Q (4.5)
 abbrev pub signed_values : List ℕ → ℕ → OtsType → List ℕ → List ℕ → List (List ℕ)
 signed_values identifier q ots seed digest =
     map (λ i. chain_value identifier q seed i (slice_index (digits_of (width_of ots) digest) i))
     (range_with_len 0 (chains_of ots))
 
--- The values of a signature of the digest Q climb to these ends: each is walked from its chain's digit of Q
--- to the end of the chain (4.6, algorithm 4b, step 3).
+-- The values of a signature of Q climb to these ends, each from its chain's digit of Q (4.6, algorithm 4b, step 3).
 abbrev pub ClimbTo : List ℕ → ℕ → OtsType → List ℕ → List (List ℕ) → List (List ℕ) → Type 0
 ClimbTo identifier q ots digest values ends =
     AreEnds (step_of identifier q) (width_of ots) (digits_of (width_of ots) digest) values ends

@@ -13,7 +13,7 @@ use typecodes::put;
 use winternitz::lanes::{Beginning, LANES, digests, in_words};
 use winternitz::{MOST_CHAINS, Step, Values, added};
 
-/// The chains of a key. Their steps side by side begin with I and q, whose rounds they share.
+/// The chains of a key. Steps in lanes begin with I and q, and share the rounds over them.
 #[derive(Clone, Copy)]
 pub(crate) struct Chains {
     pub(crate) key: LmOts,
@@ -53,7 +53,6 @@ impl Step for Chains {
 }
 
 impl Chains {
-    /// The chains of a key.
     pub(crate) fn of(key: &LmOts) -> Chains
         ensures { result.key ≡ key.now }
     {
@@ -63,7 +62,7 @@ impl Chains {
         }
     }
 
-    // The private values of the first chains, made in lanes.
+    // The private values of the first `count` chains, made in lanes.
     pub(crate) fn private_values(&self, seed: &[u8; 32], count: usize) -> Values
         requires { count ≤ 265 }
         ensures { (i : ℕ) → i < count
@@ -80,7 +79,7 @@ impl Chains {
         values
     }
 
-    // A private value in each lane, from that of a chain on: it is made as step 0xff of its chain would be.
+    // The private values of `LANES` chains from `chain` on. Each is made as step 0xff of its chain would be.
     fn private_values_in_lanes(&self, seed: &[u8; 32], chain: usize, values: &mut Values)
         requires { chain + lanes ≤ 265 }
         ensures before { (i : ℕ) → i < chain → slice_index_or values.new i [] ≡ slice_index_or values.old i [] }
@@ -105,7 +104,7 @@ pub(crate) fn first_bytes(identifier: &[u8; 16], leaf: u32) -> [u8; 20]
     bytes
 }
 
-// Numbers in a row, one for each lane.
+// `first` and the numbers after it, one for each lane.
 fn numbers_from(first: u16) -> [u16; LANES]
     requires { first + lanes < 65536 }
     ensures { (j : ℕ) → j < lanes → slice_index result j ≡ first + j }

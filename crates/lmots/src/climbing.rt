@@ -1,4 +1,4 @@
-//! How a verifier comes from the values of a signature to a public hash.
+//! How a verifier gets from a signature's values to a public hash.
 
 ghost use Rattle.std.specs.Prelude.{◌≡◌, ◌<◌, ◌≤◌, ℕ, ◌-◌, ◌^◌, List, length, slice_index};
 ghost use Rattle.lmots.specs.Key as spec;
@@ -12,14 +12,14 @@ use sha2::Digest;
 use typecodes::OtsType;
 use winternitz::{InLanes, OneByOne, climb, digits};
 
-/// A way to climb the chains of a signature. Whichever it is, the public hash is the same: `InLanes` takes some 64 KB
-/// of stack and is fast, `OneByOne` takes less than 2 KB.
+/// A way to climb the chains of a signature. Either way gives the same public hash. `InLanes` is fast and takes some 64
+/// KB of stack; `OneByOne` takes less than 2 KB.
 ///
-/// That chains climb side by side, and what their steps share, is measured and tested: no clause says it, as no value
-/// depends on it.
+/// That chains climb side by side and share rounds is measured and tested. No clause says it, since no value depends on
+/// it.
 pub trait Climbing {
-    /// The public hash to which the values of a signature of a key lead, as `LmOts::hash_from_signature`. The caller
-    /// gives as many values as the type has chains.
+    /// The public hash to which a signature's values lead, as `LmOts::hash_from_signature`. The caller gives a value
+    /// for each of the type's chains.
     fn hash_from_signature(
         &self,
         key: &LmOts,
@@ -30,7 +30,7 @@ pub trait Climbing {
         requires { length values.now ≡ chains_of ots }
         ensures value { result ≡ spec.public_hash key.now.identifier key.now.leaf
             (ends_of_signature key.now.identifier key.now.leaf ots digest.now values.now) }
-        // The same of any list of ends, and that there is one.
+        // The hash of every valid list of ends (`only`); a valid list exists (`some`).
         ensures only { (ends : List (List ℕ)) →
             ClimbTo key.now.identifier key.now.leaf ots digest.now values.now ends →
             result ≡ spec.public_hash key.now.identifier key.now.leaf ends }
@@ -63,8 +63,8 @@ impl Climbing for OneByOne {
     }
 }
 
-// The public hash of the ends to which values climb from the digits of their chains: each end is hashed as soon as it
-// is reached, and none is kept.
+// The public hash of the ends to which values climb from their digits. Each end is hashed as soon as it is reached;
+// none is kept.
 fn hash_of_climbed(key: &LmOts, ots: OtsType, digits: &[u8], values: &[[u8; 32]]) -> [u8; 32]
     requires few { length values.now ≤ 265 }
     requires count { length digits.now ≡ length values.now }

@@ -13,7 +13,7 @@ pub(crate) const PUBLIC: u16 = 0x8080;
 pub(crate) const MESSAGE: u16 = 0x8181;
 
 impl LmOts {
-    // A hasher that holds I, q and a chain's number or a separator in its place.
+    // A hasher that holds I, q, and a chain's number or a separator.
     pub(crate) fn hasher(&self, separator: u16) -> Sha256
         ensures { Holds256 result (self.now.identifier ++ u32str self.now.leaf ++ u16str separator) }
     {

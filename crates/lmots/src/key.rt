@@ -21,8 +21,8 @@ use typecodes::{Message, MessageFailed, OtsType, put};
 use winternitz::lanes::LANES;
 use winternitz::{Step, climb_from, climb_to, climb_whole, digits, feed};
 
-/// A leaf's one-time key, by the identifier I of its tree and its number q: what each hash of the
-/// key begins with (RFC 8554 4.2). As a `Step` it takes steps one by one; its own calls climb chains in lanes.
+/// A leaf's one-time key: its tree's identifier I and its number q, with which each hash of the key begins (RFC 8554
+/// 4.2). As a `Step` it takes steps one by one; its own calls climb chains in lanes.
 #[derive(Clone, Copy, Debug, PartialEq, Eq)]
 pub struct LmOts {
     /// I, 16 bytes.
@@ -43,7 +43,7 @@ impl Step for LmOts {
 }
 
 impl LmOts {
-    /// Q, the digest of a message that a signature with the randomizer C signs (RFC 8554 4.5).
+    /// Q, the digest that a signature with the randomizer C signs (RFC 8554 4.5).
     pub fn message_digest(&self, randomizer: &[u8; 32], message: &[u8]) -> [u8; 32]
         ensures { result ≡ message_digest_of self.now.identifier self.now.leaf randomizer.now message.now }
     {
@@ -64,7 +64,7 @@ impl LmOts {
         bytes
     }
 
-    // A hasher that holds what stands before a message.
+    // A hasher that holds `message_prefix`.
     fn message_hasher(&self, randomizer: &[u8; 32]) -> Sha256
         ensures { Holds256 result (self.now.identifier ++ u32str self.now.leaf ++ u16str message_separator
             ++ randomizer.now) }
@@ -74,8 +74,8 @@ impl LmOts {
         hasher
     }
 
-    /// Q of the message that a reader gives, however it is cut: it is read to its end, in pieces that aren't kept.
-    /// Refused where it can't be read: see `typecodes::MessageFailed`.
+    /// Q of a message from a reader, however its bytes are split among reads. It is read to its end, in pieces that
+    /// aren't kept. `Err` if it can't be read: see `typecodes::MessageFailed`.
     pub fn message_digest_from<M: Message>(
         &self,
         randomizer: &[u8; 32],
@@ -89,7 +89,7 @@ impl LmOts {
         Ok(hasher.finalize())
     }
 
-    /// The private value of a chain, made of the key's seed (RFC 8554, Appendix A).
+    /// The private value of a chain, derived from the key's seed (RFC 8554, Appendix A).
     pub fn private_value(&self, seed: &[u8; 32], chain: u16) -> [u8; 32]
         ensures { result ≡ spec.private_value self.now.identifier self.now.leaf seed.now chain }
     {
@@ -99,8 +99,8 @@ impl LmOts {
         hasher.finalize()
     }
 
-    /// The public hash of the key whose private values are made of a seed: each chain climbed from
-    /// its private value to its end (RFC 8554 4.3).
+    /// The public hash of the key whose private values are derived from the seed: each chain is climbed to its end (RFC
+    /// 8554 4.3).
     pub fn public_hash(&self, ots: OtsType, seed: &[u8; 32]) -> [u8; 32]
         ensures { result ≡ spec.public_hash self.now.identifier self.now.leaf
             (ends_of_seed self.now.identifier self.now.leaf ots seed.now) }
@@ -112,8 +112,7 @@ impl LmOts {
         self.hash_of_ends(&ends[..count])
     }
 
-    /// The public hashes of the keys of several leaves of a tree, one in each lane, whose private values are made of
-    /// one seed: as `public_hash`, but side by side.
+    /// As `public_hash`, for several leaves of a tree with one seed, side by side in lanes.
     pub fn public_hashes_in_lanes(
         identifier: [u8; 16],
         leaves: [u32; LANES],
@@ -135,9 +134,8 @@ impl LmOts {
         hasher.finalize()
     }
 
-    /// Writes the values of a digest's signature, one after the other: each chain climbed from its
-    /// private value to its digit of the digest (RFC 8554 4.5). The caller gives 32 bytes for each
-    /// of the type's chains.
+    /// Writes the values of a digest's signature, one after the other: each chain climbed from its private value to its
+    /// digit (RFC 8554 4.5). The caller gives 32 bytes for each of the type's chains.
     pub fn sign_digest(&self, ots: OtsType, seed: &[u8; 32], digest: &[u8; 32], into: &mut [u8])
         requires { length into.old ≡ 32 * chains_of ots }
         ensures value { into.new ≡ concat (signed_values self.now.identifier self.now.leaf ots seed.now digest.now) }
@@ -152,9 +150,8 @@ impl LmOts {
         into.copy_from_slice(values[..count].as_flattened());
     }
 
-    /// The public hash to which the values of a signature lead: each chain climbed from its digit of
-    /// the digest to its end (RFC 8554 4.6, algorithm 4b, step 3). The caller gives as many values as
-    /// the type has chains.
+    /// The public hash to which a signature's values lead: each chain climbed from its digit to its end (RFC 8554 4.6,
+    /// algorithm 4b, step 3). The caller gives a value for each of the type's chains.
     pub fn hash_from_signature(
         &self,
         ots: OtsType,
@@ -164,7 +161,7 @@ impl LmOts {
         requires { length values.now ≡ chains_of ots }
         ensures value { result ≡ spec.public_hash self.now.identifier self.now.leaf
             (ends_of_signature self.now.identifier self.now.leaf ots digest.now values.now) }
-        // The same of any list of ends, and that there is one.
+        // The hash of every valid list of ends (`only`); a valid list exists (`some`).
         ensures only { (ends : List (List ℕ)) →
             ClimbTo self.now.identifier self.now.leaf ots digest.now values.now ends →
             result ≡ spec.public_hash self.now.identifier self.now.leaf ends }
@@ -178,7 +175,7 @@ impl LmOts {
     }
 }
 
-// The greatest digit of a type, which is also how many steps each of its chains has.
+// The greatest digit of a type, which is the number of steps of each chain.
 pub(crate) fn greatest_digit(ots: OtsType) -> u8
     ensures { result ≡ 2 ^ width_of ots - 1 }
 {

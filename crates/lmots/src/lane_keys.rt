@@ -16,10 +16,10 @@ use crate::key::greatest_digit;
 use typecodes::{OtsType, put};
 use winternitz::lanes::{Beginning, LANES, States, digests, in_words, sha256_in_lanes};
 
-/// Where the ends of chains begin in the message of which a public hash is made: after I, q and D_PBLC.
+/// Where the chains' ends begin in the message of a public hash: after I, q and D_PBLC.
 const ENDS: usize = 22;
 
-/// Such a message of 265 chains, the most that a type has, and room for its padding.
+/// Such a message of 265 chains, the most of any type, and 72 bytes of room for its padding.
 const ROOM: usize = 8574;
 
 type Messages = [[u8; ROOM]; LANES];
@@ -50,7 +50,7 @@ impl LaneKeys {
         }
     }
 
-    /// Their public hashes, where their private values are made of a seed (RFC 8554 4.3).
+    /// The public hashes of the keys whose private values are derived from the seed (RFC 8554 4.3).
     pub(crate) fn public_hashes(&self, ots: OtsType, seed: &[u8; 32]) -> [[u8; 32]; LANES]
         ensures { (j : ℕ) → j < lanes → let q = slice_index self.now.leaves j in slice_index_or result j []
             ≡ spec.public_hash self.now.identifier q (ends_of_seed self.now.identifier q ots seed.now) }
@@ -65,7 +65,7 @@ impl LaneKeys {
         sha256_in_lanes(&mut messages, ENDS + 32 * count)
     }
 
-    // The end of one chain of each key, by the words of the seed in each lane.
+    // The end of one chain of each key. `seeds` has the seed's words in each lane.
     fn ends(&self, chain: u16, last: u8, seeds: &States) -> [[u8; 32]; LANES]
         ensures { (j : ℕ) → j < lanes → (seed : List ℕ) → value_in seeds.now j ≡ seed → slice_index_or result j []
             ≡ chain_value self.now.identifier (slice_index self.now.leaves j) seed chain last }
@@ -78,7 +78,7 @@ impl LaneKeys {
         digests(&values)
     }
 
-    // The messages of which the public hashes are made, as far as the ends of chains.
+    // The messages of the public hashes, before the chains' ends are written.
     fn messages(&self) -> Messages
         ensures { (j : ℕ) → j < lanes → take 22 (slice_index_or result j [])
             ≡ self.now.identifier ++ u32str (slice_index self.now.leaves j) ++ u16str public_separator }
@@ -91,7 +91,7 @@ impl LaneKeys {
     }
 }
 
-// The message of which a key's public hash is made, as far as the ends of chains.
+// One such message.
 fn message_of(identifier: &[u8; 16], leaf: u32) -> [u8; ROOM]
     ensures { take 22 result ≡ identifier.now ++ u32str leaf ++ u16str public_separator }
 {
@@ -112,7 +112,6 @@ fn append(messages: &mut Messages, offset: usize, values: &[[u8; 32]; LANES])
     }
 }
 
-// Writes a value into a message at an offset.
 fn put_value(message: &mut [u8; ROOM], offset: usize, value: &[u8; 32])
     requires { offset + 32 ≤ 8574 }
     ensures { take (offset + 32) message.new ≡ take offset message.old ++ value.now }

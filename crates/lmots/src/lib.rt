@@ -1,11 +1,12 @@
 //! LM-OTS, the one-time signatures of RFC 8554, section 4, for SHA-256 with n = 32.
 //!
-//! Its model is `specs/Key.antt`: the standard's hashes, each as a formula over SHA-256. Its contract
-//! for the crates above: `hash_from_signature` gives the public hash of the chain ends to which a
-//! signature's values lead, `public_hash` that of the ends to which a seed's do, and
-//! `public_hashes_in_lanes` those of several leaves, made side by side. `sign_digest` writes the values
-//! of a seed's signature, which climb to the seed's ends. `Climbing` is the choice between two ways to
-//! the first of these hashes, in lanes or with little stack, which a verifier takes as a parameter.
+//! The model: `specs/Key.antt` has the standard's hashes, each as a formula over SHA-256.
+//!
+//! What the crates above rely on: `hash_from_signature` gives the public hash of the chain ends to which a signature's
+//! values lead. `public_hash` gives the hash of the ends to which a seed leads, `public_hashes_in_lanes` the same for
+//! several leaves side by side. `sign_digest` writes the values of a seed's signature, which climb to the seed's ends.
+//!
+//! A verifier takes a `Climbing` as a parameter: in lanes, or with little stack.
 //!
 //! ```rust
 //! use lmots::LmOts;

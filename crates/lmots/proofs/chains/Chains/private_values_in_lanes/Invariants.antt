@@ -1,4 +1,4 @@
--- Those of the lanes so far are written.
+-- The private values of the lanes so far are written.
 use Rattle.std.proofs.Common.{◌≡◌, ℕ, ◌<◌, ◌+◌, [], length, slice_index_or}
 use Rattle.lmots.proofs.chains.Chains.private_values_in_lanes.Given as goal
 

@@ -1,4 +1,4 @@
--- Each chain has walked as many steps.
+-- Each chain has walked the steps so far.
 use Rattle.std.proofs.Common.{◌≡◌, ℕ, ◌<◌, ◌+◌, [], slice_index, slice_index_or}
 use Rattle.lmots.specs.Key.{step_of}
 use Rattle.winternitz.specs.Chain.{walk}

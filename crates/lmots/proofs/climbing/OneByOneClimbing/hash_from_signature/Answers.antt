@@ -14,7 +14,7 @@ pub hash_of_climbed-requires-clause-count : goal.hash_of_climbed-requires-clause
 hash_of_climbed-requires-clause-count c =
     ap length c.deref.ensures.0 ∙ c.digits.ensures.count ∙ ap digit_count c.width.ensures.value ∙ digits_are_chains c.args.ots ∙ sym c.requires
 
--- each digit stands on its chain
+-- each digit is at most a chain's last step
 pub hash_of_climbed-requires-clause-order : goal.hash_of_climbed-requires-clause-order
 hash_of_climbed-requires-clause-order c = λ i within.
     let read = c.deref.ensures.0 in

@@ -7,7 +7,7 @@ use Rattle.winternitz.proofs.Ends.{are_ends, same_ends}
 use Rattle.winternitz.proofs.Signing as chains
 use Rattle.lmots.proofs.key.LmOts.hash_from_signature.Goals as goal
 
--- each digit stands on its chain
+-- each digit is at most a chain's last step
 pub climb_from-ends-requires-clause-order : goal.climb_from-ends-requires-clause-order
 climb_from-ends-requires-clause-order c = λ i within.
     let read = c.deref.ensures.0 in

@@ -1,4 +1,4 @@
--- Each chain has walked as many steps from its private value.
+-- Each chain has walked the steps so far from its private value.
 use Rattle.std.proofs.Common.{◌≡◌, ℕ, ◌<◌, List, slice_index}
 use Rattle.lmots.specs.Key.{chain_value}
 use Rattle.winternitz.specs.Lanes.{lanes, value_in}
