@@ -1,5 +1,4 @@
--- What comes after each field of a public key and of a signature, in this crate's layouts. xmss has a file like this one
--- for its own.
+-- What follows each field of a public key and of a signature in this crate's layouts. xmss has such a file for its own.
 use Rattle.std.proofs.Common.{ℕ, ◌^◌, List}
 use Rattle.std.specs.Prelude.{nat_lt, if◌then◌else◌}
 use Rattle.typecodes.specs.declared.fault.Cause.TheVariants.{LeafOutOfRange}

@@ -1,5 +1,5 @@
--- The root to which a signature leads, from the steps by which it is computed. xmss has a file like this one, of the
--- steps of its own standard: what both share, the way along a path, stands in merkle.
+-- The root to which a signature leads, from the steps that compute it. xmss has such a file for its own steps; the way
+-- along a path, which both share, stands in merkle.
 use Rattle.std.proofs.Common.{◌≡◌, ℕ, List, ap, ◌∙◌}
 use Rattle.typecodes.specs.Types.{height_of}
 use Rattle.merkle.specs.Ascent.{PathLeadsTo}
@@ -9,7 +9,7 @@ use Rattle.lms.specs.Signature.{Signature}
 use Rattle.lms.specs.Nodes.{join_of, leaf_of}
 use Rattle.lms.specs.Verification.{LeadsTo}
 
--- the leaf and the height by which a node was computed
+-- the leaf and the height from which a node was computed
 pub record Steps (identifier : List ℕ) (s : Signature) (hash leaf : List ℕ) (h : ℕ) : Type 0 where
   pub leaf_is : leaf ≡ leaf_of identifier h s.q hash
   pub height : h ≡ height_of s.pair.tree

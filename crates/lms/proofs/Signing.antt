@@ -1,5 +1,5 @@
--- The textbook signature is valid. xmss has a file like this one, of its own standard's validity: what both share stands
--- in winternitz and merkle.
+-- The textbook signature is valid. xmss has such a file for its own validity; what both share stands in winternitz and
+-- merkle.
 use Rattle.std.proofs.Common.{◌≡◌, refl, ℕ, ◌<◌, ◌^◌, List}
 use Rattle.std.proofs.lemmas.List.FromFn.{length-map-range_with_len}
 use Rattle.typecodes.specs.Types.{chains_of, height_of}
@@ -28,7 +28,7 @@ textbook_valid secret q randomizer message inside =
       };
     }
 
--- The same of a signature that was made with a digest and a path, where these are the textbook's.
+-- The same of a signature whose digest and path are the textbook's.
 pub signed_valid : (secret : LmsSecret) (q : ℕ) (randomizer message digest : List ℕ) (path : List (List ℕ)) → q < 2 ^ height_of secret.pair.tree
     → digest ≡ message_digest_of secret.identifier q randomizer message → path ≡ path_in secret q
     → IsValid (public_of secret) message (signed secret q randomizer digest path)

@@ -1,5 +1,5 @@
--- The bytes of keys and signatures spell them, field by field. What the fields of both standards share stands in
--- typecodes; xmss has a file like this one for its own layouts, whose fields are others.
+-- The bytes of keys and signatures spell them, field by field. xmss has such a file for its own layouts; what both
+-- share stands in typecodes.
 use Rattle.std.proofs.Common.{◌≡◌, refl, ℕ, ◌<◌, ◌^◌, List, [], ◌++◌, length, get_or, subst}
 use Rattle.std.specs.List.{concat}
 use Rattle.std.proofs.lemmas.Bool.{lt-ltb}
@@ -19,7 +19,7 @@ use Rattle.lms.specs.Signature.{Signature, signature}
 use Rattle.lms.specs.Writing.{public_bytes, signature_bytes, signed}
 use Rattle.lms.proofs.After.{after_chains, after_identifier, after_q, after_key_tree, after_ots, after_randomizer, after_root, after_tree, after_types}
 
--- The signature's parts have the sizes that its types say, and its q is one of a leaf.
+-- The parts have the sizes that the types say, and q is a leaf.
 pub record IsSized (s : Signature) : Type 0 where
   pub inside : s.q < 2 ^ height_of s.pair.tree
   pub randomizer : length s.randomizer ≡ 32
@@ -65,7 +65,7 @@ signature_spelled s sized =
     (ots_spelled s.pair.ots)
     (one_time_spelled s rest sized (tree_spelled s sized))))
 
--- So is that which a secret makes, with a randomizer of 32 bytes and a path of as many values of 32 bytes as its tree is high.
+-- So is the signature that a secret makes, with a randomizer of 32 bytes and h path nodes of 32 bytes.
 pub signed_spelled : (secret : LmsSecret) (q : ℕ) (randomizer digest : List ℕ) (path : List (List ℕ)) → q < 2 ^ height_of secret.pair.tree
     → length randomizer ≡ 32 → length path ≡ height_of secret.pair.tree → ((i : ℕ) → i < height_of secret.pair.tree → length (get_or path i []) ≡ 32)
     → Spells signature (signed secret q randomizer digest path) (signature_bytes (signed secret q randomizer digest path))

@@ -11,7 +11,7 @@ use Rattle.typecodes.specs.declared.refusal.Refusal.TheVariants.{Unreadable, Typ
 use Rattle.lms.specs.Signature.{Signature, signature}
 use Rattle.lms.specs.Verification.{IsValid, IsValidFor, LeavesMessage, LevelVerdict, Verdict, digest_of}
 
--- the answer by the digest of a message is that of the message
+-- the answer for a message's digest is the answer for the message
 pub level_of_digest : {A : Type 0} (key : LmsPublic) (message digest : List ℕ) (s : Signature) (i : ℕ) (result : Result A Refusal)
     → digest ≡ digest_of key message s → s.pair ≡ key.pair → DigestVerdict (IsValidFor key digest s) i result → LevelVerdict key message s i result
 level_of_digest key message digest s i result same types verdict =
@@ -31,7 +31,7 @@ leaves_of_digest transition remaining text old new key digest s i result verdict
     of_digest (LeavesMessage transition remaining text old new) (IsValidFor key digest s) i result verdict
     (λ x valid. read) (λ level at invalid. read)
 
--- the answer of the signature that bytes spell is that of the bytes
+-- the answer for a signature that bytes spell is the answer for the bytes
 pub whole_verdict : {A : Type 0} (key : LmsPublic) (message bytes : List ℕ) (s : Signature) (result : Result A Refusal) → Spells signature s bytes → LevelVerdict key message s 0 result
     → Verdict key message bytes result
 whole_verdict key message bytes s (Ok x) spelled valid = (s, spelled, valid)
@@ -41,7 +41,7 @@ whole_verdict key message bytes s (Err LevelMismatch) spelled never = elim never
 whole_verdict key message bytes s (Err MessageRead) spelled types = (s, spelled, types)
 whole_verdict key message bytes s (Err (RootMismatch level)) spelled (top, types, invalid) = (top, (s, spelled, types, invalid))
 
--- what a refusal says, as that of any tree
+-- what a refusal says, in the words that all trees share
 refused : (key : LmsPublic) (message bytes : List ℕ) (refusal : Refusal) → Verdict {A = Unit {0}} key message bytes (Err refusal)
     → Refused signature (λ s. s.pair ≡ key.pair) (IsValid key message) bytes refusal
 refused key message bytes (Unreadable fault) faulty = faulty
@@ -54,7 +54,7 @@ refused key message bytes (RootMismatch level) invalid = invalid
 pub laws : VerdictLaws Verdict (λ key. signature) IsValid (λ key refusal. refusal ≡ RootMismatch 0)
 laws = tree_laws Verdict (λ key. signature) (λ key s. s.pair ≡ key.pair) IsValid refused (λ key message s valid. valid.types)
 
--- a valid signature is refused by no answer, unless the message can't be read
+-- a valid signature is refused only where the message can't be read
 pub accepted : (key : LmsPublic) (message bytes : List ℕ) (result : Result (Unit {0}) Refusal) → Verdict key message bytes result
     → result ≢ Err MessageRead → (s : Signature) → Spells signature s bytes → IsValid key message s → IsOk result
 accepted = laws.accepted

@@ -4,7 +4,7 @@ use Rattle.sha2.specs.Sha256.{sha256}
 use Rattle.lmots.specs.Hashes.{u16str, u32str}
 use Rattle.merkle.specs.Tree.{Joins}
 
--- D_LEAF and D_INTR (5.3), which keep the hashes of the scheme apart
+-- D_LEAF and D_INTR (5.3), which keep the scheme's hashes apart
 abbrev pub leaf_separator : ℕ
 leaf_separator = 0x8282
 
@@ -15,11 +15,11 @@ inner_separator = 0x8383
 abbrev pub node_number : ℕ → ℕ → ℕ → ℕ
 node_number h k j = 2 ^ (h - k) + j
 
--- T[r] = H(I || u32str(r) || u16str(D_LEAF) || K): leaf q, of its key's public hash K
+-- T[r] = H(I || u32str(r) || u16str(D_LEAF) || K): leaf q, from its key's public hash K
 abbrev pub leaf_of : List ℕ → ℕ → ℕ → List ℕ → List ℕ
 leaf_of identifier h q key = sha256 (identifier ++ u32str (node_number h 0 q) ++ u16str leaf_separator ++ key)
 
--- T[r] = H(I || u32str(r) || u16str(D_INTR) || T[2r] || T[2r+1]): node j of height k + 1, of its children
+-- T[r] = H(I || u32str(r) || u16str(D_INTR) || T[2r] || T[2r+1]): node j of height k + 1, from its children
 abbrev pub join_of : List ℕ → ℕ → Joins
 join_of identifier h k j left right =
     sha256 (identifier ++ u32str (node_number h (k + 1) j) ++ u16str inner_separator ++ left ++ right)

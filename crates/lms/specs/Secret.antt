@@ -1,5 +1,5 @@
--- What a secret makes: the leaves of its tree, the nodes above them, its public key, the authentication paths and the
--- digests (RFC 8554 4.3, 4.5, 5.2, 5.3 and Appendix A); and what callers see of its tree.
+-- What a secret makes: leaves, nodes, public key, authentication paths and digests (RFC 8554 4.3, 4.5, 5.2, 5.3 and
+-- Appendix A); and what callers see of its tree.
 use Rattle.std.specs.Prelude.{ℕ, List}
 use Rattle.typecodes.specs.Types.{height_of}
 use Rattle.merkle.specs.Tree.{Joins, Leaves, path_of, root_of}
@@ -9,12 +9,12 @@ use Rattle.typecodes.specs.declared.secret.LmsSecret.{LmsSecret}
 use Rattle.lms.specs.declared.secret.LmsTree.{LmsTree}
 use Rattle.lms.specs.Nodes.{join_of, leaf_of}
 
--- the leaves of a secret's tree: each of the ends of all chains, walked from their private values
+-- the leaves of a secret's tree, each from the ends of all its chains
 abbrev pub leaves_of : LmsSecret → Leaves
 leaves_of secret q = leaf_of secret.identifier (height_of secret.pair.tree) q
     (public_hash secret.identifier q (ends_of_seed secret.identifier q secret.pair.ots secret.seed))
 
--- and the nodes above them
+-- the nodes above them
 abbrev pub joins_of : LmsSecret → Joins
 joins_of secret = join_of secret.identifier (height_of secret.pair.tree)
 

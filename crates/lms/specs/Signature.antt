@@ -20,12 +20,12 @@ abbrev pub signature_with : LmsPair → ℕ → List ℕ → List (List ℕ) →
 signature_with pair q randomizer chains path =
     record { pair = pair; q = q; randomizer = randomizer; chains = chains; path = path }
 
--- how many bytes after the start of a signature the tree's type ends
+-- the offset where the tree's type ends in a signature
 abbrev pub type_end : OtsType → ℕ
 type_end ots = 4 + signature_len_of ots + 4
 
--- A signature (5.4): q, the one-time signature (4.5) with its type, C and its values, the tree's
--- type, and the path. That q is no leaf of the tree is a fault once the tree's type is read, at q.
+-- A signature (5.4): q, the one-time signature (4.5) with its type, C and values, the tree's type, and the path. If q
+-- is no leaf of the tree, the fault is at q, once the tree's type is read.
 unfoldable pub signature : Layout Signature
 signature = do
   q ← number

@@ -1,5 +1,4 @@
--- Which signatures are valid (RFC 8554 5.4.2 and 4.6), and what verification answers, with the refusal that comes
--- first.
+-- Which signatures are valid (RFC 8554 5.4.2 and 4.6), and what verification answers, with the first refusal.
 use Rattle.std.specs.Prelude.{◌≡◌, ◌≢◌, ℕ, ◌<◌, ◌^◌, List, length, Result, Ok, Err}
 use Rattle.typecodes.specs.declared.refusal.Refusal.{Refusal}
 use Rattle.typecodes.specs.declared.refusal.Refusal.TheVariants.{Unreadable, TypeMismatch, LevelMismatch}
@@ -13,17 +12,16 @@ use Rattle.lms.specs.declared.key.LmsPublic.{LmsPublic}
 use Rattle.lms.specs.Nodes.{join_of, leaf_of}
 use Rattle.lms.specs.Signature.{Signature, signature}
 
--- The node to which a signature of a digest Q leads under a key: from the digits of Q the signature's values climb to
--- the ends of their chains; these make a leaf; and from this leaf the path leads to the node.
+-- The node to which a signature of the digest Q leads under a key. The values climb from their digits of Q to the ends
+-- of their chains. The ends make a leaf, and the path leads from it to the node.
 pub record LeadsTo (key : LmsPublic) (digest : List ℕ) (s : Signature) (node : List ℕ) : Type 0 where
   pub ends : List (List ℕ)
   pub climbed : ClimbTo key.identifier s.q s.pair.ots digest s.chains ends
   pub path : PathLeadsTo (join_of key.identifier (height_of s.pair.tree)) s.q
       (leaf_of key.identifier (height_of s.pair.tree) s.q (public_hash key.identifier s.q ends)) s.path node
 
--- The signature's types are the key's; it has a value for each chain of the one-time type; its index q
--- is one of a leaf of the tree, and the path is as long as the tree is high; and as that of a digest it leads to the
--- key's root.
+-- The signature is valid for a digest: it leads to the key's root. Its types are the key's, it has a value for each
+-- chain, q is a leaf, and the path is as long as the tree is high.
 pub record IsValidFor (key : LmsPublic) (digest : List ℕ) (s : Signature) : Type 0 where
   pub types : s.pair ≡ key.pair
   pub chains : length s.chains ≡ chains_of key.pair.ots
@@ -31,7 +29,7 @@ pub record IsValidFor (key : LmsPublic) (digest : List ℕ) (s : Signature) : Ty
   pub height : length s.path ≡ height_of key.pair.tree
   pub leads : LeadsTo key digest s key.root
 
--- Q, the digest of a message that a signature signs
+-- Q, the digest of the message that the signature signs
 abbrev pub digest_of : LmsPublic → List ℕ → Signature → List ℕ
 digest_of key message s = message_digest_of key.identifier s.q s.randomizer message
 
@@ -39,7 +37,7 @@ digest_of key message s = message_digest_of key.identifier s.q s.randomizer mess
 abbrev pub prefix_of : LmsPublic → Signature → List ℕ
 prefix_of key s = message_prefix_of key.identifier s.q s.randomizer
 
--- The digest is that of the message under the signature that the bytes spell, if they spell one.
+-- If the bytes spell a signature, this is the message's digest under it.
 abbrev pub IsDigest : LmsPublic → List ℕ → List ℕ → List ℕ → Type 0
 IsDigest key message bytes digest = (s : Signature) → Spells signature s bytes → digest ≡ digest_of key message s
 
@@ -47,13 +45,17 @@ IsDigest key message bytes digest = (s : Signature) → Spells signature s bytes
 abbrev pub HasPrefix : LmsPublic → List ℕ → List ℕ → Type 0
 HasPrefix key bytes prefix = (s : Signature) × Spells signature s bytes × (prefix ≡ prefix_of key s)
 
--- It is valid for the digest of the message.
+-- The signature is valid for the message's digest.
 abbrev pub IsValid : LmsPublic → List ℕ → Signature → Type 0
 IsValid key message s = IsValidFor key (digest_of key message s) s
 
--- Ok: the bytes spell a valid signature. Else the bytes spell none, and have this fault; or they spell one of other
--- types than the key's; or one of the key's types, and the message can't be read; or one of the key's types that isn't
--- valid.
+-- What verification answers of a signature's bytes.
+--
+-- - Ok: they spell a valid signature.
+-- - `Unreadable`: they spell none, and have this fault.
+-- - `TypeMismatch`: they spell one of other types than the key's.
+-- - `MessageRead`: they spell one of the key's types, and the message can't be read.
+-- - `RootMismatch`: they spell one of the key's types that isn't valid.
 abbrev pub Verdict : {A : Type 0} → LmsPublic → List ℕ → List ℕ → Result A Refusal → Type 0
 Verdict key message bytes (Ok _) = (s : Signature) × Spells signature s bytes × IsValid key message s
 Verdict key message bytes (Err (Unreadable fault)) = HasFault signature bytes 0 fault
@@ -64,8 +66,7 @@ Verdict key message bytes (Err MessageRead) = (s : Signature) × Spells signatur
 Verdict key message bytes (Err (RootMismatch level)) =
     (level ≡ 0) × ((s : Signature) × Spells signature s bytes × (s.pair ≡ key.pair) × (IsValid key message s → ⊥))
 
--- What verification answers of a signature that was read, as that of level i of an HSS signature: it is
--- valid; or its types aren't the key's; or they are, and the message can't be read; or it isn't valid.
+-- What verification answers of a decoded signature, as level i of an HSS signature: as `Verdict`, without faults.
 abbrev pub LevelVerdict : {A : Type 0} → LmsPublic → List ℕ → Signature → ℕ → Result A Refusal → Type 0
 LevelVerdict key message s i (Ok _) = IsValid key message s
 LevelVerdict key message s i (Err (Unreadable fault)) = ⊥

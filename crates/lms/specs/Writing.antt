@@ -19,7 +19,7 @@ signed secret q randomizer digest path = record {
   path = path;
 }
 
--- The textbook signature: that with the path of leaf q.
+-- The textbook signature: it has the path of leaf q.
 abbrev pub textbook : LmsSecret → ℕ → List ℕ → List ℕ → Signature
 textbook secret q randomizer digest = signed secret q randomizer digest (path_in secret q)
 

@@ -19,8 +19,8 @@ pub struct LmsPublic {
 impl LmsPublic {
     ghost use Rattle.lms.specs.Key.{public_key};
 
-    /// The key at a cursor, 56 bytes: the tree's type, the one-time type, I and the root. The caller
-    /// keeps its end below `2^32`. A fault leaves the cursor where it is.
+    /// The key at a cursor, 56 bytes: tree type, one-time type, I, root. The caller keeps its end below `2^32`. At a
+    /// fault the cursor stays.
     #[tactic(auto, using(typecodes::proofs::Steps::reading), unfolding(crate::specs::Key::public_key))]
     pub fn from_cursor(cursor: &mut Cursor<'_>) -> Result<Self, ReadFault>
         requires { cursor.old.place + 56 < 2 ^ 32 }
@@ -41,7 +41,7 @@ impl LmsPublic {
         })
     }
 
-    /// The key that the bytes spell, 56 bytes and no more. Otherwise their first fault (1, 2 or 5).
+    /// The key that the bytes spell, 56 and no more, or their first fault (1, 2 or 5).
     #[tactic(auto, using(typecodes::proofs::Steps::steps))]
     pub fn read(bytes: &[u8]) -> Result<Self, ReadFault>
         ensures reads { Reads public_key (λ key. key) bytes.now result }

@@ -1,5 +1,4 @@
-//! Laws of spellings and of verdicts. The functions do nothing: what their contracts say is proved of
-//! every key and every signature.
+//! Laws of spellings and verdicts. The functions do nothing: their contracts are proved for every key and signature.
 
 ghost use Rattle.std.specs.Prelude.{◌≡◌};
 ghost use Rattle.typecodes.specs.Layout.{IsUnambiguous};
@@ -10,16 +9,17 @@ ghost use Rattle.lms.specs.Key.{public_key};
 ghost use Rattle.lms.specs.Signature.{signature};
 ghost use Rattle.lms.specs.Verification.{IsValid, Verdict};
 
-/// What holds of the spellings of public keys and of signatures: no value has two, no bytes spell two
-/// values, and no spelling begins another.
+/// No public key or signature has two spellings, no bytes spell two of them, and no spelling begins another.
 pub fn spelling_laws()
     ensures keys { IsUnambiguous public_key }
     ensures signatures { IsUnambiguous signature }
 {}
 
-/// What holds of the answers of verification: bytes that spell a valid signature are refused by none, unless the
-/// message can't be read (`accepted`); no bytes have two other refusals (`one_refusal`); and where this one may come,
-/// none comes that stands before it (`read_in_turn`).
+/// The laws of verification's answers.
+///
+/// - A valid signature is refused only if the message can't be read (`accepted`).
+/// - No bytes have two other refusals (`one_refusal`).
+/// - Where the message may be refused, no earlier refusal comes (`read_in_turn`).
 pub fn verdict_laws()
     ensures { VerdictLaws Verdict (λ key. signature) IsValid
         (λ key refusal. refusal ≡ Refusal.RootMismatch 0) }

@@ -1,14 +1,16 @@
 //! LMS keys, signatures, verification and signing (RFC 8554, section 5), for SHA-256 with m = 32.
 //!
-//! Its model is `specs/Key.antt` and `specs/Signature.antt`, how keys and signatures are spelled, and
-//! `specs/Verification.antt`, which signatures are valid. Its contract for the crates above: `verify` is Ok
-//! exactly on the spellings of valid signatures, and else reports the first refusal, a message that can't be
-//! read aside; `LmsSigView::verify` does the same for a signature that was read, as that of a level of HSS;
-//! `verify_bytes_by` and `verify_digest_by` do so of a message in memory and of one's digest, by either way
-//! to climb chains, of which one takes little stack; what `write_signature` writes is the textbook signature
-//! of `specs/Writing.antt`, which is valid. That keys and signatures are spelled in one way, and that
-//! `verify` has one answer, an unread message aside, stands on `spelling_laws` and `verdict_laws`. No call takes
-//! memory.
+//! The model: `specs/Key.antt` and `specs/Signature.antt` say how keys and signatures are spelled,
+//! `specs/Verification.antt` which signatures are valid.
+//!
+//! What the crates above rely on: `verify` is `Ok` exactly on the spellings of valid signatures, and else reports the
+//! first refusal, unless the message can't be read. `LmsSigView::verify` does the same for a decoded signature, such as
+//! one level of HSS. `verify_bytes_by` takes a message in memory, `verify_digest_by` a message's digest; both take a
+//! way to climb chains, and `OneByOne` needs little stack. `write_signature` writes the textbook signature of
+//! `specs/Writing.antt`, which is valid. No call takes memory.
+//!
+//! Keys and signatures are spelled in one way (`spelling_laws`), and `verify` has one answer, unless the message can't
+//! be read (`verdict_laws`).
 //!
 //! ```rust
 //! use lms::{LmsPublic, verify};

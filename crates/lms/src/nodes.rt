@@ -15,7 +15,7 @@ const LEAF: u16 = 0x8282;
 
 const INNER: u16 = 0x8383;
 
-/// What the hashes of a tree's nodes are made with: I, and the height by which nodes are numbered.
+/// The hashes of a tree's nodes, by I and the tree's height, from which nodes are numbered.
 #[derive(Clone, Copy)]
 pub struct Nodes {
     pub identifier: [u8; 16],
@@ -23,7 +23,7 @@ pub struct Nodes {
 }
 
 impl Nodes {
-    /// The node of a leaf, of its one-time key's public hash.
+    /// The node of a leaf, from its one-time key's public hash.
     pub fn leaf(&self, leaf: u32, public_hash: &[u8; 32]) -> [u8; 32]
         ensures { result ≡ leaf_of self.now.identifier self.now.height leaf public_hash.now }
     {
@@ -48,8 +48,7 @@ impl Nodes {
         nodes
     }
 
-    // The number of a node, by its height and its index among those of its height. Hashes take its
-    // lowest 4 bytes alone.
+    // A node's number, from its height and its index at this height. Hashes take only its lowest 4 bytes.
     fn number(&self, height: u32, index: u32) -> u32
         ensures { u32str result ≡ u32str (node_number self.now.height height index) }
     {

@@ -10,7 +10,7 @@ use merkle::{NodeHash, TreeHash};
 use typecodes::{Count, LmsSecret};
 use winternitz::lanes::LANES;
 
-// What the nodes of a secret's tree are made with.
+// The node hashes of a secret's tree.
 fn nodes_of(secret: &LmsSecret) -> Nodes
     ensures identifier { result.identifier ≡ secret.now.identifier }
     ensures height { result.height ≡ height_of secret.now.pair.tree }
@@ -21,19 +21,19 @@ fn nodes_of(secret: &LmsSecret) -> Nodes
     }
 }
 
-/// The tree of a secret (RFC 8554 5.3), each leaf made of the ends of its one-time key's chains. As the
-/// secret it has no `Debug`.
+/// The tree of a secret (RFC 8554 5.3). Each leaf is made from the ends of its one-time key's chains. No `Debug`, as
+/// for the secret.
 #[derive(Drop)]
 pub struct LmsTree {
     secret: LmsSecret,
-    // How many leaves were made, for contracts alone.
+    // How many leaves were made; only contracts see it.
     made: Count,
 }
 
 impl LmsTree {
     ghost use Rattle.lms.specs.Secret.{leaves_made, secret_of};
 
-    /// The tree of a secret, of which no leaf was made yet.
+    /// The tree of a secret, with no leaf made yet.
     pub fn new(secret: LmsSecret) -> Self
         ensures secret { secret_of result ≡ secret }
         ensures made { leaves_made result ≡ 0 }
@@ -46,7 +46,7 @@ impl LmsTree {
 }
 
 impl LmsTree {
-    // A leaf more is made in each lane.
+    // Counts one leaf for each lane.
     fn count_lanes(&mut self)
         ensures secret { self.new.secret ≡ self.old.secret }
         ensures made { self.new.made ≡ self.old.made + lanes }
@@ -99,7 +99,7 @@ impl TreeHash for LmsTree {
     }
 }
 
-// The numbers of leaves in a row, one for each lane.
+// `first` and the numbers after it, one for each lane.
 fn leaves_from(first: u32) -> [u32; LANES]
     requires { first + lanes ≤ 2 ^ 32 }
     ensures { (j : ℕ) → j < lanes → slice_index result j ≡ first + j }

@@ -35,10 +35,9 @@ pub struct LmsSigView<'a> {
 impl<'a> LmsSigView<'a> {
     ghost use Rattle.lms.specs.View.{bytes_of, lent_of, pair_of, signature_of};
 
-    /// The signature at a cursor: q, the one-time type, C, a value for each chain, the tree's type and
-    /// the path. A q that is no leaf of the tree is a fault once the tree's type is read, at q. The caller
-    /// keeps the place so low that the longest signature, 9324 bytes, ends below `2^32`. A fault leaves
-    /// the cursor where it is.
+    /// The signature at a cursor: q, one-time type, C, a value for each chain, tree type, path. A q that is no leaf of
+    /// the tree is a fault at q, found once the tree's type is read. The caller keeps the place so low that the longest
+    /// signature, 9324 bytes, ends below `2^32`. At a fault the cursor stays.
     #[tactic(auto, using(crate::proofs::Fields::fields), unfolding(crate::specs::Signature::signature))]
     pub fn from_cursor(cursor: &mut Cursor<'a>) -> Result<Self, ReadFault>
         requires { cursor.old.place + 9324 < 2 ^ 32 }
@@ -74,8 +73,7 @@ impl<'a> LmsSigView<'a> {
         })
     }
 
-    /// The signature that the bytes spell, and no more: 1292 bytes for H5/W8. Otherwise their first
-    /// fault (1, 2, 4 or 5).
+    /// The signature that the bytes spell, and no more: 1292 bytes for H5/W8. Else their first fault (1, 2, 4 or 5).
     #[tactic(auto, using(typecodes::proofs::Steps::steps))]
     pub fn read(bytes: &'a [u8]) -> Result<Self, ReadFault>
         ensures reads { Reads signature signature_of bytes.entry.now result }
@@ -84,12 +82,12 @@ impl<'a> LmsSigView<'a> {
         let mut cursor = Cursor::new(bytes);
         let mut view = Self::from_cursor(&mut cursor)?;
         cursor.end()?;
-        // No bytes follow the signature, so its bytes are all that were given: the view keeps the caller's own slice.
+        // No bytes follow the signature, so the view can keep the caller's own slice.
         view.bytes = bytes;
         Ok(view)
     }
 
-    /// q, its leaf.
+    /// q, the leaf's number.
     pub fn q(&self) -> u32
         ensures value { result ≡ (signature_of self.now).q }
         ensures range { result ≡ big_number 4 (take 4 (bytes_of self.now)) }
@@ -98,14 +96,14 @@ impl<'a> LmsSigView<'a> {
         self.q
     }
 
-    /// The signature's types, which are to be its key's.
+    /// The signature's types. Verification compares them with the key's.
     pub fn types(&self) -> LmsPair
         ensures { result ≡ (signature_of self.now).pair }
     {
         self.pair
     }
 
-    /// C, the randomizer, 32 bytes from byte 8 on.
+    /// C, the randomizer: 32 bytes from byte 8 on.
     pub fn c(&self) -> &'a [u8; 32]
         ensures value { result.now ≡ (signature_of self.now).randomizer }
         ensures range { result.now ≡ take 32 (drop 8 (bytes_of self.now)) }
@@ -113,7 +111,7 @@ impl<'a> LmsSigView<'a> {
         self.randomizer
     }
 
-    /// The value of chain i, 32 bytes. The caller keeps i below the number of chains.
+    /// The value of chain i, 32 bytes from byte 40 + 32 * i on. The caller keeps i below the number of chains.
     pub fn chain(&self, i: u16) -> &'a [u8; 32]
         requires { i < chains_of (pair_of self.now).ots }
         ensures value { result.now ≡ slice_index_or (signature_of self.now).chains i [] }
@@ -122,7 +120,7 @@ impl<'a> LmsSigView<'a> {
         &self.chains[usize::from(i)]
     }
 
-    /// Node k of the path, that of height k, 32 bytes. The caller keeps k below the tree's height.
+    /// Node k of the path, at height k, 32 bytes. The caller keeps k below the tree's height.
     pub fn node(&self, k: u8) -> &'a [u8; 32]
         requires { k < height_of (pair_of self.now).tree }
         ensures value { result.now ≡ slice_index_or (signature_of self.now).path k [] }
@@ -132,7 +130,7 @@ impl<'a> LmsSigView<'a> {
         &self.path[usize::from(k)]
     }
 
-    /// The bytes that spell the signature, and no others.
+    /// The bytes that spell the signature.
     pub fn bytes(&self) -> &'a [u8]
         ensures whole { result ≡ lent_of self.now }
         ensures spells { Spells signature (signature_of self.now) result.now }

@@ -1,4 +1,4 @@
-//! Verification.
+//! Verification (RFC 8554 5.4.2).
 
 ghost use Rattle.std.specs.Prelude.{◌≡◌, ◌≢◌, List, ℕ, Err, IfErr, IfOk, MatchResult};
 ghost use Rattle.lms.specs.View.{signature_of};
@@ -14,12 +14,17 @@ use merkle::root_from_path;
 use typecodes::{Message, Refusal};
 use winternitz::InLanes;
 
-/// Verifies that the bytes of a signature sign the message under the key (RFC 8554 5.4.2).
+/// Verifies the signature of a message under the key (RFC 8554 5.4.2).
 ///
-/// The first refusal comes of: a fault of the signature's bytes (1 to 5), other types than the key's
-/// (10, level 0), a message that can't be read (14), another root than the key's (12, level 0). The message is any
-/// reader. It is read to its end, in pieces that aren't kept, where no fault and no other type comes first, and else
-/// left as it is.
+/// The first refusal, in this order:
+///
+/// - 1 to 5: a fault of the signature's bytes.
+/// - 10, level 0: other types than the key's.
+/// - 14: the message can't be read.
+/// - 12, level 0: another root than the key's.
+///
+/// The message is any reader. It is read to its end, in pieces that aren't kept; at a fault or other types it is left
+/// as it is.
 pub fn verify<M: Message>(
     public: &LmsPublic,
     message: &mut M,
@@ -32,7 +37,7 @@ pub fn verify<M: Message>(
     view.verify(public, message, 0)
 }
 
-/// The same of a message in memory, whose reading can't fail, by a way to climb chains.
+/// As `verify`, for a message in memory, whose reading can't fail, and by a way to climb chains.
 pub fn verify_bytes_by<C: Climbing>(
     climbing: &C,
     public: &LmsPublic,
@@ -49,8 +54,7 @@ pub fn verify_bytes_by<C: Climbing>(
     view.verify_bytes_by(climbing, public, message, 0)
 }
 
-/// The same of a message of which the digest is given: that of the bytes of `LmsSigView::message_prefix` and the
-/// message after them (RFC 8554 4.5).
+/// As `verify_bytes_by`, for a message's digest: SHA-256 of `message_prefix` and the message (RFC 8554 4.5).
 pub fn verify_digest_by<C: Climbing>(
     climbing: &C,
     public: &LmsPublic,
@@ -68,8 +72,8 @@ pub fn verify_digest_by<C: Climbing>(
     view.verify_digest_by(climbing, public, digest, 0)
 }
 
-/// The 54 bytes that are hashed before the message: I, q, D_MESG and C (RFC 8554 4.5). Refused is a fault of the
-/// signature's bytes (1 to 5), as verification refuses any message.
+/// The 54 bytes that are hashed before the message: I, q, D_MESG and C (RFC 8554 4.5). Refuses only a fault of the
+/// signature's bytes (1 to 5), as verification of any message does.
 pub fn message_prefix(public: &LmsPublic, signature: &[u8]) -> Result<[u8; 54], Refusal>
     ensures ok { IfOk result (HasPrefix public.now signature.now) }
     ensures err { IfErr result (λ refusal. (message : List ℕ)
@@ -86,12 +90,17 @@ pub fn message_prefix(public: &LmsPublic, signature: &[u8]) -> Result<[u8; 54], 
 }
 
 impl LmsSigView<'_> {
-    /// Verifies that the signature signs the message under the key (RFC 8554 5.4.2), as that of a level of
-    /// an HSS signature, 0 for the top tree's.
+    /// Verifies the signature of a message under the key (RFC 8554 5.4.2), at a level of an HSS signature, 0 for the
+    /// top.
     ///
-    /// The first refusal comes of: other types than the key's (10, with the level), a message that can't be read (14),
-    /// another root than the key's (12, with the level). The message is read to its end where the types are the key's,
-    /// and else left as it is. No public call compares the root without the types.
+    /// The first refusal, in this order:
+    ///
+    /// - 10, with the level: other types than the key's.
+    /// - 14: the message can't be read.
+    /// - 12, with the level: another root than the key's.
+    ///
+    /// The message is read to its end if the types are the key's, and else left as it is. No public call compares the
+    /// root without the types.
     pub fn verify<M: Message>(
         &self,
         public: &LmsPublic,
@@ -110,7 +119,7 @@ impl LmsSigView<'_> {
         }
     }
 
-    /// The same of a message in memory, as a lower level's key is, whose reading can't fail.
+    /// As `verify`, for a message in memory, such as a lower level's key, whose reading can't fail.
     pub fn verify_bytes(&self, public: &LmsPublic, message: &[u8], level: u8) -> Result<(), Refusal>
         ensures verdict { LevelVerdict public.now message.now (signature_of self.now) level result }
         ensures read { result ≢ Err Refusal.MessageRead }
@@ -118,7 +127,7 @@ impl LmsSigView<'_> {
         self.verify_bytes_by(&InLanes, public, message, level)
     }
 
-    /// The same, by a way to climb chains.
+    /// As `verify_bytes`, by a way to climb chains.
     pub fn verify_bytes_by<C: Climbing>(
         &self,
         climbing: &C,
@@ -135,8 +144,7 @@ impl LmsSigView<'_> {
         self.verify_digest(climbing, public, &digest, level)
     }
 
-    /// The same of a message of which the digest is given: that of the bytes of `message_prefix` and the message after
-    /// them (RFC 8554 4.5).
+    /// As `verify_bytes_by`, for a message's digest: SHA-256 of `message_prefix` and the message (RFC 8554 4.5).
     pub fn verify_digest_by<C: Climbing>(
         &self,
         climbing: &C,
@@ -152,14 +160,14 @@ impl LmsSigView<'_> {
         self.verify_digest(climbing, public, digest, level)
     }
 
-    /// The 54 bytes that are hashed before the message under the key: I, q, D_MESG and C (RFC 8554 4.5).
+    /// The 54 bytes that are hashed before the message: I, q, D_MESG and C (RFC 8554 4.5).
     pub fn message_prefix(&self, public: &LmsPublic) -> [u8; 54]
         ensures { result ≡ prefix_of public.now (signature_of self.now) }
     {
         self.one_time_key(public).message_prefix(self.randomizer)
     }
 
-    // Whether the types are the key's.
+    // 10 unless the types are the key's.
     fn check_types(&self, public: &LmsPublic, level: u8) -> Result<(), Refusal>
         ensures { MatchResult result (λ _. self.now.pair ≡ public.now.pair)
             (λ refusal. (refusal ≡ Refusal.TypeMismatch level) × (self.now.pair ≢ public.now.pair)) }
@@ -171,7 +179,7 @@ impl LmsSigView<'_> {
         }
     }
 
-    // The key of the leaf under which the message is hashed.
+    // The one-time key of the signature's leaf.
     fn one_time_key(&self, public: &LmsPublic) -> LmOts
         ensures identifier { result.identifier ≡ public.now.identifier }
         ensures leaf { result.leaf ≡ self.now.q }
@@ -182,7 +190,7 @@ impl LmsSigView<'_> {
         }
     }
 
-    // Whether the signature of a digest leads to the key's root (RFC 8554 5.4.2, step 4).
+    // 12 unless the signature of a digest leads to the key's root (RFC 8554 5.4.2, step 4).
     fn verify_digest<C: Climbing>(
         &self,
         climbing: &C,

@@ -26,9 +26,8 @@ pub fn write_public(public: &LmsPublic, into: &mut [u8])
     put(into, offset, &public.root);
 }
 
-/// Writes the signature of the digest Q by a leaf, with the randomizer C and the leaf's authentication
-/// path (RFC 8554 4.5 and 5.4.1). The caller keeps the leaf below `2^h`, and gives h nodes and as many
-/// bytes as the signature has.
+/// Writes a leaf's signature of the digest Q, with the randomizer C and an authentication path (RFC 8554 4.5 and
+/// 5.4.1). The caller keeps the leaf below `2^h`, and gives h nodes and as many bytes as the signature has.
 pub fn write_signature(
     secret: &LmsSecret,
     leaf: u32,
@@ -43,10 +42,10 @@ pub fn write_signature(
     ensures bytes { into.new ≡ signature_bytes (signed secret.now leaf randomizer.now digest.now path.now) }
     // They spell the signature.
     ensures spells { Spells signature (signed secret.now leaf randomizer.now digest.now path.now) into.new }
-    // Where the path is the leaf's, it is the textbook signature.
+    // If the path is the leaf's, it is the textbook signature.
     ensures textbook { path.now ≡ path_in secret.now leaf →
         into.new ≡ signature_bytes (textbook secret.now leaf randomizer.now digest.now) }
-    // Where the digest is a message's and the path is the leaf's, the signature is valid.
+    // If also the digest is a message's, the signature is valid.
     ensures valid { (message : List ℕ) →
         digest.now ≡ digest_in secret.now leaf randomizer.now message →
         path.now ≡ path_in secret.now leaf →

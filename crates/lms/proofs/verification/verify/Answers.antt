@@ -12,7 +12,7 @@ returns-in_err-view g c =
     let (text, fits) = some_content (g.M.Message.remaining c.args.message.now) in
     (text, fits, search rules, search rules)
 
--- the answer of the signature that was read is that of its bytes
+-- the answer for the decoded signature is the answer for its bytes
 pub returns : goal.returns
 returns g c =
     let spelled = read_spells _ signature signature_of _ c.read.result _ _ c.read.ensures.reads c.in_ok-view.ensures.cases (λ _ never. never) in

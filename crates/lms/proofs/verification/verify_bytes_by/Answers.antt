@@ -1,7 +1,7 @@
 use Rattle.lms.proofs.Verdicts.{whole_verdict}
 use Rattle.lms.proofs.verification.verify_bytes_by.Goals as goal
 
--- the answer of the signature that was read is that of its bytes
+-- the answer for the decoded signature is the answer for its bytes
 pub returns-clause-verdict : goal.returns-clause-verdict
 returns-clause-verdict g c =
     let spelled = c.in-Ok.ensures.reads in
