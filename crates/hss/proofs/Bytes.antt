@@ -80,7 +80,7 @@ keys-push (suc n) keys last a b spelled last_spelled =
 pub keys-more : (n : ℕ) (keys : List SignedKey) (last : SignedKey) (a b : List ℕ) → Spells (signed_keys n) keys a → Spells signed_key last b → Spells (signed_keys (n + 1)) (keys ++ last ∷ []) (a ++ b)
 keys-more n keys last a b spelled last_spelled = subst (λ m. Spells (signed_keys m) (keys ++ last ∷ []) (a ++ b)) (sym (add-one n)) (keys-push n keys last a b spelled last_spelled)
 
--- so many signed keys and a bottom signature, after their number
+-- signed keys and a bottom signature, after the number of keys
 pub whole-spelled : (s : Signature) (a b : List ℕ) → length s.signed ≤ 7 → Spells (signed_keys (length s.signed)) s.signed a → Spells lms_signature s.bottom b
     → Spells signature s (u32str (length s.signed) ++ a ++ b)
 unfolding signature
@@ -117,9 +117,9 @@ size-parts above bottom =
     parts (level ∷ above) =
         omega (arith, parts above, sum_by-cons part_size level above, sum_by-cons lms_signature_len_of level.secret.pair (map (λ level. level.secret.pair) above))
 
--- ---- a part that is written after those before it
+-- ---- one more part is written
 
--- the next signed key is that of the level and the key below
+-- the next signed key has the level's signature and the key below
 signed-next : (above : List Level) (bottom level : Level) (next : LmsPublic) (i : ℕ) → i < length above → level ≡ get_or above i level → next ≡ key_of (level_in above bottom (i + 1))
     → get_or (signed_by above bottom).signed i (signed_key_by level next) ≡ signed_key_by level next
 signed-next above bottom level next i within is next_is =
@@ -140,7 +140,7 @@ module _ (above : List Level) (bottom level : Level) (next : LmsPublic) (i : ℕ
       let one = signed_key_by level next in
       ap (flat_map signed_key_bytes) signed-more ∙ flat_map-append signed_key_bytes front (one ∷ []) ∙ ap (λ b. flat_map signed_key_bytes front ++ b) (append-nil (signed_key_bytes one))
 
-  -- its bytes stand after those before it
+  -- its bytes follow the earlier ones
   pub written-more : (head old part : List ℕ) (offset end : ℕ) → take offset old ≡ head ++ flat_map signed_key_bytes (take i (signed_by above bottom).signed)
       → part ≡ signed_key_bytes (signed_key_by level next) → offset ≤ length old → end ≡ offset + length part
       → take end (put_mid offset (end - offset) old part) ≡ head ++ flat_map signed_key_bytes (take (i + 1) (signed_by above bottom).signed)
@@ -158,7 +158,7 @@ module _ (above : List Level) (bottom level : Level) (next : LmsPublic) (i : ℕ
       let pushed = keys-more i front (signed_key_by level next) (flat_map signed_key_bytes front) (signed_key_bytes (signed_key_by level next)) before one in
       subst₂ (Spells (signed_keys (i + 1))) (sym signed-more) (sym bytes-more) pushed
 
--- The number of signed keys, these, and the bottom's signature after them to the end, are a signature's bytes.
+-- The number of signed keys, these, and the bottom's signature to the end are a signature's bytes.
 pub whole-written : (s : Signature) (n offset : ℕ) (x bottom : List ℕ) → take offset x ≡ u32str n ++ flat_map signed_key_bytes s.signed → n ≡ length s.signed → bottom ≡ lms_signature_bytes s.bottom → offset ≤ length x
     → take offset x ++ (bottom ++ post_of offset (length x - offset) x) ≡ signature_bytes s
 whole-written s n offset x bottom front count bottom_is inside =

@@ -22,13 +22,13 @@ module _ {L : Type 0} (signature : L → LmsSignature) (key : L → LmsPublic) (
   nexts-count : length (drop 1 (levels_in above bottom)) ≡ length above
   nexts-count = omega (arith, length-drop 1 (levels_in above bottom), length-append above (bottom ∷ []))
 
-  -- so many keys are signed
+  -- as many keys are signed
   pub signed-count : length (signed_with signature key above bottom).signed ≡ length above
   signed-count =
       length-map (zip above (drop 1 (levels_in above bottom))) _
       ∙ omega (arith, length-zip above (drop 1 (levels_in above bottom)), nexts-count)
 
-  -- the levels' signatures are theirs
+  -- the signatures are the levels'
   signatures : signatures_of (signed_with signature key above bottom) ≡ map signature (levels_in above bottom)
   signatures =
       let nexts = drop 1 (levels_in above bottom) in
@@ -38,7 +38,7 @@ module _ {L : Type 0} (signature : L → LmsSignature) (key : L → LmsPublic) (
       map-map (λ signed. signed.signature) made (zip above nexts) ∙ sym (map-map signature first (zip above nexts)) ∙ ap (map signature) (firsts-zip above nexts nexts-count) in
       ap (λ xs. xs ++ signature bottom ∷ []) front ∙ sym (map-append signature above (bottom ∷ []))
 
-  -- and their keys
+  -- and the keys are theirs
   keys : keys_of (key (level_in above bottom 0)) (signed_with signature key above bottom) ≡ map key (levels_in above bottom)
   keys =
       let nexts = drop 1 (levels_in above bottom) in
@@ -83,13 +83,13 @@ public_at level = lms_public_of level.secret
 
 -- ---- levels with their roots and paths
 
--- a level's key is that of its secret's tree, if its root is
+-- a level's key is its secret's, if its root is
 key-from_secret : (level : Level) → level.root ≡ (lms_public_of level.secret).root → lms_public_of level.secret ≡ key_of level
 key-from_secret level root =
     let with : List ℕ → LmsPublic = λ root. record { pair = level.secret.pair; identifier = level.secret.identifier; root = root } in
     ap with (sym root)
 
--- What levels make that hold their secrets' roots and paths and the digests of what they sign is valid under their key.
+-- A signature of levels with their secrets' roots and paths, and with the digests of what they sign, is valid.
 pub made_valid : (above : List Level) (bottom : Level) (message : List ℕ) → FromSecrets above bottom → AreDigests above bottom message → IsValid (public_by above bottom) message (signed_by above bottom)
 made_valid above bottom message theirs digests =
     signed_with-valid signature_by key_of above bottom message
@@ -122,14 +122,14 @@ signed-at {L = L} signature key above bottom i other within =
 signature-from_secret : (level : Level) → level.path.now ≡ path_in level.secret level.leaf → signature_by level ≡ signature_of (signing_of level)
 signature-from_secret level path = ap (lms_signed level.secret level.leaf level.randomizer level.digest) path
 
--- level i of what the levels sign with
+-- what level i signs with
 level_in-signing : (above : List Level) (bottom : Level) (i : ℕ) → i < length above + 1 → level_in (map signing_of above) (signing_of bottom) i ≡ signing_of (level_in above bottom i)
 level_in-signing above bottom i inside =
     let within : i < length (levels_in above bottom) = omega (arith, length-append above (bottom ∷ [])) in
     ap (λ levels. get_or levels i (signing_of bottom)) (sym (map-append signing_of above (bottom ∷ [])))
     ∙ get_or-map signing_of (levels_in above bottom) i bottom (signing_of bottom) within
 
--- What levels make that hold their secrets' roots and paths is the textbook signature.
+-- A signature of levels with their secrets' roots and paths is the textbook signature.
 pub made_textbook : (above : List Level) (bottom : Level) → FromSecrets above bottom → signed_by above bottom ≡ textbook (map signing_of above) (signing_of bottom)
 made_textbook above bottom theirs =
     let n = length above in

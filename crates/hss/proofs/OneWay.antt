@@ -86,7 +86,7 @@ unfolding signed_keys of_first
 one_way-signed_keys zero = one_way-done []
 one_way-signed_keys (suc n) = one_more n (one_way-signed_keys n)
 
--- so many they are
+-- there are n of them
 signed_keys-count : (n : ℕ) (keys : List SignedKey) (bytes : List ℕ) → Spells (signed_keys n) keys bytes → length keys ≡ n
 unfolding signed_keys
 signed_keys-count zero keys bytes spelled = ap length (sym spelled.0)

@@ -69,7 +69,7 @@ pub keys-next : (n : ℕ) (bytes : List ℕ) (place middle end : ℕ) (keys : Li
 keys-next n bytes place middle end keys last found last_found =
     ap (λ n. read (signed_keys n) bytes place) (add-one n) ∙ keys-push n bytes place middle end keys last found last_found
 
--- the fault of the next one is that of all
+-- the next one's fault is the fault of all
 pub keys-faulty : (i n : ℕ) (bytes : List ℕ) (place middle : ℕ) (keys : List SignedKey) (fault : ReadFault) → i < n → read (signed_keys i) bytes place ≡ Ok (keys, middle)
     → read signed_key bytes middle ≡ Err fault → read (signed_keys n) bytes place ≡ Err fault
 unfolding signed_keys

@@ -29,7 +29,7 @@ unfolding node
 node-size secret zero j = length-sha256 _
 node-size secret (suc k) j = length-sha256 _
 
--- so are those of a path
+-- so are the nodes of a path
 path-size : (secret : LmsSecret) (q i : ℕ) → i < height_of secret.pair.tree → length (get_or (path_in secret q) i []) ≡ 32
 path-size secret q i within =
     ap length (get_or-map-range_with_len _ 0 (height_of secret.pair.tree) i i [] within (omega arith)) ∙ node-size secret i _

@@ -1,4 +1,4 @@
--- Slots of which the first are in use.
+-- Slots that are in use from the first one on.
 use Rattle.std.proofs.Common.{◌≡◌, ◌∙◌, refl, sym, ap, ℕ, zero, suc, ◌+◌, ◌-◌, ◌<◌, ◌≤◌, inl, inr, List, [], ◌∷◌, ◌++◌, length, take, drop, get_or, Option, Some, None, arith, subst, add-one, append-nil, append_assoc, length-append}
 use Rattle.std.specs.Prelude.{set}
 use Rattle.std.proofs.lemmas.Bool.{cases_lt, cases_order}
@@ -19,7 +19,7 @@ none-after n slots i view empty past is =
     let there : n + (i - n) ≡ i = omega arith in
     none-in (drop n slots) (i - n) view empty (get_or-drop n slots (i - n) None ∙ ap (λ k. get_or slots k None) there ∙ is)
 
--- what a slot in use shows stands between what those before and after it show
+-- what a slot in use shows stands between what the slots before and after it show
 pub signed-at : (slots : List (Option SignedKeyView)) (i : ℕ) (view : SignedKeyView) → slot slots i ≡ Some view → signed_in (drop i slots) ≡ signed_key_of view ∷ signed_in (drop (suc i) slots)
 signed-at [] i view is = absurd (cc)
 signed-at (x ∷ rest) zero view is = ap (λ x. shown x ++ signed_in rest) is
@@ -40,7 +40,7 @@ pub in-use : (n : ℕ) (slots : List (Option SignedKeyView)) (i : ℕ) → AreFi
 in-use n slots i first within is =
     omega (arith, first.0 i (omega arith), first.0 (i + 1) (omega arith), ap (λ k. length (signed_in (take k slots))) (add-one i), ap length (skipped slots i is))
 
--- they show as many
+-- they show n signed keys
 pub shown-count : (n : ℕ) (slots : List (Option SignedKeyView)) → AreFirst n slots → length (signed_in slots) ≡ n
 shown-count n slots first =
     ap length (signed-cut slots n ∙ ap (λ keys. signed_in (take n slots) ++ keys) first.1 ∙ append-nil (signed_in (take n slots))) ∙ first.0 n (omega arith)
@@ -103,7 +103,7 @@ module _ (slots : List (Option SignedKeyView)) (i : ℕ) (view : SignedKeyView) 
 pub shown-front : (n : ℕ) (slots : List (Option SignedKeyView)) → AreFirst n slots → signed_in slots ≡ signed_in (take n slots)
 shown-front n slots first = signed-cut slots n ∙ ap (λ keys. signed_in (take n slots) ++ keys) first.1 ∙ append-nil (signed_in (take n slots))
 
--- seven slots of which none is in use
+-- seven empty slots
 abbrev pub unused : List (Option SignedKeyView)
 unused = None ∷ None ∷ None ∷ None ∷ None ∷ None ∷ None ∷ []
 

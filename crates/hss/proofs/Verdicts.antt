@@ -10,11 +10,11 @@ use Rattle.hss.specs.declared.key.HssPublic.{HssPublic}
 use Rattle.hss.specs.Signature.{Signature, key_at, level_count, signature, signature_at}
 use Rattle.hss.specs.Verification.{IsValid, IsValidAt, Reaches, Verdict}
 
--- the level that was come to isn't valid
+-- verification reaches the level, and it isn't valid
 abbrev Fails : HssPublic → List ℕ → List ℕ → Signature → ℕ → Type 0
 Fails key message bytes s i = Reaches key message bytes s i × (IsValidAt key.top message s i → ⊥)
 
--- one whose types are others isn't
+-- a level with other types than its key's isn't valid
 fails-types : (key : HssPublic) (message bytes : List ℕ) (s : Signature) (i : ℕ) → Reaches key message bytes s i → ((signature_at s i).pair ≢ (key_at key.top s i).pair) → Fails key message bytes s i
 fails-types key message bytes s i reaches differs = (reaches, λ valid. differs valid.types)
 
@@ -40,11 +40,11 @@ same_types key message bytes s t i j s_reaches t_reaches same types =
     let is = one_value signature s t bytes s_reaches.spelled t_reaches.spelled in
     subst (λ j. (signature_at t j).pair ≡ (key_at key.top t j).pair) same (subst (λ s. (signature_at s i).pair ≡ (key_at key.top s i).pair) is types)
 
--- a signature that is come to has the key's levels
+-- a signature whose level is reached has the key's number of levels
 counted : (key : HssPublic) (message bytes : List ℕ) (s t : Signature) (i : ℕ) → Reaches key message bytes s i → Spells signature t bytes → level_count t ≡ key.levels
 counted key message bytes s t i reaches spelled = ap level_count (one_value signature t s bytes spelled reaches.spelled) ∙ reaches.count
 
--- a valid signature is refused by no answer, unless the message can't be read
+-- a valid signature is refused only where the message can't be read
 pub accepted : {A : Type 0} (key : HssPublic) (message bytes : List ℕ) (result : Result A Refusal) → Verdict key message bytes result → result ≢ Err MessageRead → (s : Signature) → Spells signature s bytes → IsValid key message s → IsOk result
 accepted key message bytes (Ok x) verdict read s spelled valid = refl
 accepted key message bytes (Err (Unreadable fault)) faulty read s spelled valid = absurd (no_value signature s bytes 0 fault spelled faulty)
@@ -55,7 +55,7 @@ accepted key message bytes (Err (TypeMismatch i)) (t, reaches, differs) read s s
 accepted key message bytes (Err MessageRead) verdict read s spelled valid = absurd (read refl)
 accepted key message bytes (Err (RootMismatch i)) (t, reaches, types, fails) read s spelled valid = absurd (never-fails key message bytes s t i (reaches, fails) spelled valid)
 
--- two refusals of the same bytes are one, but for those of the message and of the root
+-- two refusals of the same bytes are one, unless one is the message's
 pub one_refusal : (A : Type 0) (key : HssPublic) (message bytes : List ℕ) (first second : Refusal) → Verdict {A = A} key message bytes (Err first) → Verdict {A = A} key message bytes (Err second)
     → first ≢ MessageRead → second ≢ MessageRead → first ≡ second
 one_refusal A key message bytes (Unreadable f) (Unreadable g) first second read read_too = ap Unreadable (one_fault signature bytes 0 f g first second)
@@ -97,7 +97,7 @@ fails-at-bottom key message bytes s t i s_reaches (t_reaches, t_fails) =
       | inr (inr past) ↦ absurd (omega (arith, past, t_reaches.inside, s_reaches.count))
     ]
 
--- where the message may be refused, no refusal comes that stands before it
+-- where the message may be refused, no earlier refusal comes
 pub read_in_turn : (A : Type 0) (key : HssPublic) (message bytes : List ℕ) (first : Refusal) → Verdict {A = A} key message bytes (Err MessageRead)
     → Verdict {A = A} key message bytes (Err first)
     → (first ≡ MessageRead) ⊎ ((bottom : ℕ) × (bottom + 1 ≡ key.levels) × (first ≡ RootMismatch bottom))

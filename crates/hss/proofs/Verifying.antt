@@ -26,13 +26,13 @@ message_at-above top message s i within =
     ap public_bytes (ap (λ k. get_or (keys_of top s) k top) (add-one i) ∙ get_or-map key_of s.signed i other top within)
     ∙ sym (get_or-map bytes_of s.signed i other message within) ∙ sym (get_or_append_left (map bytes_of s.signed) (message ∷ []) message i inside)
 
--- an answer of a level is also that of the same signature and message
+-- an answer of a level is also the answer for an equal signature and message
 pub level-same : {A : Type 0} (key : LmsPublic) (signed message : List ℕ) (read s : LmsSignature) (i j : ℕ) (result : Result A Refusal) → read ≡ s → signed ≡ message → i ≡ j
     → LevelVerdict key signed read i result → LevelVerdict key message s j result
 level-same key signed message read s i j result s_is message_is i_is verdict =
     subst (λ i. LevelVerdict key message s i result) i_is (subst (λ m. LevelVerdict key m s i result) message_is (subst (λ s. LevelVerdict key signed s i result) s_is verdict))
 
--- a level's refusal is one whatever it would have given
+-- a level's refusal stays one, whatever an Ok would give
 pub level-refused : (A B : Type 0) (key : LmsPublic) (message : List ℕ) (s : LmsSignature) (i : ℕ) (refusal : Refusal) → LevelVerdict {A = A} key message s i (Err refusal)
     → LevelVerdict {A = B} key message s i (Err refusal)
 level-refused A B key message s i (Unreadable fault) refused = refused
@@ -41,7 +41,7 @@ level-refused A B key message s i LevelMismatch refused = refused
 level-refused A B key message s i MessageRead refused = refused
 level-refused A B key message s i (RootMismatch level) refused = refused
 
--- what a level above the bottom answers for the key after it is its answer, whatever the message
+-- a level's answer for the key that follows it is its answer, whatever the message
 pub level-at : {A : Type 0} (top : LmsPublic) (s : Signature) (i : ℕ) (key next : LmsPublic) (read : LmsSignature) (result : Result A Refusal) → i < length s.signed → read ≡ signature_at s i
     → ((top : LmsPublic) → next ≡ key_at top s (i + 1)) → LevelVerdict key (public_bytes next) read i result → (message : List ℕ) → LevelVerdict key (message_at message s i) (signature_at s i) i result
 level-at top s i key next read result within read_is next_is verdict message =
@@ -71,7 +71,7 @@ message_at-bottom message s =
     let bytes_of : SignedKey → List ℕ = λ signed. public_bytes signed.key in
     sym (get_or_at (map bytes_of s.signed) message [] message (length s.signed) (length-map s.signed bytes_of))
 
--- where also the bottom's signature is valid, all is
+-- if the bottom's signature is valid, too, all is
 pub bottom-valid : (key : HssPublic) (message : List ℕ) (s : Signature) → level_count s ≡ key.levels → AreValidAbove key.top s (length s.signed) → IsValidAt key.top message s (length s.signed)
     → IsValid key message s
 bottom-valid key message s count above valid = record {
@@ -83,7 +83,7 @@ bottom-valid key message s count above valid = record {
       ];
 }
 
--- verification comes to the bottom where all levels above it are valid
+-- verification reaches the bottom where all levels above it are valid
 pub bottom-reached : (key : HssPublic) (message bytes : List ℕ) (s : Signature) → Spells signature s bytes → level_count s ≡ key.levels → AreValidAbove key.top s (length s.signed)
     → Reaches key message bytes s (length s.signed)
 bottom-reached key message bytes s spelled count above = record {
@@ -93,7 +93,7 @@ bottom-reached key message bytes s spelled count above = record {
   above = above message;
 }
 
--- a refusal above the bottom is that of all
+-- a refusal above the bottom is the whole answer
 pub above-verdict : (A : Type 0) (key : HssPublic) (message bytes : List ℕ) (s : Signature) (refusal : Refusal) → Spells signature s bytes → level_count s ≡ key.levels
     → AboveVerdict key.top s (Err refusal) → Verdict {A = A} key message bytes (Err refusal)
 above-verdict A key message bytes s (Unreadable fault) spelled count refused = absurd refused
@@ -104,7 +104,7 @@ above-verdict A key message bytes s (TypeMismatch i) spelled count (within, abov
 above-verdict A key message bytes s (RootMismatch i) spelled count (within, above, types, never) =
     (s, record { spelled = spelled; count = count; inside = omega (arith, count); above = above message }, types, never message)
 
--- the bottom's answer is that of all
+-- the bottom's answer is the whole answer
 pub bottom-verdict : {A : Type 0} (key : HssPublic) (message bytes : List ℕ) (s : Signature) (result : Result A Refusal) → Spells signature s bytes → level_count s ≡ key.levels
     → AreValidAbove key.top s (length s.signed)
     → LevelVerdict (key_at key.top s (length s.signed)) (message_at message s (length s.signed)) (signature_at s (length s.signed)) (length s.signed) result → Verdict key message bytes result
@@ -125,7 +125,7 @@ bottom-read key message bytes s k read i result spelled count (key_is, above) at
     let same = level-same k message (message_at message s n) read (signature_at s n) i n result (read_is ∙ ap (signature_at s) at_bottom) (message_at-bottom message s) at_bottom verdict in
     bottom-verdict key message bytes s result spelled count above (subst (λ k. LevelVerdict k (message_at message s n) (signature_at s n) n result) key_is same)
 
--- the bottom leaves of the message what verification leaves
+-- verification leaves the message as the bottom level does
 pub bottom-leaves : {M A : Type 0} (transition : Transition M) (remaining : M → Option (List ℕ)) (text : List ℕ) (old new : M) (key : HssPublic) (k : LmsPublic) (read : LmsSignature) (i : ℕ)
     (result : Result A Refusal) → i + 1 ≡ key.levels → LevelVerdict k text read i result → LmsLeavesMessage transition remaining text old new result
     → LeavesMessage transition remaining key text old new result
@@ -161,7 +161,7 @@ above-read top s MessageRead refused same = absurd refused
 above-read top s (TypeMismatch i) refused same = absurd (cc)
 above-read top s (RootMismatch i) refused same = absurd (cc)
 
--- the answer of the bottom level is that of the bytes
+-- the bottom level's answer is the answer for the bytes
 pub of-bottom : {A : Type 0} (key : HssPublic) (message bytes : List ℕ) (read : LmsSignature) (k : LmsPublic) (i : ℕ) (result : Result A Refusal)
     → IsBottom key bytes read k i → LevelVerdict k message read i result → Verdict key message bytes result
 of-bottom key message bytes read k i result bottom verdict =
@@ -169,7 +169,7 @@ of-bottom key message bytes read k i result bottom verdict =
     bottom-read key message bytes s k read i result bottom.spelled bottom.count bottom.above bottom.last
     (bottom.signature_is ∙ signature_at-bottom s i bottom.last) verdict
 
--- the digest of the message under the bytes' signature is that under the bottom level
+-- the message's digest under the bytes' signature is its digest under the bottom level
 pub digest-at-bottom : (key : HssPublic) (message bytes digest : List ℕ) (read : LmsSignature) (k : LmsPublic) (i : ℕ)
     → IsBottom key bytes read k i → IsDigest key message bytes digest → digest ≡ lms_digest_of k message read
 digest-at-bottom key message bytes digest read k i bottom is_digest =

@@ -88,7 +88,7 @@ signed_key-split bytes place end signed within found =
       omega (arith, final.1, end_is),
     )
 
--- signed keys are as many as they are to be, and end after all of them
+-- there are n signed keys, and they end after all of them
 pub keys-end : (n : ℕ) (bytes : List ℕ) (place end : ℕ) (keys : List SignedKey) → place ≤ length bytes → read (signed_keys n) bytes place ≡ Ok (keys, end)
     → (length keys ≡ n) × (end ≡ place + sum_by taken (map (λ signed. signed.signature) keys)) × (end ≤ length bytes)
 unfolding signed_keys
@@ -175,14 +175,14 @@ is_read s bytes found =
     let (bottom, bottom_found, same) = in_turn lms_signature (λ bottom. done (record { signed = keys.0; bottom = bottom })) bytes keys.1 (s, length bytes) bottom_follows in
     is_read-parts s bytes n.0 n.1 keys.1 bottom.1 keys.0 bottom.0 n_found keys_found bottom_found (cc)
 
--- the levels above level i end where it begins
+-- level i begins where the levels above it end
 pub starts : (s : Signature) (i : ℕ) → i ≤ length s.signed → 4 + sum_by taken (map (λ signed. signed.signature) (take i s.signed)) ≡ start_of s i
 starts s i within =
     let above = map (λ signed. signed.signature) s.signed in
     let few : i ≤ length above = omega (arith, length-map s.signed (λ signed. signed.signature)) in
     ap (λ front. 4 + sum_by taken front) (sym (take-map (λ signed. signed.signature) i s.signed) ∙ sym (take-append-le i above (s.bottom ∷ []) few))
 
--- so many signed keys stand before level i
+-- i signed keys stand before level i
 pub above_read : (s : Signature) (bytes : List ℕ) (i : ℕ) → IsRead s bytes → i ≤ length s.signed → read (signed_keys i) bytes 4 ≡ Ok (take i s.signed, start_of s i)
 above_read s bytes i parts within =
     let (middle, front, back) = keys-prefix i (length s.signed) bytes 4 parts.end s.signed within parts.keys in
@@ -199,7 +199,7 @@ start-more s i within =
     ap (sum_by taken) (take_more all i s.bottom size) ∙ sum_by_push taken (take i all) (signature_at s i) in
     omega (arith, sum)
 
--- the signature and the key of a level above the bottom are those of its signed key
+-- above the bottom, a level's signature and the next key are its signed key's
 pub signature_at-above : (s : Signature) (i : ℕ) (first : SignedKey) (rest : List SignedKey) → i < length s.signed → drop i s.signed ≡ first ∷ rest → first.signature ≡ signature_at s i
 signature_at-above s i first rest within is =
     let of : SignedKey → LmsSignature = λ signed. signed.signature in
@@ -321,7 +321,7 @@ whole-size s bytes found =
     let pairs : length (map (λ level. level.pair) all) ≡ n + 1 = length-map all (λ level. level.pair) ∙ count in
     omega (arith, keys.1, bottom, sum, with-keys all, count, pairs)
 
--- A number of levels, so many signed keys and a signature at the bottom that are read in turn are read as a signature.
+-- A number of levels, as many signed keys and a bottom signature, read in turn, are read as a signature.
 pub whole-read : (bytes : List ℕ) (above four place end : ℕ) (keys : List SignedKey) (bottom : LmsSignature) → read (level_number 0 7) bytes 0 ≡ Ok (above, four)
     → read (signed_keys above) bytes four ≡ Ok (keys, place) → read lms_signature bytes place ≡ Ok (bottom, end) → read signature bytes 0 ≡ Ok (record { signed = keys; bottom = bottom }, end)
 unfolding signature

@@ -6,14 +6,14 @@ use Rattle.lms.specs.Signature.{Signature as LmsSignature}
 use Rattle.lms.specs.Writing.{signed as lms_signed}
 use Rattle.hss.specs.declared.secret.Level.{Level}
 
--- the tree's secret, a leaf, the randomizer C, and the digest Q of what the level signs
+-- a tree's secret, a leaf, the randomizer C, and the digest Q of what the level signs
 pub record Signing : Type 0 where
   pub secret : LmsSecret
   pub leaf : ℕ
   pub randomizer : List ℕ
   pub digest : List ℕ
 
--- those of a level
+-- what a level signs with
 abbrev pub signing_of : Level → Signing
 signing_of level =
     record { secret = level.secret; leaf = level.leaf; randomizer = level.randomizer; digest = level.digest }

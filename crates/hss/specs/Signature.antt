@@ -19,7 +19,7 @@ pub record Signature : Type 0 where
   pub signed : List SignedKey
   pub bottom : LmsSignature
 
--- L - 1, so many signed keys, and the bottom tree's signature of the message
+-- L - 1, as many signed keys, and the bottom tree's signature of the message
 unfoldable pub signature : Layout Signature
 signature = do
   above ← level_number 0 7
@@ -33,11 +33,11 @@ signature = do
 abbrev pub level_count : Signature → ℕ
 level_count s = length s.signed + 1
 
--- the levels' signatures: those of the signed keys, and the bottom one
+-- the levels' signatures, in the signed keys and at the bottom
 abbrev pub signatures_of : Signature → List LmsSignature
 signatures_of s = map (λ signed. signed.signature) s.signed ++ s.bottom ∷ []
 
--- the levels' keys: the given one, and those that are signed
+-- the levels' keys: the given one, and the signed ones
 abbrev pub keys_of : LmsPublic → Signature → List LmsPublic
 keys_of top s = top ∷ map (λ signed. signed.key) s.signed
 
@@ -45,7 +45,7 @@ keys_of top s = top ∷ map (λ signed. signed.key) s.signed
 abbrev pub messages_of : List ℕ → Signature → List (List ℕ)
 messages_of message s = map (λ signed. public_bytes signed.key) s.signed ++ message ∷ []
 
--- those of level i
+-- the signature, the key and the message of level i
 abbrev pub signature_at : Signature → ℕ → LmsSignature
 signature_at s i = slice_index_or (signatures_of s) i s.bottom
 
@@ -57,7 +57,7 @@ message_at message s i = slice_index_or (messages_of message s) i message
 
 -- ---- where the levels stand in the bytes
 
--- where the signature of level i begins: after the levels' number, and the signatures and keys of the levels above
+-- where the signature of level i begins: after the first 4 bytes, and the signatures and keys of the levels above
 abbrev pub start_of : Signature → ℕ → ℕ
 start_of s i = 4 + sum_by taken (take i (signatures_of s))
 
@@ -65,7 +65,7 @@ start_of s i = 4 + sum_by taken (take i (signatures_of s))
 abbrev pub pairs_in : Signature → List LmsPair
 pairs_in s = map (λ level. level.pair) (signatures_of s)
 
--- how many bytes the signatures of levels of these pairs have
+-- the bytes of a signature of levels of these pairs
 abbrev pub signature_size : List LmsPair → ℕ
 signature_size pairs = 4 + sum_by lms_signature_len_of pairs + 56 * (length pairs - 1)
 

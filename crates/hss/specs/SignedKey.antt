@@ -21,7 +21,7 @@ signed_key = do
   key ← lms_public_key
   done (record { signature = signature; key = key })
 
--- n of them, from the top down
+-- n signed keys, from the top down
 unfoldable pub signed_keys : ℕ → Layout (List SignedKey)
 signed_keys zero = done []
 signed_keys (suc n) = do
@@ -29,7 +29,7 @@ signed_keys (suc n) = do
   rest ← signed_keys n
   done (first ∷ rest)
 
--- how many bytes a signature takes with the key after it, and so many of them
+-- the bytes of a signature with the key after it, and of several
 abbrev pub taken : LmsSignature → ℕ
 taken s = lms_signature_len_of s.pair + 56
 
@@ -41,14 +41,14 @@ taken_by keys = sum_by taken (map (λ signed. signed.signature) keys)
 abbrev pub signed_key_of : SignedKeyView → SignedKey
 signed_key_of view = record { signature = lms_signature_of view.signature; key = view.key }
 
--- The view's bytes are those from a place on: its signature's, and after them its key's.
+-- The view's bytes stand at a place: its signature's, then its key's.
 abbrev pub BeginsAt : ℕ → List ℕ → SignedKeyView → Type 0
 BeginsAt place bytes view =
     let size = lms_signature_len_of (lms_pair_of view.signature) in
     (lms_bytes_of view.signature ≡ take size (drop place bytes))
     × (view.key_bytes.now ≡ take 56 (drop (place + size) bytes))
 
--- what slots show, of which some are empty
+-- what slots show; empty ones show nothing
 abbrev pub shown : Option SignedKeyView → List SignedKey
 shown (Some view) = signed_key_of view ∷ []
 shown None = []
@@ -65,7 +65,7 @@ abbrev pub AreFirst : ℕ → List (Option SignedKeyView) → Type 0
 AreFirst n slots =
     ((i : ℕ) → i ≤ n → length (signed_in (take i slots)) ≡ i) × (signed_in (drop n slots) ≡ [])
 
--- each view stands after those before it, and the first one at a place
+-- the views stand one after the other, the first one at a place
 abbrev pub StandInTurn : ℕ → List ℕ → List (Option SignedKeyView) → Type 0
 StandInTurn place bytes slots =
     (i : ℕ) (view : SignedKeyView) → slot slots i ≡ Some view

@@ -15,36 +15,41 @@ use Rattle.hss.specs.Signature.{Signature, key_at, level_count, message_at, sign
 abbrev pub IsValidAt : LmsPublic → List ℕ → Signature → ℕ → Type 0
 IsValidAt top message s i = IsLmsValid (key_at top s i) (message_at message s i) (signature_at s i)
 
--- A signature has as many levels as the key, and is valid at each.
+-- The signature has as many levels as the key, and is valid at each.
 pub record IsValid (key : HssPublic) (message : List ℕ) (s : Signature) : Type 0 where
   pub count : level_count s ≡ key.levels
   pub levels : (i : ℕ) → i < key.levels → IsValidAt key.top message s i
 
--- The bytes spell a signature with the key's levels, of which level i is one, and all above it are valid.
+-- The bytes spell a signature with the key's number of levels. It has a level i, and all levels above it are valid.
 pub record Reaches (key : HssPublic) (message bytes : List ℕ) (s : Signature) (i : ℕ) : Type 0 where
   pub spelled : Spells signature s bytes
   pub count : level_count s ≡ key.levels
   pub inside : i < key.levels
   pub above : (j : ℕ) → j < i → IsValidAt key.top message s j
 
--- The digest is that of the message under the bottom level of the signature that the bytes spell, if they spell one.
+-- If the bytes spell a signature, this is the message's digest under its bottom level.
 abbrev pub IsDigest : HssPublic → List ℕ → List ℕ → List ℕ → Type 0
 IsDigest key message bytes digest = (s : Signature) → Spells signature s bytes
     → digest ≡ lms_digest_of (key_at key.top s (length s.signed)) message s.bottom
 
--- The bytes spell a signature with the key's levels, and this is what is hashed before its message.
+-- The bytes spell a signature with the key's number of levels, and this is what is hashed before its message.
 abbrev pub HasPrefix : HssPublic → List ℕ → List ℕ → Type 0
 HasPrefix key bytes prefix = (s : Signature) × Spells signature s bytes × (level_count s ≡ key.levels)
     × (prefix ≡ lms_prefix_of (key_at key.top s (length s.signed)) s.bottom)
 
--- The types of level i are those of its key.
+-- Level i has its key's types.
 abbrev pub HasKeyTypes : LmsPublic → Signature → ℕ → Type 0
 HasKeyTypes top s i = (signature_at s i).pair ≡ (key_at top s i).pair
 
--- Ok: the bytes spell a valid signature. Else they spell none, and have this fault; or one of other
--- levels than the key's; or this level is the first from the top that isn't valid, since its types
--- aren't its key's, or though they are; or all above the bottom are valid, the bottom's types are its key's, and the
--- message can't be read.
+-- What verification answers of a signature's bytes.
+--
+-- - Ok: they spell a valid signature.
+-- - `Unreadable`: they spell none, and have this fault.
+-- - `LevelMismatch`: they spell one of another number of levels than the key's.
+-- - `TypeMismatch`: level i is the first that isn't valid, and its types aren't its key's.
+-- - `MessageRead`: all levels above the bottom are valid, the bottom has its key's types, and the message can't be
+--   read.
+-- - `RootMismatch`: level i is the first that isn't valid, though its types are its key's.
 abbrev pub Verdict : {A : Type 0} → HssPublic → List ℕ → List ℕ → Result A Refusal → Type 0
 Verdict key message bytes (Ok _) = (s : Signature) × Spells signature s bytes × IsValid key message s
 Verdict key message bytes (Err (Unreadable fault)) = HasFault signature bytes 0 fault
@@ -57,8 +62,8 @@ Verdict key message bytes (Err MessageRead) =
 Verdict key message bytes (Err (RootMismatch i)) =
     (s : Signature) × Reaches key message bytes s i × HasKeyTypes key.top s i × (IsValidAt key.top message s i → ⊥)
 
--- What becomes of the message: it was read whole, and gave this text, where the bottom level's root was compared; it
--- can't be read; and it is as it was where a refusal came before it was read.
+-- What verification leaves of the message. Where the bottom level's root was compared, it was read whole and gave this
+-- text. Where a refusal came before reading, it is untouched.
 abbrev pub LeavesMessage : {M A : Type 0} → Transition M → (M → Option (List ℕ)) → HssPublic → List ℕ → M → M
     → Result A Refusal → Type 0
 LeavesMessage transition remaining key text old new (Ok _) = ReadWhole transition remaining text old new
@@ -75,7 +80,7 @@ LeavesMessage transition remaining key text old new (Err (RootMismatch i)) =
 abbrev pub AreValidAbove : LmsPublic → Signature → ℕ → Type 0
 AreValidAbove top s i = (message : List ℕ) (j : ℕ) → j < i → IsValidAt top message s j
 
--- above the bottom: all levels are valid, and this is the bottom's key; or one is the first that isn't
+-- above the bottom: all levels are valid and this is the bottom's key, or one level is the first that isn't valid
 abbrev pub AboveVerdict : LmsPublic → Signature → Result LmsPublic Refusal → Type 0
 AboveVerdict top s (Ok key) = (key ≡ key_at top s (length s.signed)) × AreValidAbove top s (length s.signed)
 AboveVerdict top s (Err (Unreadable fault)) = ⊥
@@ -87,8 +92,8 @@ AboveVerdict top s (Err (RootMismatch i)) =
     (i < length s.signed) × AreValidAbove top s i × HasKeyTypes top s i
     × ((message : List ℕ) → IsValidAt top message s i → ⊥)
 
--- This is the bottom level of the signature that the bytes spell, which has the key's levels: its signature, its key
--- and its number; and all levels above it are valid.
+-- The bottom level of the signature that the bytes spell: its signature, its key and its number. The signature has the
+-- key's number of levels, and all levels above the bottom are valid.
 pub record IsBottom (key : HssPublic) (bytes : List ℕ) (bottom : LmsSignature) (bottom_key : LmsPublic) (i : ℕ)
     : Type 0 where
   pub whole : Signature

@@ -31,7 +31,7 @@ abbrev pub signature_bytes : Signature → List ℕ
 signature_bytes s =
     u32str (length s.signed) ++ flat_map signed_key_bytes s.signed ++ lms_signature_bytes s.bottom
 
--- ---- the textbook signature of levels, of those above the bottom, from the top down, and the bottom one
+-- ---- the textbook signature of levels: the ones above the bottom, from the top down, and the bottom one
 
 -- the levels
 abbrev pub levels_in : {L : Type 0} → List L → L → List L
@@ -41,7 +41,7 @@ levels_in above bottom = above ++ bottom ∷ []
 abbrev pub level_in : {L : Type 0} → List L → L → ℕ → L
 level_in above bottom i = slice_index_or (levels_in above bottom) i bottom
 
--- The signature of levels: above the bottom each level's signature stands before the next level's key.
+-- The signature of levels: above the bottom, each level's signature and after it the next level's key.
 abbrev pub signed_with : {L : Type 0} → (L → LmsSignature) → (L → LmsPublic) → List L → L → Signature
 signed_with signature key above bottom =
     let nexts = drop 1 (levels_in above bottom) in record {
@@ -49,31 +49,30 @@ signed_with signature key above bottom =
       bottom = signature bottom;
     }
 
--- the key of the levels' trees
+-- the levels' public key
 abbrev pub public_of : List Signing → Signing → HssPublic
 public_of above bottom = record {
   levels = length above + 1;
   top = lms_public_of (level_in above bottom 0).secret;
 }
 
--- The textbook signature: each level's is the textbook signature of its tree, and stands before the key
--- of the next level's tree.
+-- The textbook signature: the textbook signatures of the levels' trees, and after each the next tree's key.
 abbrev pub textbook : List Signing → Signing → Signature
 textbook above bottom = signed_with
     (λ level. lms_textbook level.secret level.leaf level.randomizer level.digest) (λ level. lms_public_of level.secret)
     above bottom
 
--- the values have their sizes, and the leaf is one of the tree
+-- the values have their sizes, and the leaf is in the tree
 pub record IsSized (level : Signing) : Type 0 where
   pub identifier : length level.secret.identifier ≡ 16
   pub randomizer : length level.randomizer ≡ 32
   pub inside : level.leaf < 2 ^ height_of level.secret.pair.tree
 
--- so it is of each level
+-- the same for each level
 abbrev pub AreSized : List Signing → Signing → Type 0
 AreSized above bottom = (i : ℕ) → i < length above + 1 → IsSized (level_in above bottom i)
 
--- each level's leaf is one of its tree, and its digest that of what it signs
+-- each level's leaf is in its tree, and its digest is the digest of what it signs
 pub record AreSigning (above : List Signing) (bottom : Signing) (message : List ℕ) : Type 0 where
   pub leaves : (i : ℕ) → i < length above + 1 → let level = level_in above bottom i in
       level.leaf < 2 ^ height_of level.secret.pair.tree
@@ -81,9 +80,9 @@ pub record AreSigning (above : List Signing) (bottom : Signing) (message : List 
       level.digest ≡ message_digest_of level.secret.identifier level.leaf level.randomizer
       (message_at message (textbook above bottom) i)
 
--- ---- the signature that is made of levels with their roots and paths
+-- ---- the signature of levels with given roots and paths
 
--- how many bytes a level's signature takes with the next level's key
+-- the bytes of a level's signature with the next level's key
 abbrev pub part_size : Level → ℕ
 part_size level = lms_signature_len_of level.secret.pair + 56
 
@@ -91,7 +90,7 @@ part_size level = lms_signature_len_of level.secret.pair + 56
 abbrev pub signed_key_by : Level → LmsPublic → SignedKey
 signed_key_by level next = record { signature = signature_by level; key = next }
 
--- the signature of levels, and the key under which it is
+-- the signature of levels, and their public key
 abbrev pub signed_by : List Level → Level → Signature
 signed_by above bottom = signed_with signature_by key_of above bottom
 
@@ -102,14 +101,14 @@ public_by above bottom = record { levels = length above + 1; top = key_of (level
 abbrev pub pairs_of : List Level → Level → List LmsPair
 pairs_of above bottom = map (λ level. level.secret.pair) (levels_in above bottom)
 
--- each level's root is that of its secret's tree, and its path that of its leaf
+-- each level has its secret's root and its leaf's path
 pub record FromSecrets (above : List Level) (bottom : Level) : Type 0 where
   pub roots : (i : ℕ) → i < length above + 1 → let level = level_in above bottom i in
       level.root ≡ (lms_public_of level.secret).root
   pub paths : (i : ℕ) → i < length above + 1 → let level = level_in above bottom i in
       level.path.now ≡ path_in level.secret level.leaf
 
--- each level's digest is that of what it signs, where the bottom one signs the message
+-- each level's digest is the digest of what it signs, and the bottom signs the message
 abbrev pub AreDigests : List Level → Level → List ℕ → Type 0
 AreDigests above bottom message =
     (i : ℕ) → i < length above + 1 → let level = level_in above bottom i in

@@ -19,8 +19,7 @@ impl HssPublic {
     ghost use Rattle.typecodes.specs.Levels.{most_levels};
     ghost use Rattle.hss.specs.Key.{level_number, public_key};
 
-    /// The key that the bytes spell, 60 bytes and no more; it has 1 to 8 levels. Otherwise their first fault
-    /// (1, 2, 3 or 5).
+    /// The key that the bytes spell, 60 and no more, or their first fault (1, 2, 3 or 5). It has 1 to 8 levels.
     #[tactic(auto, using(crate::proofs::Numbers::whole), unfolding(crate::specs::Key::public_key))]
     pub fn read(bytes: &[u8]) -> Result<Self, ReadFault>
         ensures reads { Reads public_key (λ key. key) bytes.now result }
@@ -34,7 +33,7 @@ impl HssPublic {
         Ok(HssPublic { levels, top })
     }
 
-    // L at a cursor, a field of 4 bytes, 1 to 8. A fault leaves the cursor where it is.
+    // L at a cursor, 4 bytes, 1 to 8. At a fault the cursor stays.
     #[tactic(auto, using(crate::proofs::Numbers::numbers), unfolding(crate::specs::Key::level_number))]
     fn level_count_at(cursor: &mut Cursor<'_>) -> Result<LevelCount, ReadFault>
         requires { cursor.old.place + 4 < 2 ^ 32 }

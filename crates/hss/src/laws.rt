@@ -1,5 +1,5 @@
-//! Laws of spellings, of verdicts and of textbook signatures. The functions do nothing: what their
-//! contracts say is proved of every key and every signature.
+//! Laws of spellings, verdicts and textbook signatures. The functions do nothing: their contracts are proved for every
+//! key and signature.
 
 ghost use Rattle.std.specs.Prelude.{◌≡◌, List, [], ◌∷◌, ◌++◌, ℕ, ◌+◌, ◌≤◌, length};
 ghost use Rattle.typecodes.specs.declared.refusal.Refusal.{Refusal};
@@ -16,26 +16,27 @@ ghost use Rattle.hss.specs.Secret.{Signing};
 ghost use Rattle.hss.specs.Writing.{AreSigning, AreSized, IsSized, level_in};
 ghost use Rattle.hss.specs.Writing.{public_bytes, public_of, signature_bytes, textbook};
 
-/// What holds of the spellings of public keys and of signatures: no value has two, no bytes spell two
-/// values, and no spelling begins another.
+/// No public key or signature has two spellings, no bytes spell two of them, and no spelling begins another.
 pub fn spelling_laws()
     ensures keys { IsUnambiguous public_key }
     ensures signatures { IsUnambiguous signature }
 {}
 
-/// What holds of the answers of verification: bytes that spell a valid signature are refused by none, unless the
-/// message can't be read (`accepted`); no bytes have two other refusals (`one_refusal`); and where this one may come,
-/// none comes that stands before it (`read_in_turn`).
+/// The laws of verification's answers.
+///
+/// - A valid signature is refused only if the message can't be read (`accepted`).
+/// - No bytes have two other refusals (`one_refusal`).
+/// - Where the message may be refused, no earlier refusal comes (`read_in_turn`).
 pub fn verdict_laws()
     ensures { VerdictLaws Verdict (λ key. signature) IsValid (λ key refusal.
         (bottom : ℕ) × (bottom + 1 ≡ key.levels) × (refusal ≡ Refusal.RootMismatch bottom)) }
 {}
 
-/// What holds of the textbook signatures of any levels.
+/// Laws of the textbook signatures of any levels.
 ///
-/// - They are valid under the levels' key, where each level's digest is that of what it signs (`valid`).
-/// - The bytes of the key and of a signature of at most 8 levels spell them, where the levels' values
-///   have their sizes (`key`, `signature`).
+/// - They are valid under the levels' key, if each level's digest is the digest of what it signs (`valid`).
+/// - The bytes of the key and of a signature of at most 8 levels spell them, if the levels' values have their sizes
+///   (`key`, `signature`).
 pub fn textbook_laws()
     ensures valid { (above : List Signing) (bottom : Signing) (message : List ℕ) → AreSigning above bottom message
         → IsValid (public_of above bottom) message (textbook above bottom) }
@@ -45,9 +46,8 @@ pub fn textbook_laws()
         → Spells signature (textbook above bottom) (signature_bytes (textbook above bottom)) }
 {}
 
-/// What holds of a signature whose parts are written one by one: signed keys that stand one after the
-/// other spell themselves (`none`, `more`), and with their number before them and the bottom level's
-/// signature after them they spell the signature (`whole`).
+/// Laws of a signature that is written part by part. Signed keys one after the other spell themselves (`none`, `more`).
+/// With their number before them and the bottom level's signature after them, they spell the signature (`whole`).
 pub fn joining_laws()
     ensures none { Spells (signed_keys 0) [] [] }
     ensures more { (n : ℕ) (keys : List SignedKey) (last : SignedKey) (a b : List ℕ)

@@ -1,14 +1,15 @@
-//! HSS keys, signatures, their verification and their writing, one to eight levels of LMS trees (RFC
-//! 8554, section 6).
+//! HSS keys, signatures, verification and writing, for one to eight levels of LMS trees (RFC 8554, section 6).
 //!
-//! Its model is `specs/Key.antt` and `specs/Signature.antt`, how keys and signatures are spelled,
-//! `specs/Verification.antt`, which signatures are valid, and `specs/Writing.antt`, the signature that the
-//! levels' secrets make. Its contract for the crates above: `verify` is Ok exactly on the spellings of valid
-//! signatures, and else reports the first refusal, a message that can't be read aside; `verify_bytes_by` and
-//! `verify_digest_by` do so of a message in memory and of one's digest, by either way to climb chains, of
-//! which one takes little stack; `write_signature` writes the textbook signature where roots and paths are
-//! those of the secrets, and it is valid where each digest is that of what its level signs. The laws stand on
-//! `spelling_laws`, `verdict_laws`, `textbook_laws` and `joining_laws`. No call takes memory.
+//! The model: `specs/Key.antt` and `specs/Signature.antt` say how keys and signatures are spelled,
+//! `specs/Verification.antt` which signatures are valid, `specs/Writing.antt` which signature the levels' secrets make.
+//!
+//! What the crates above rely on: `verify` is `Ok` exactly on the spellings of valid signatures, and else reports the
+//! first refusal, unless the message can't be read. `verify_bytes_by` takes a message in memory, `verify_digest_by` a
+//! message's digest; both take a way to climb chains, and `OneByOne` needs little stack. `write_signature` writes the
+//! textbook signature if roots and paths are the secrets'. It is valid if also each digest is the digest of what its
+//! level signs. No call takes memory.
+//!
+//! The laws are `spelling_laws`, `verdict_laws`, `textbook_laws` and `joining_laws`.
 //!
 //! ```rust
 //! use hss::{HssPublic, verify};

@@ -9,14 +9,14 @@ ghost use Rattle.lms.specs.Writing.{signature_bytes as lms_signature_bytes};
 use lms::LmsPublic;
 use typecodes::LmsSecret;
 
-/// What one level of a signature is made with. As the secret it has no `Debug`.
+/// What one level of a signature is made with. No `Debug`, as for the secret.
 #[derive(Clone, Copy)]
 pub struct Level<'a> {
     /// The secret of the level's tree.
     pub secret: LmsSecret,
     /// The tree's root, 32 bytes.
     pub root: [u8; 32],
-    /// The leaf that signs, one of the tree.
+    /// The leaf that signs, below the tree's number of leaves.
     pub leaf: u32,
     /// C, the randomizer, 32 bytes.
     pub randomizer: [u8; 32],

@@ -34,8 +34,8 @@ pub struct HssSigView<'a> {
 impl<'a> HssSigView<'a> {
     ghost use Rattle.hss.specs.View.{bytes_of, lent_of, signature_of};
 
-    /// The signature that the bytes spell, and no more: 2644 bytes for two levels of H5/W8. Otherwise
-    /// their first fault (1 to 5).
+    /// The signature that the bytes spell, and no more: 2644 bytes for two levels of H5/W8. Else their first fault (1
+    /// to 5).
     #[tactic(auto, using(crate::proofs::Numbers::whole), unfolding(crate::specs::Signature::signature))]
     pub fn read(bytes: &'a [u8]) -> Result<Self, ReadFault>
         ensures reads { Reads signature signature_of bytes.entry.now result }
@@ -53,7 +53,7 @@ impl<'a> HssSigView<'a> {
         })
     }
 
-    /// L, the number of levels, 1 to 8: one more than the number in the first 4 bytes.
+    /// L, the number of levels, 1 to 8: the first 4 bytes as a number, plus 1.
     pub fn levels(&self) -> u8
         ensures value { result ≡ level_count (signature_of self.now) }
         ensures range { result ≡ big_number 4 (take 4 (bytes_of self.now)) + 1 }
@@ -62,8 +62,8 @@ impl<'a> HssSigView<'a> {
         self.signed.count + 1
     }
 
-    /// The signature of level i, 0 for the top tree's, as a view of its own bytes. The caller keeps i
-    /// below the number of levels.
+    /// The signature of level i, 0 for the top, as a view of its own bytes. The caller keeps i below the number of
+    /// levels.
     pub fn level(&self, i: u8) -> LmsSigView<'a>
         requires { i < level_count (signature_of self.now) }
         ensures value { lms_signature_of result ≡ signature_at (signature_of self.now) i }
@@ -76,8 +76,7 @@ impl<'a> HssSigView<'a> {
         }
     }
 
-    /// The signature of level i with the public key of level i + 1, which it signs, if level i is above the
-    /// bottom.
+    /// If level i is above the bottom: its signature, and the public key of level i + 1, which it signs.
     pub fn signed_key(&self, i: u8) -> Option<SignedKeyView<'a>>
         ensures some { IsSome result ↔ (i + 1 < level_count (signature_of self.now)) }
         ensures signature { IfSome result (λ view.
@@ -97,7 +96,7 @@ impl<'a> HssSigView<'a> {
         self.bottom
     }
 
-    /// The bytes that spell the signature, and no others.
+    /// The bytes that spell the signature.
     pub fn bytes(&self) -> &'a [u8]
         ensures whole { result ≡ lent_of self.now }
         ensures spells { Spells signature (signature_of self.now) result.now }
@@ -107,7 +106,7 @@ impl<'a> HssSigView<'a> {
     }
 }
 
-// L - 1 at a cursor, a field of 4 bytes, 0 to 7. A fault leaves the cursor where it is.
+// L - 1 at a cursor, 4 bytes, 0 to 7. At a fault the cursor stays.
 #[tactic(auto, using(crate::proofs::Numbers::numbers), unfolding(crate::specs::Key::level_number))]
 fn number_above(cursor: &mut Cursor<'_>) -> Result<u8, ReadFault>
     requires { cursor.old.place + 4 < 2 ^ 32 }

@@ -12,15 +12,14 @@ use lms::{LmsPublic, LmsSigView};
 use typecodes::{Cursor, ReadFault, Refusal};
 use winternitz::InLanes;
 
-/// The signature of a level above the bottom, and the next level's public key, which it signs
-/// (RFC 8554 6.2), as a view of the bytes that spell both.
+/// The signature of a level above the bottom, and the next level's public key, which it signs (RFC 8554 6.2).
 #[derive(Clone, Copy, Debug)]
 pub struct SignedKeyView<'a> {
     /// The level's signature.
     pub signature: LmsSigView<'a>,
     /// The next level's public key.
     pub key: LmsPublic,
-    /// The key's 56 bytes as they stand after the signature: the message that the level signs.
+    /// The key's 56 bytes, which follow the signature: the message that the level signs.
     pub key_bytes: &'a [u8],
     pub ghost spelled: { key_bytes.now ≡ public_bytes key },
 }
@@ -28,8 +27,8 @@ pub struct SignedKeyView<'a> {
 impl<'a> SignedKeyView<'a> {
     ghost use Rattle.hss.specs.SignedKey.{BeginsAt, signed_key, signed_key_of};
 
-    /// The signature and the key at a cursor, at most 9324 bytes and 56. The caller keeps their end below
-    /// `2^32`. A fault leaves the cursor where it is.
+    /// The signature and the key at a cursor, at most 9324 bytes and 56. The caller keeps their end below `2^32`. At a
+    /// fault the cursor stays.
     #[tactic(auto, using(crate::proofs::Passing::one), unfolding(crate::specs::SignedKey::signed_key))]
     pub fn from_cursor(cursor: &mut Cursor<'a>) -> Result<Self, ReadFault>
         requires { cursor.old.place + 9380 < 2 ^ 32 }
@@ -52,8 +51,8 @@ impl<'a> SignedKeyView<'a> {
         })
     }
 
-    /// Verifies that the signature signs the key under this level's key. The first refusal comes of: other
-    /// types than the level's key's (10, with the level), another root than its (12, with the level).
+    /// Verifies the signature of the key under this level's key. The first refusal, with the level: other types than
+    /// the level's key's (10), then another root (12).
     pub fn verify(&self, public: &LmsPublic, level: u8) -> Result<(), Refusal>
         ensures verdict { LevelVerdict public.now (public_bytes self.now.key)
             (lms_signature_of self.now.signature) level result }
@@ -62,7 +61,7 @@ impl<'a> SignedKeyView<'a> {
         self.verify_by(&InLanes, public, level)
     }
 
-    /// The same, by a way to climb chains.
+    /// As `verify`, by a way to climb chains.
     pub fn verify_by<C: Climbing>(
         &self,
         climbing: &C,
@@ -78,7 +77,9 @@ impl<'a> SignedKeyView<'a> {
     }
 }
 
-// The 56 bytes of a key that was read where they begin.
+// The 56 bytes of a key that was read at `start`.
+//
+// For the prover: `key` is there for the contract alone.
 fn bytes_of_key<'a>(key: &LmsPublic, bytes: &'a [u8], start: u32) -> &'a [u8]
     requires inside { start + 56 < 2 ^ 32 }
     requires within { start ≤ length bytes.now }

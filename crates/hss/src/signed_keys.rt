@@ -11,15 +11,15 @@ use typecodes::{Cursor, ReadFault};
 #[derive(Clone, Copy, Debug)]
 pub(crate) struct SignedKeys<'a> {
     pub(crate) count: u8,
-    // those from the count on are empty
+    // slots from the count on are empty
     pub(crate) slots: [Option<SignedKeyView<'a>>; 7],
     ghost few: { count ≤ 7 },
     ghost first: { AreFirst count slots },
 }
 
 impl<'a> SignedKeys<'a> {
-    /// So many signatures and keys at a cursor, each at most 9380 bytes. The caller keeps their end below
-    /// `2^31`. A fault leaves the cursor where it is.
+    /// `count` signatures and keys at a cursor, each at most 9380 bytes. The caller keeps their end below `2^31`. At a
+    /// fault the cursor stays.
     pub(crate) fn from_cursor(cursor: &mut Cursor<'a>, count: u8) -> Result<Self, ReadFault>
         requires few { count ≤ 7 }
         requires room { cursor.old.place + 9380 * count < 2 ^ 31 }
@@ -39,7 +39,7 @@ impl<'a> SignedKeys<'a> {
         Ok(SignedKeys { count, slots })
     }
 
-    /// That of level i, if there are more than i.
+    /// The signature and key of level i, if i is below the count.
     pub(crate) fn get(&self, i: u8) -> Option<SignedKeyView<'a>>
         ensures { result ≡ slot self.now.slots i }
     {

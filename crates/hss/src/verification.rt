@@ -1,4 +1,4 @@
-//! Verification.
+//! Verification (RFC 8554 6.3).
 
 ghost use Rattle.std.specs.Prelude.{◌≡◌, ◌≢◌, ℕ, List, length, Err, IfOk, IfErr};
 ghost use Rattle.hss.specs.Signature.{key_at};
@@ -14,13 +14,17 @@ use lms::{LmsPublic, LmsSigView};
 use typecodes::{Message, Refusal};
 use winternitz::InLanes;
 
-/// Verifies that the bytes of a signature sign the message under the key (RFC 8554 6.3).
+/// Verifies the signature of a message under the key (RFC 8554 6.3).
 ///
-/// The first refusal comes of: a fault of the signature's bytes (1 to 5); other levels than the key's
-/// (11); and then level by level from the top, other types than those of the level's key (10, with the
-/// level), and another root than the key's (12, with the level), with a message that can't be read (14) between the
-/// two at the bottom. The message is any reader. It is read to its end, in pieces that aren't kept, where none of these
-/// comes before the bottom level's root, and else left as it is.
+/// The first refusal, in this order:
+///
+/// - 1 to 5: a fault of the signature's bytes.
+/// - 11: another number of levels than the key's.
+/// - Level by level from the top, with the level: 10, other types than the level's key's; then 12, another root. At the
+///   bottom 14, the message can't be read, comes between the two.
+///
+/// The message is any reader. It is read to its end, in pieces that aren't kept, before the bottom level's root is
+/// compared. At an earlier refusal it is left as it is.
 pub fn verify<M: Message>(
     public: &HssPublic,
     message: &mut M,
@@ -37,7 +41,7 @@ pub fn verify<M: Message>(
     view.bottom().verify(&key, message, view.levels() - 1)
 }
 
-/// The same of a message in memory, whose reading can't fail, by a way to climb chains.
+/// As `verify`, for a message in memory, whose reading can't fail, and by a way to climb chains.
 pub fn verify_bytes_by<C: Climbing>(
     climbing: &C,
     public: &HssPublic,
@@ -53,8 +57,7 @@ pub fn verify_bytes_by<C: Climbing>(
         .verify_bytes_by(climbing, &bottom.key, message, bottom.level)
 }
 
-/// The same of a message of which the digest is given: that of the bytes of `message_prefix` and the message after
-/// them (RFC 8554 4.5).
+/// As `verify_bytes_by`, for a message's digest: SHA-256 of `message_prefix` and the message (RFC 8554 4.5).
 pub fn verify_digest_by<C: Climbing>(
     climbing: &C,
     public: &HssPublic,
@@ -72,8 +75,8 @@ pub fn verify_digest_by<C: Climbing>(
 }
 
 /// The 54 bytes that are hashed before the message: I of the bottom level's key, q, D_MESG and C (RFC 8554 4.5). No
-/// level is verified here: `verify_digest_by` does that. Refused are a fault of the signature's bytes (1 to 5) and
-/// other levels than the key's (11), as verification refuses any message.
+/// level is verified here; `verify_digest_by` does that. Refuses only a fault of the signature's bytes (1 to 5) and
+/// another number of levels than the key's (11), as verification of any message does.
 pub fn message_prefix(public: &HssPublic, signature: &[u8]) -> Result<[u8; 54], Refusal>
     ensures ok { IfOk result (HasPrefix public.now signature.now) }
     ensures err { IfErr result (λ refusal. (message : List ℕ)
@@ -93,7 +96,7 @@ pub fn message_prefix(public: &HssPublic, signature: &[u8]) -> Result<[u8; 54], 
     Ok(whole.bottom().message_prefix(&key))
 }
 
-// The key that stands last in a signature, or the top one where it has none.
+// The last key in a signature, or the top one if it has none.
 fn last_key(top: &LmsPublic, view: &HssSigView<'_>) -> LmsPublic
     ensures { result ≡ key_at top.now (signature_of view.now) (length (signature_of view.now).signed) }
 {
@@ -115,8 +118,8 @@ struct Bottom<'a> {
     level: u8,
 }
 
-// The bottom level of the signature that the bytes spell, where the signatures of all levels above it are valid.
-// Refused as verification refuses any message.
+// The bottom level of the signature that the bytes spell, if all levels above it are valid. Refuses as verification of
+// any message does.
 fn verify_above<'a, C: Climbing>(
     climbing: &C,
     public: &HssPublic,
@@ -143,7 +146,7 @@ fn verify_above<'a, C: Climbing>(
     })
 }
 
-// The key of the bottom level, where the signatures of all levels above it are valid.
+// The key of the bottom level, if all levels above it are valid.
 fn bottom_key<C: Climbing>(
     climbing: &C,
     top: &LmsPublic,

@@ -19,7 +19,7 @@ use crate::secret::Level;
 use lms::LmsPublic;
 use typecodes::Levels;
 
-/// How many bytes the signatures of levels of these types have: 2644 for two of H5/W8.
+/// The bytes of a signature of levels of these types: 2644 for two of H5/W8.
 pub fn signature_len(levels: &Levels) -> u32
     ensures { result ≡ signature_size levels.now }
 {
@@ -42,8 +42,7 @@ pub fn write_public(public: &HssPublic, into: &mut [u8])
     lms::write_public(&public.top, &mut into[4..60]);
 }
 
-/// Writes the signature of a level above the bottom, and after it the next level's public key, which
-/// it signs (RFC 8554 6.2): the level's part of a signature.
+/// Writes the signature of a level above the bottom, then the next level's public key, which it signs (RFC 8554 6.2).
 pub fn write_signed_key(level: &Level<'_>, next: &LmsPublic, into: &mut [u8])
     requires { length into.old ≡ lms_signature_len_of level.now.secret.pair + 56 }
     ensures bytes { into.new ≡ signed_key_bytes (signed_key_by level.now next.now) }
@@ -56,20 +55,18 @@ pub fn write_signed_key(level: &Level<'_>, next: &LmsPublic, into: &mut [u8])
     lms::write_public(next, &mut into[end..len]);
 }
 
-/// Writes the signature of levels, from the top down (RFC 8554 6.2): the number of those above the
-/// bottom, for each of them its signature and the next level's public key, and the bottom level's
-/// signature. The caller gives at most 7 levels above the bottom, and makes room for
-/// `signature_len` bytes.
+/// Writes the signature of levels (RFC 8554 6.2): the number of levels above the bottom, their signed keys from the top
+/// down, and the bottom's signature. The caller gives at most 7 levels above the bottom, and `signature_len` bytes.
 pub fn write_signature(above: &[Level<'_>], bottom: &Level<'_>, into: &mut [u8])
     requires few { length above.now ≤ 7 }
     requires room { length into.old ≡ signature_size (pairs_of above.now bottom.now) }
     ensures bytes { into.new ≡ signature_bytes (signed_by above.now bottom.now) }
     // They spell the signature.
     ensures spells { Spells signature (signed_by above.now bottom.now) into.new }
-    // Where roots and paths are those of the levels' secrets, it is the textbook signature.
+    // If roots and paths are the levels' secrets', it is the textbook signature.
     ensures textbook { FromSecrets above.now bottom.now
         → signed_by above.now bottom.now ≡ textbook (map signing_of above.now) (signing_of bottom.now) }
-    // And where each digest is that of what the level signs, it is valid.
+    // If also each digest is the digest of what the level signs, it is valid.
     ensures valid { (message : List ℕ) → FromSecrets above.now bottom.now → AreDigests above.now bottom.now message
         → IsValid (public_by above.now bottom.now) message (signed_by above.now bottom.now) }
 {
@@ -79,7 +76,7 @@ pub fn write_signature(above: &[Level<'_>], bottom: &Level<'_>, into: &mut [u8])
     bottom.write(&mut into[offset..end]);
 }
 
-// Writes the signed keys of a signature after the first 4 bytes, and gives the offset after them.
+// Writes the signed keys of a signature after the first 4 bytes, and returns the offset after them.
 fn write_above(above: &[Level<'_>], bottom: &Level<'_>, into: &mut [u8]) -> usize
     requires few { length above.now ≤ 7 }
     requires room { length into.old ≡ 4 + sum_by part_size above.now + lms_signature_len_of bottom.now.secret.pair }

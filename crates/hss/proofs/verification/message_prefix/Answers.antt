@@ -3,7 +3,7 @@ use Rattle.lms.specs.Verification.{prefix_of}
 use Rattle.hss.specs.View.{signature_of}
 use Rattle.hss.proofs.verification.message_prefix.Goals as goal
 
--- the signature has other levels than the key
+-- the signature has another number of levels than the key
 pub returns-then-levels-get-clause-err : goal.returns-then-levels-get-clause-err
 returns-then-levels-get-clause-err c = λ message. (
   signature_of c.in-Ok.view,

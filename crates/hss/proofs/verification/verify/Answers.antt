@@ -10,7 +10,7 @@ use Rattle.hss.proofs.verification.verify.Given.{Over}
 use Rattle.hss.proofs.verification.verify.Goals.{After-bottom_key}
 use Rattle.hss.proofs.verification.verify.Goals as goal
 
--- the bytes spell the view's signature, which has the key's levels
+-- the bytes spell the view's signature, which has the key's number of levels
 spelled : (g : Over) (c : After-bottom_key g) → Spells signature (signature_of c.in_ok-view.view) c.args.signature.now
 spelled g c = read_spells _ signature signature_of _ c.read.result _ _ c.read.ensures.reads c.in_ok-view.ensures.cases (λ _ never. never)
 
@@ -23,7 +23,7 @@ returns-in_err-view g c =
     let (text, fits) = some_content (g.M.Message.remaining c.args.message.now) in
     (text, fits, search rules, search rules)
 
--- the signature has other levels than the key
+-- the signature has another number of levels than the key
 pub returns-then-levels-get : goal.returns-then-levels-get
 returns-then-levels-get g c =
     let (text, fits) = some_content (g.M.Message.remaining c.args.message.now) in (
@@ -53,7 +53,7 @@ returns-in_err-key g c =
           (above-leaves _ _ (Unit {0}) key s text c.args.message.now c.in_err-key.field-0.0 (count g after) c.in_err-key.ensures),
     )
 
--- the bottom's answer is that of all
+-- the bottom's answer is the whole answer
 pub returns : goal.returns
 returns g c =
     let after = (goal.at.returns g c).After-bottom_key in

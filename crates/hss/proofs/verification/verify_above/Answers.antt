@@ -8,14 +8,14 @@ use Rattle.hss.proofs.Verifying.{above-read, above-verdict}
 use Rattle.hss.proofs.verification.verify_above.Goals.{After-bottom_key}
 use Rattle.hss.proofs.verification.verify_above.Goals as goal
 
--- the bytes spell the view's signature, which has the key's levels
+-- the bytes spell the view's signature, which has the key's number of levels
 spelled : (g : _) (c : After-bottom_key g) → Spells signature (signature_of c.in-Ok.view) c.args.signature.now
 spelled g c = c.in-Ok.ensures.reads
 
 count : (g : _) (c : After-bottom_key g) → level_count (signature_of c.in-Ok.view) ≡ c.args.public.now.levels
 count g c = sym c.levels.ensures.value ∙ (c.if-levels-get.false ∙ c.get.ensures.value)
 
--- the signature has other levels than the key
+-- the signature has another number of levels than the key
 pub returns-then-levels-get-clause-err : goal.returns-then-levels-get-clause-err
 returns-then-levels-get-clause-err g c = λ message. (
   signature_of c.in-Ok.view,
