@@ -9,7 +9,6 @@ pub same_cut : {A : Type 0} (a b c d : List A) → length a ≡ length c → a +
 same_cut a b c d e same =
     (sym (take_at a b (length c) e) ∙ ap (take (length c)) same ∙ take_at c d (length c) refl, sym (drop_at a b (length c) e) ∙ ap (drop (length c)) same ∙ drop_at c d (length c) refl)
 
--- the front of bytes is bytes
 pub AreBytes-front : (a b : List ℕ) → AreBytes (a ++ b) → AreBytes a
 AreBytes-front a b bytes i =
     elim (cases_lt i (length a)) [
@@ -17,6 +16,5 @@ AreBytes-front a b bytes i =
       | inr past ↦ rw (get_or_past a i 0 past) (omega arith)
     ]
 
--- the rest of bytes is bytes
 pub AreBytes-rest : (a b : List ℕ) → AreBytes (a ++ b) → AreBytes b
 AreBytes-rest a b bytes i = subst (λ n. n < 256) (get_or-append-add a b i 0) (bytes (length a + i))

@@ -1,10 +1,9 @@
--- A table of codes names at most one type by each code.
+-- The type that a code names in a table, and codes that name none.
 use Rattle.std.proofs.Common.{◌≡◌, ◌≢◌, ℕ, List, [], ◌∷◌, Some, None, All, cond, true, false, ◌==◌, refl, sym, ap, ◌∙◌, eqb-true, ne_eqb}
 use Rattle.std.proofs.lemmas.Bool.{eqb-false}
 use Rattle.std.proofs.lemmas.List.Elements.{All-nil, All-cons, All-head, All-tail}
 use Rattle.typecodes.specs.Types.{named}
 
--- the type that a code names has this code
 pub named-has : {T : Type 0} (code : T → ℕ) (types : List T) (c : ℕ) (t : T) → named code types c ≡ Some t → code t ≡ c
 named-has code [] c t found = cc
 named-has code (u ∷ types) c t found =
@@ -13,7 +12,6 @@ named-has code (u ∷ types) c t found =
       | false ↦ λ _ later. named-has code types c t later
     ] refl found
 
--- a code that names no type is the code of none
 pub named-none : {T : Type 0} (code : T → ℕ) (types : List T) (c : ℕ) → named code types c ≡ None → All (λ t. code t ≢ c) types
 named-none code [] c none = All-nil _
 named-none code (u ∷ types) c none =
@@ -22,7 +20,6 @@ named-none code (u ∷ types) c none =
       | false ↦ λ other later. All-cons (λ t. code t ≢ c) u types (eqb-false (code u) c other) (named-none code types c later)
     ] refl none
 
--- and the code of none names no type
 pub none-named : {T : Type 0} (code : T → ℕ) (types : List T) (c : ℕ) → All (λ t. code t ≢ c) types → named code types c ≡ None
 none-named code [] c others = refl
 none-named code (u ∷ types) c others =

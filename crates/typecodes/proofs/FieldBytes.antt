@@ -14,7 +14,6 @@ use Rattle.typecodes.specs.Layout.{Layout, Spells, done, ◌>>=◌}
 use Rattle.typecodes.specs.Fields.{block, known, lms_type, number, ots_type, typed, values, xmss_type}
 use Rattle.typecodes.proofs.Spelling.{from_turn}
 
--- parts that are put together one by one
 pub three_parts : (a b c : List ℕ) → a ++ (b ++ c) ≡ a ++ b ++ c
 three_parts a b c = simp append_assoc
 
@@ -30,17 +29,14 @@ pub last_field : {V W : Type 0} (first : Layout V) (next : V → Layout W) (v : 
 last_field first next v w bytes spelled ended =
     subst (Spells (first >>= next) w) (append-nil bytes) (from_turn first next v w bytes [] spelled ended)
 
--- 4 bytes spell their number
 pub number_spelled : (x : ℕ) → x < 2 ^ 32 → Spells number x (big_bytes 4 x)
 number_spelled x small =
     let whole = append-nil (big_bytes 4 x) in
     (big_bytes 4 x, [], sym whole, refl, (ap (big_number 4) (sym whole) ∙ big_number-reads_back 4 x [] small, refl))
 
--- any bytes spell themselves
 pub block_spelled : (n : ℕ) (bytes : List ℕ) → length bytes ≡ n → Spells (block n) bytes bytes
 block_spelled n bytes size = (bytes, [], sym (append-nil bytes), size, (refl, refl))
 
--- values of 32 bytes are spelled one after the other
 pub values_spelled : (n : ℕ) (vs : List (List ℕ)) → length vs ≡ n → ((i : ℕ) → i < n → length (get_or vs i []) ≡ 32)
     → Spells (values n) vs (concat vs)
 unfolding values

@@ -13,7 +13,6 @@ use Rattle.typecodes.proofs.Messages.{fails, gives-all, gives-more}
 -- ---- reads into a buffer whose first a bytes were read; it was xs before the last read, and is zs
 
 module _ {M : Type 0} (a : ℕ) (xs zs : List ℕ) (old before new : M) (front : take a zs ≡ take a xs) (same : length zs ≡ length xs) where
-  -- a read fails
   pub filling-fails : (transition : Transition M) (remaining : M → Option (List ℕ)) (error : Error) → a < length xs
       → Consumes (remaining old) (remaining before) (take a xs) → GivesText transition (take a xs) old before
       → transition before (Err (error_kind error)) new → Keeps (remaining before) (remaining new)
@@ -37,7 +36,6 @@ module _ {M : Type 0} (a : ℕ) (xs zs : List ℕ) (old before new : M) (front :
             (subst (λ l. FailsBy (AsksForRest request (length xs)) (error_kind error) l (0, old) (a, new)) (sym front) failing),
       )
 
-  -- the message ends
   pub filling-ends : (transition : Transition M) (remaining : M → Option (List ℕ)) (none : List ℕ) → a < length xs → none ≡ []
       → Consumes (remaining old) (remaining before) (take a xs) → GivesText transition (take a xs) old before
       → transition before (Ok none) new → Consumes (remaining before) (remaining new) none → IsAtEnd (remaining new)
@@ -66,7 +64,6 @@ module _ {M : Type 0} (a : ℕ) (xs zs : List ℕ) (old before new : M) (front :
             (subst (λ l. GivesAll (AsksForRest request (length xs)) l (0, old) (a, new)) (sym front) all),
       )
 
-  -- some bytes more
   pub asking-more : (request : Request M) (n : ℕ) (ys : List ℕ) → n ≤ length ys → 1 ≤ n → a + n ≤ length xs → take a xs ++ take n ys ≡ take (a + n) zs
       → GivesText (AsksForRest request (length xs)) (take a xs) (0, old) (a, before)
       → request before (length xs - a) (Ok (take n ys)) new
@@ -77,7 +74,6 @@ module _ {M : Type 0} (a : ℕ) (xs zs : List ℕ) (old before new : M) (front :
       (gives-more (AsksForRest request (length xs)) (take a xs) (take n ys) (take (a + n) zs) (0, old) (a, before) (a + n, new) asks
       (ap (λ m. a + m) (sym long), fits, one) whole (omega (arith, long, some)))
 
--- the buffer is full
 pub filling-done : {M : Type 0} (a : ℕ) (xs : List ℕ) (transition : Transition M) (remaining : M → Option (List ℕ)) (old new : M) → a ≡ length xs
     → Consumes (remaining old) (remaining new) (take a xs) → GivesText transition (take a xs) old new → ReadsFull transition remaining (Ok a) xs old new
 filling-done a xs transition remaining old new full bytes gives =
@@ -93,7 +89,6 @@ asking-done a xs request old new full asks =
 -- ---- writes of the rest of some bytes
 
 module _ {S : Type 0} (write : Write S) (bytes : List ℕ) (a : ℕ) (old before new : S) where
-  -- some bytes more
   pub offering-more : (n : ℕ) (rest : List ℕ) → rest ≡ drop a bytes → n ≤ length rest → 1 ≤ n
       → GivesText (OffersRest write bytes) (take a bytes) (0, old) (a, before) → write before rest (Ok (take n rest)) new
       → GivesText (OffersRest write bytes) (take (a + n) bytes) (0, old) (a + n, new)
@@ -110,7 +105,6 @@ module _ {S : Type 0} (write : Write S) (bytes : List ℕ) (a : ℕ) (old before
       let whole : take a bytes ++ take n rest ≡ take (a + n) bytes = ap (λ l. take a bytes ++ take n l) is ∙ sym (take-add a n bytes) in
       subst (Appends (contents old) (contents new)) whole (Appends-trans _ _ _ _ _ written more)
 
-  -- a write fails
   pub writing-fails : (A : Type 0) (contents : S → Option (List ℕ)) (error : Error) (rest : List ℕ) → rest ≡ drop a bytes → a < length bytes
       → Appends (contents old) (contents before) (take a bytes) → GivesText (OffersRest write bytes) (take a bytes) (0, old) (a, before)
       → write before rest (Err (error_kind error)) new → Keeps (contents before) (contents new)
@@ -139,7 +133,6 @@ module _ {S : Type 0} (write : Write S) (bytes : List ℕ) (a : ℕ) (old before
         inl (kind, gives-all (OffersRest write bytes) (take a bytes) (0, old) (a, before) (a, new) offers (omega arith, omega (arith, less), last)),
       )
 
--- all bytes are written
 pub writing-done : {S A : Type 0} (write : Write S) (bytes : List ℕ) (a : ℕ) (contents : S → Option (List ℕ)) (value : A) (old new : S) → a ≡ length bytes
     → Appends (contents old) (contents new) (take a bytes) → GivesText (OffersRest write bytes) (take a bytes) (0, old) (a, new)
     → WritesAll write contents (Ok value) bytes old new

@@ -31,13 +31,11 @@ gives-more transition text bytes all old before new gives one is some =
     subst (λ l. GivesText transition l old new) is
     (gives-append transition text bytes old before new gives (Ok bytes ∷ [], (new, one, refl), (some, ([], sym (append-nil bytes), refl))))
 
--- the last read gave nothing
 pub gives-all : {M : Type 0} (transition : Transition M) (text : List ℕ) (old before new : M)
     → GivesText transition text old before → transition before (Ok []) new → GivesAll transition text old new
 gives-all transition text old before new (outcomes, reads, gave) last =
     (outcomes, reads-append transition outcomes (Ok [] ∷ []) old before new reads (new, last, refl), gave)
 
--- the last read failed
 pub fails : {M : Type 0} (transition : Transition M) (text : List ℕ) (kind : ErrorKind) (old before new : M)
     → GivesText transition text old before → transition before (Err kind) new → FailsBy transition kind text old new
 fails transition text kind old before new (outcomes, reads, gave) last =

@@ -38,20 +38,16 @@ same_number (suc n) (x ∷ a) (y ∷ b) a_len b_len a_bytes b_bytes same =
     let digits = same_digits (256 ^ n) x y (big_number n a) (big_number n b) (big_from-lt 0 n a a_rest) (big_from-lt 0 n b b_rest) moved in
     ap₂ (λ d ds. d ∷ ds) digits.0 (same_number n a b (omega arith) (omega arith) a_rest b_rest digits.1)
 
--- nothing at all
 pub one_way-done : {V : Type 0} (v : V) → OneSpelling (done v)
 one_way-done v w a b _ _ first second = first.1 ∙ sym second.1
 
--- a condition that isn't met
 pub one_way-refuse : {V : Type 0} (back : ℕ) (cause : Cause) → OneSpelling {V = V} (refuse back cause)
 one_way-refuse back cause v a b _ _ first = absurd first
 
--- a block is its bytes
 pub one_way-block : (n : ℕ) → OneSpelling (block n)
 one_way-block n v a b _ _ (front, rest, a_is, len, first) (front', rest', b_is, len', second) =
     a_is ∙ ap₂ (λ x y. x ++ y) (first.0 ∙ sym second.0) (first.1 ∙ sym second.1) ∙ sym b_is
 
--- a number of 4 bytes
 pub one_way-number : OneSpelling number
 one_way-number v a b a_bytes b_bytes (front, rest, a_is, len, first) (front', rest', b_is, len', second) =
     let front_bytes = AreBytes-front front rest (subst AreBytes a_is a_bytes) in
@@ -80,7 +76,6 @@ pub shows-bind : {V W X : Type 0} (first : Layout V) (next : V → Layout W) (of
 shows-bind first next of x shows w bytes spelled =
     let (v, a, b, _, _, after) = in_turn first next w bytes spelled in shows v w b after
 
--- a type that is known already
 pub one_way-known : {T : Type 0} (type : Option T) → OneSpelling (known type)
 one_way-known (Some t) = one_way-done t
 one_way-known None = one_way-refuse 4 UnknownType
@@ -90,13 +85,11 @@ known-is : {T : Type 0} (type : Option T) (t : T) (bytes : List ℕ) → Spells 
 known-is (Some u) t bytes spelled = ap Some spelled.0
 known-is None t bytes spelled = absurd spelled
 
--- a type, by its code in any table
 pub one_way-typed : {T : Type 0} (code : T → ℕ) (types : List T) → OneSpelling (typed code types)
 one_way-typed code types =
     let name = λ (c : ℕ). known (named code types c) in
     one_way-bind number name code one_way-number (λ c. one_way-known (named code types c)) (λ c t bytes spelled. named-has code types c t (known-is (named code types c) t bytes spelled))
 
--- the types of the tables
 pub one_way-ots_type : OneSpelling ots_type
 unfolding ots_type
 one_way-ots_type = one_way-typed ots_code ots_types
@@ -109,7 +102,6 @@ pub one_way-xmss_type : OneSpelling xmss_type
 unfolding xmss_type
 one_way-xmss_type = one_way-typed xmss_code xmss_types
 
--- values of 32 bytes
 pub one_way-values : (n : ℕ) → OneSpelling (values n)
 unfolding values
 one_way-values zero = one_way-done []

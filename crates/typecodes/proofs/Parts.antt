@@ -31,7 +31,6 @@ field_read n next bytes place x found =
       | inr fits ↦ (fits, sym (read-fits n next bytes place fits) ∙ found)
     ]
 
--- n bytes that are read are those at the place
 block_read : (n : ℕ) (bytes : List ℕ) (place : ℕ) (part : List ℕ) (end : ℕ) → read (block n) bytes place ≡ Ok (part, end) → part ≡ take n (drop place bytes)
 block_read n bytes place part end found =
     let e = (field_read n done bytes place (part, end) found).1 in

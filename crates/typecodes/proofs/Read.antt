@@ -9,11 +9,9 @@ use Rattle.typecodes.specs.Fault.{fault_at}
 use Rattle.typecodes.specs.Layout.{Layout, done, refuse, field, ◌>>=◌, Spells, HasFault}
 use Rattle.typecodes.specs.Cursor.{and_then, read, whole}
 
--- a field that fits is taken, and reading goes on after it
 pub read-fits : {V : Type 0} (n : ℕ) (next : List ℕ → Layout V) (bytes : List ℕ) (place : ℕ) → place + n ≤ length bytes → read (field n next) bytes place ≡ read (next (take n (drop place bytes))) bytes (place + n)
 read-fits n next bytes place h = rw (le-leb (place + n) (length bytes) h) refl
 
--- a field that doesn't fit is the fault
 pub read-cut : {V : Type 0} (n : ℕ) (next : List ℕ → Layout V) (bytes : List ℕ) (place : ℕ) → length bytes < place + n → read (field n next) bytes place ≡ Err (fault_at place Truncated)
 read-cut n next bytes place h = rw (lt-leb (place + n) (length bytes) h) refl
 

@@ -10,7 +10,6 @@ use Rattle.typecodes.proofs.Spelling.{one_value, one_fault, no_value}
 pub outcome_of_reading : {V : Type 0} (layout : Layout V) (bytes : List ℕ) (answer : Result V ReadFault) → whole bytes (read layout bytes 0) ≡ answer → HasOutcome layout bytes 0 answer
 outcome_of_reading layout bytes answer read_is = subst (HasOutcome layout bytes 0) read_is (read-outcome layout bytes 0 (omega arith))
 
--- bytes spell a value or have a fault
 pub either : {V : Type 0} (layout : Layout V) (bytes : List ℕ) → ((v : V) × Spells layout v bytes) ⊎ ((fault : ReadFault) × HasFault layout bytes 0 fault)
 either layout bytes =
     elim (whole bytes (read layout bytes 0)) as (λ answer. HasOutcome layout bytes 0 answer → ((v : _) × Spells layout v bytes) ⊎ ((fault : ReadFault) × HasFault layout bytes 0 fault)) [
@@ -18,14 +17,13 @@ either layout bytes =
       | Err fault ↦ λ faulty. inr (fault, faulty)
     ] (read-outcome layout bytes 0 (omega arith))
 
--- bytes have one answer
 same_answer : {V : Type 0} (layout : Layout V) (bytes : List ℕ) (answer answer' : Result V ReadFault) → HasOutcome layout bytes 0 answer → HasOutcome layout bytes 0 answer' → answer ≡ answer'
 same_answer layout bytes (Ok v) (Ok w) first second = ap Ok (one_value layout v w bytes first second)
 same_answer layout bytes (Ok v) (Err fault) first second = absurd (no_value layout v bytes 0 fault first second)
 same_answer layout bytes (Err fault) (Ok v) first second = absurd (no_value layout v bytes 0 fault second first)
 same_answer layout bytes (Err fault) (Err fault') first second = ap Err (one_fault layout bytes 0 fault fault' first second)
 
--- and what the bytes are is what reading to the end answers
+-- what the bytes are is what reading to the end answers
 pub reading_of_outcome : {V : Type 0} (layout : Layout V) (bytes : List ℕ) (answer : Result V ReadFault) → HasOutcome layout bytes 0 answer → whole bytes (read layout bytes 0) ≡ answer
 reading_of_outcome layout bytes answer outcome =
     same_answer layout bytes (whole bytes (read layout bytes 0)) answer (read-outcome layout bytes 0 (omega arith)) outcome

@@ -14,7 +14,6 @@ HasSize {V = V} layout n = (v : V) (bytes : List ℕ) → Spells layout v bytes 
 pub size-done : {V : Type 0} (v : V) → HasSize (done v) 0
 size-done v w bytes spelled = ap length spelled.1
 
--- a condition that isn't met has no spelling
 pub size-refuse : {V : Type 0} (back : ℕ) (cause : Cause) (n : ℕ) → HasSize {V = V} (refuse back cause) n
 size-refuse back cause n w bytes spelled = absurd spelled
 
@@ -26,13 +25,11 @@ pub size-number : HasSize number 4
 size-number w bytes (front, rest, bytes_are, len, spelled) =
     ap length bytes_are ∙ length-append front rest ∙ omega (arith, len, ap length spelled.1)
 
--- a layout and one that follows it
 pub size-bind : {A B : Type 0} (first : Layout A) (next : A → Layout B) (m n : ℕ) → HasSize first m → ((v : A) → HasSize (next v) n) → HasSize (first >>= next) (m + n)
 size-bind first next m n first_size next_size w bytes spelled =
     let (v, a, b, bytes_are, a_spelled, b_spelled) = in_turn first next w bytes spelled in
     ap length bytes_are ∙ length-append a b ∙ ap₂ (λ x y. x + y) (first_size v a a_spelled) (next_size v w b b_spelled)
 
--- either of two layouts
 pub size-if : {V : Type 0} (test : Bool) (chosen other : Layout V) (n : ℕ) → HasSize chosen n → HasSize other n → HasSize (cond test chosen other) n
 size-if test chosen other n chosen_size other_size =
     elim test as (λ t. HasSize (cond t chosen other) n) [ true ↦ chosen_size | false ↦ other_size ]
@@ -41,6 +38,5 @@ size-known : {T : Type 0} (type : Option T) → HasSize (known type) 0
 size-known (Some t) = size-done t
 size-known None = size-refuse 4 UnknownType 0
 
--- a type, by its code in any table
 pub size-typed : {T : Type 0} (code : T → ℕ) (types : List T) → HasSize (typed code types) 4
 size-typed code types = size-bind number (λ c. known (named code types c)) 4 0 size-number (λ c. size-known (named code types c))

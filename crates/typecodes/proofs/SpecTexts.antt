@@ -25,7 +25,6 @@ use Rattle.typecodes.specs.Spec.{IsSpec, comma, levels_text, ots_text, pair_text
 abbrev pub Lacks : ℕ → List ℕ → Type 0
 Lacks c bytes = All (λ b. eqb b c ≡ false) bytes
 
--- splitting at the separator gives the texts again
 split-join : (c : ℕ) (first : List ℕ) (parts : List (List ℕ)) → AllByRecursion (Lacks c) (first ∷ parts)
     → slice_split (λ b. eqb b c) (join_with_byte c (first ∷ parts)) ≡ first ∷ parts
 split-join c first [] lack = slice_split_none (λ b. eqb b c) first lack.0

@@ -15,17 +15,14 @@ same_beginning (field n next) v w a b c d same (front, rest, a_is, len, first) (
     let after = same_beginning (next front) v w rest b rest' d cut.1 first moved in
     (a_is ∙ ap₂ (λ x y. x ++ y) cut.0 after.0 ∙ sym c_is, after.1)
 
--- bytes spell one value
 pub one_value : {V : Type 0} (layout : Layout V) (v w : V) (bytes : List ℕ) → Spells layout v bytes → Spells layout w bytes → v ≡ w
 one_value layout v w bytes first second = (same_beginning layout v w bytes [] bytes [] refl first second).1
 
--- no spelling begins another
 pub no_longer : {V : Type 0} (layout : Layout V) (v w : V) (a b : List ℕ) → Spells layout v a → Spells layout w (a ++ b) → (b ≡ []) × (v ≡ w)
 no_longer layout v w a b first second =
     let same = same_beginning layout v w a b (a ++ b) [] (sym (append-nil (a ++ b))) first second in
     (sym (same_cut a [] a b refl (append-nil a ∙ same.0)).1, same.1)
 
--- bytes with a fault spell no value
 pub no_value : {V : Type 0} (layout : Layout V) (v : V) (bytes : List ℕ) (place : ℕ) (fault : ReadFault) → Spells layout v bytes → HasFault layout bytes place fault → ⊥
 no_value (done u) v bytes place fault spelled faulty = omega (arith, ap length spelled.1)
 no_value (refuse back cause) v bytes place fault spelled faulty = spelled
@@ -36,7 +33,6 @@ no_value (field n next) v bytes place fault (front, rest, bytes_are, len, spelle
     let there = subst₂ (λ x y. Spells (next x) v y) cut.0 cut.1 spelled in
     no_value (next front') v rest' (place + n) fault there faulty
 
--- bytes have one fault
 pub one_fault : {V : Type 0} (layout : Layout V) (bytes : List ℕ) (place : ℕ) (fault fault' : ReadFault) → HasFault layout bytes place fault → HasFault layout bytes place fault' → fault ≡ fault'
 one_fault (done u) bytes place fault fault' first second = first.1 ∙ sym second.1
 one_fault (refuse back cause) bytes place fault fault' first second = first ∙ sym second

@@ -23,7 +23,6 @@ module _ {M T : Type 0} (transition : Transition M) (remaining : M → Option (L
   taken-none old before none =
       record { text = []; gave = gives-none transition old; bytes = Consumes-nil (remaining old); size = refl; taken = none }
 
-  -- a full piece more
   pub taken-full : (pieces n : ℕ) (buffer : List ℕ) (old read new : M) (before middle after : T)
       → HasTaken transition remaining takes pieces old read before middle → length buffer ≡ 16384 → 16384 ≤ n
       → ReadsFull transition remaining (Ok n) buffer read new
@@ -63,7 +62,6 @@ module _ {M T : Type 0} (transition : Transition M) (remaining : M → Option (L
         joins before middle after has.text (take n buffer) has.taken more,
       )
 
-  -- a read fails
   pub taken-unread : (A : Type 0) {E : Type 0} (refuses : Refuses T E) (pieces : ℕ) (error : Error) (buffer : List ℕ) (old read new : M) (before middle : T)
       → HasTaken transition remaining takes pieces old read before middle → length buffer ≡ 16384
       → ReadsFull transition remaining (Err error) buffer read new
@@ -77,7 +75,6 @@ module _ {M T : Type 0} (transition : Transition M) (remaining : M → Option (L
         has.taken,
       )
 
-  -- a piece is refused
   pub taken-refused : (A : Type 0) {E : Type 0} (refuses : Refuses T E) (pieces n : ℕ) (fault : E) (buffer : List ℕ) (old read new : M)
       (before middle after : T) → HasTaken transition remaining takes pieces old read before middle
       → ReadsFull transition remaining (Ok n) buffer read new

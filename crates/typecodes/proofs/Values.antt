@@ -21,7 +21,6 @@ values_in-more n place bytes =
 abbrev pub more_values : ℕ → List ℕ → Layout (List (List ℕ))
 more_values n first = values n >>= λ rest. done (first ∷ rest)
 
--- values that fit are read
 pub values-fit : (n : ℕ) (bytes : List ℕ) (place : ℕ) → place + 32 * n ≤ length bytes → read (values n) bytes place ≡ Ok (values_in n (take (32 * n) (drop place bytes)), place + 32 * n)
 unfolding values
 values-fit zero bytes place h = ap (λ at. Ok ([], at)) (sym (add-zero place))

@@ -9,7 +9,6 @@ pub record Way {V : Type 0} (layout : Layout V) (HasParts : V → Type 0) : Type
   pub one : OneSpelling layout
   pub has : (v : V) (bytes : List ℕ) → Spells layout v bytes → HasParts v
 
--- a value with its parts
 pub way-done : {V : Type 0} (v : V) (HasParts : V → Type 0) → HasParts v → Way (done v) HasParts
 way-done v HasParts parts = record {
   one = one_way-done v;
@@ -24,7 +23,6 @@ way-bind first next of HasParts first_one ways = record {
   has = λ w bytes spelled. let (v, a, b, _, _, after) = in_turn first next w bytes spelled in ((ways v).has w b after).1;
 }
 
--- either of two layouts
 pub one_way-if : {V : Type 0} (test : Bool) (chosen other : Layout V) → OneSpelling chosen → OneSpelling other → OneSpelling (cond test chosen other)
 one_way-if test chosen other chosen_one other_one =
     elim test as (λ t. OneSpelling (cond t chosen other)) [ true ↦ chosen_one | false ↦ other_one ]

@@ -8,7 +8,6 @@ use Rattle.typecodes.specs.declared.fault.ReadFault.{ReadFault}
 abbrev pub fault_at : ℕ → Cause → ReadFault
 fault_at place cause = record { place = place; cause = cause }
 
--- the number that reports a fault
 abbrev pub cause_number : Cause → ℕ
 cause_number Truncated = 1
 cause_number UnknownType = 2

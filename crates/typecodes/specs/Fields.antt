@@ -13,7 +13,6 @@ use Rattle.typecodes.specs.Layout.{Layout, done, refuse, field, ◌>>=◌}
 abbrev pub number : Layout ℕ
 number = field 4 (λ bytes. done (big_number 4 bytes))
 
--- n bytes
 abbrev pub block : ℕ → Layout (List ℕ)
 block n = field n done
 

@@ -1,5 +1,4 @@
--- How every layout of this project is described. From a description follow the bytes that spell a value, and the fault
--- of other bytes.
+-- How the layouts of this project are described: which bytes spell a value, and which fault other bytes have.
 use Rattle.std.specs.Prelude.{◌≡◌, ℕ, ◌+◌, ◌-◌, ◌<◌, ◌⊎◌, List, [], ◌++◌, length, slice_index}
 use Rattle.typecodes.specs.declared.fault.Cause.{Cause}
 use Rattle.typecodes.specs.declared.fault.Cause.TheVariants.{Truncated, Trailing}

@@ -2,7 +2,6 @@
 use Rattle.std.specs.Prelude.{ℕ, ◌≤◌, List, length}
 use Rattle.typecodes.specs.declared.types.LmsPair.{LmsPair}
 
--- the greatest number of levels
 abbrev pub most_levels : ℕ
 most_levels = 8
 

@@ -12,7 +12,6 @@ use Rattle.typecodes.specs.declared.spec.Spec.{Spec}
 use Rattle.typecodes.specs.declared.spec.Spec.TheVariants.{Lms, Hss, Xmss}
 use Rattle.typecodes.specs.Levels.{AreLevels}
 
--- a tree's type, by its height
 abbrev pub tree_text : LmsType → List ℕ
 tree_text H5 = codes "H5"
 tree_text H10 = codes "H10"
@@ -20,14 +19,12 @@ tree_text H15 = codes "H15"
 tree_text H20 = codes "H20"
 tree_text H25 = codes "H25"
 
--- a one-time signature's type, by its width
 abbrev pub ots_text : OtsType → List ℕ
 ots_text W1 = codes "W1"
 ots_text W2 = codes "W2"
 ots_text W4 = codes "W4"
 ots_text W8 = codes "W8"
 
--- the two types of an LMS key
 abbrev pub pair_text : LmsPair → List ℕ
 pair_text pair = tree_text pair.tree ++ codes "/" ++ ots_text pair.ots
 
@@ -38,7 +35,6 @@ comma = 0x2c
 abbrev pub levels_text : List LmsPair → List ℕ
 levels_text levels = join_with_byte comma (map pair_text levels)
 
--- a type of XMSS, by the height of its tree
 abbrev pub xmss_text : XmssType → List ℕ
 xmss_text xmss.H10 = codes "10"
 xmss_text xmss.H16 = codes "16"

@@ -43,7 +43,6 @@ chains_of W8 = 34
 abbrev pub signature_len_of : OtsType → ℕ
 signature_len_of t = 4 + 32 + 32 * chains_of t
 
--- all of them
 abbrev pub ots_types : List OtsType
 ots_types = W1 ∷ W2 ∷ W4 ∷ W8 ∷ []
 
@@ -67,7 +66,6 @@ height_of H15 = 15
 height_of H20 = 20
 height_of H25 = 25
 
--- all of them
 abbrev pub lms_types : List LmsType
 lms_types = H5 ∷ H10 ∷ H15 ∷ H20 ∷ H25 ∷ []
 
@@ -82,8 +80,7 @@ lms_signature_len_of pair = 8 + signature_len_of pair.ots + 32 * height_of pair.
 
 -- ---- XMSS, w = 16
 
--- len = len_1 + len_2 = 64 + 3: the chains of a one-time key of WOTS+, one for each digit of a digest and of its
--- checksum (RFC 8391 3.1.1)
+-- len = len_1 + len_2 = 64 + 3: WOTS+ has a chain for each digit of a digest and of its checksum (RFC 8391 3.1.1)
 abbrev pub wots_chains : ℕ
 wots_chains = 67
 
@@ -99,7 +96,6 @@ xmss_height_of xmss.H10 = 10
 xmss_height_of xmss.H16 = 16
 xmss_height_of xmss.H20 = 20
 
--- all of them
 abbrev pub xmss_types : List XmssType
 xmss_types = xmss.H10 ∷ xmss.H16 ∷ xmss.H20 ∷ []
 
