@@ -9,7 +9,6 @@ use Rattle.std.proofs.lemmas.List.Elements.{All-from_get_or, recursion_from_All}
 use Rattle.winternitz.specs.Digest.{lacking_of, HasWholeChecksum}
 use Rattle.winternitz.proofs.Bases.{same_digits}
 
--- each digit of one list is at most the other's
 abbrev AreAtMost : List ℕ → List ℕ → Type 0
 AreAtMost xs ys = (i : ℕ) → i < length xs → get_or xs i 0 ≤ get_or ys i 0
 

@@ -16,7 +16,6 @@ use Rattle.winternitz.specs.Digest.{checksum_of, digit_count, digits_of, first_d
 use Rattle.byteorder.specs.Endian.{big_bytes}
 use Rattle.winternitz.proofs.Widths.{by_width, whole_digits, place_inside}
 
--- each digit is below the base
 pub digits_below : (w n : ℕ) (bytes : List ℕ) → All (λ d. d < 2 ^ w) (first_digits w n bytes)
 digits_below w n bytes =
     let below : (i : ℕ) → coef_of bytes i w < 2 ^ w = λ i. mod_below _ (2 ^ w) (pow_pos w) in

@@ -2,7 +2,6 @@
 use Rattle.std.proofs.Common.{◌≡◌, ◌∙◌, ap, ℕ, zero, suc, ◌+◌, ◌-◌, ◌≤◌, List, arith}
 use Rattle.winternitz.specs.Chain.{Steps, walk_on, walk}
 
--- a walk of no steps stays where it is
 pub walk_none : (step : Steps) (c a : ℕ) (v : List ℕ) → v ≡ walk step c a a v
 unfolding walk_on
 walk_none step c a v = let none : 0 ≡ a - a = omega arith in ap (λ n. walk_on step c a n v) none
@@ -28,7 +27,6 @@ walk_on-walk_on step c a m (suc n) v =
     ∙ ap (step c (a + (m + n))) (walk_on-walk_on step c a m n v)
     ∙ ap (λ k. walk_on step c a k v) more
 
--- a walk from a to b and then to d is the walk from a to d
 pub walk-walk : (step : Steps) (c a b d : ℕ) (v : List ℕ) → a ≤ b → b ≤ d → walk step c b d (walk step c a b v) ≡ walk step c a d v
 walk-walk step c a b d v first second =
     let at : b ≡ a + (b - a) = omega arith in
@@ -43,7 +41,6 @@ pub walk_begun : (step : Steps) (c a : ℕ) (v : List ℕ) → v ≡ walk step c
 unfolding walk_on
 walk_begun step c a v = let none : 0 ≡ a + 0 - a = omega arith in ap (λ n. walk_on step c a n v) none
 
--- one step further
 pub walk_further : (step : Steps) (c a n at : ℕ) (u v w : List ℕ)
     → v ≡ walk step c a (a + n) u → at ≡ a + n → w ≡ step c at v → w ≡ walk step c a (a + (n + 1)) u
 walk_further step c a n at u v w before here last =

@@ -27,7 +27,6 @@ pub eight_same : (s : List ℕ) (a b c d e f g h : ℕ) → a ≡ slice_index s 
 unfolding digest_bytes
 eight_same s a b c d e f g h ea eb ec ed ee ef eg eh = rw (ea, eb, ec, ed, ee, ef, eg, eh) refl
 
--- a hash value's words have four bytes each
 pub digest_long : (h : List ℕ) (n : ℕ) → length (digest_bytes h n) ≡ 4 * n
 unfolding digest_bytes
 digest_long h zero = refl

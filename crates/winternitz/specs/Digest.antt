@@ -1,5 +1,5 @@
--- The digits of a digest and of its checksum (RFC 8554 3.1.3, 4.4 and Appendix B; RFC 8391 3.1.5),
--- for digits of w bits, w one of 1, 2, 4 and 8.
+-- The digits of a digest and its checksum (RFC 8554 3.1.3, 4.4 and Appendix B; RFC 8391 3.1.5), for digits of w bits. w
+-- is 1, 2, 4 or 8.
 use Rattle.std.specs.Prelude.{◌≡◌, ◌≤◌, ◌<◌, ◌==◌, ℕ, ◌+◌, ◌-◌, ◌*◌, ◌/◌, ◌^◌, List, ◌++◌, length, slice_index}
 use Rattle.std.specs.Prelude.{take, map, sum_by, if◌then◌else◌}
 use Rattle.std.specs.List.{range_with_len}
