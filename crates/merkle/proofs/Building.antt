@@ -6,12 +6,10 @@ use Rattle.std.proofs.lemmas.Grind.{pow_more}
 use Rattle.merkle.specs.Tree.{Leaves, Joins, node, sibling}
 use Rattle.merkle.proofs.Leading.{node_more}
 
--- a node of height 0 is a leaf
 pub node_leaf : (leaf : Leaves) (join : Joins) (h j : ℕ) → h ≡ 0 → node leaf join h j ≡ leaf j
 unfolding node
 node_leaf leaf join h j low = ap (λ h. node leaf join h j) low
 
--- any other is the join of its children
 pub node_children : (leaf : Leaves) (join : Joins) (h j : ℕ) → 0 < h
     → node leaf join h j ≡ join (h - 1) j (node leaf join (h - 1) (2 * j)) (node leaf join (h - 1) (2 * j + 1))
 node_children leaf join h j above =

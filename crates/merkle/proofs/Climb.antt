@@ -20,18 +20,15 @@ unfoldable pub climbed : Joins → ℕ → List ℕ → List (List ℕ) → ℕ 
 climbed join q leaf path zero = leaf
 climbed join q leaf path (suc k) = parent join q path k (climbed join q leaf path k)
 
--- at height 0 it is the leaf
 pub climbed-zero : (join : Joins) (q : ℕ) (leaf : List ℕ) (path : List (List ℕ)) → climbed join q leaf path 0 ≡ leaf
 unfolding climbed
 climbed-zero join q leaf path = refl
 
--- one height more
 pub climbed_more : (join : Joins) (q : ℕ) (leaf : List ℕ) (path : List (List ℕ)) (k : ℕ)
     → climbed join q leaf path (k + 1) ≡ parent join q path k (climbed join q leaf path k)
 unfolding climbed
 climbed_more join q leaf path k = ap (climbed join q leaf path) (add-one k)
 
--- the index of the next height is half of this height's
 pub half_of : (q k : ℕ) → q / 2 ^ k / 2 ≡ q / 2 ^ (k + 1)
 half_of q k = div-div-eq-div-mul q (2 ^ k) 2 ∙ ap (λ n. q / n) (sym (pow_more 2 k))
 
@@ -74,20 +71,18 @@ ascent_at join q leaf path nodes (suc k) ascent below =
 unfoldable pub climbed_nodes : Joins → ℕ → List ℕ → List (List ℕ) → List (List ℕ)
 climbed_nodes join q leaf path = map (climbed join q leaf path) (range_with_len 0 (length path + 1))
 
--- one more node than the path has
 pub climbed_nodes_count : (join : Joins) (q : ℕ) (leaf : List ℕ) (path : List (List ℕ))
     → length (climbed_nodes join q leaf path) ≡ length path + 1
 unfolding climbed_nodes
 climbed_nodes_count join q leaf path = length-map-range_with_len (climbed join q leaf path) 0 (length path + 1)
 
--- node k of that list
 pub climbed_nodes_at : (join : Joins) (q : ℕ) (leaf : List ℕ) (path : List (List ℕ)) (k : ℕ)
     → k < length path + 1 → at (climbed_nodes join q leaf path) k ≡ climbed join q leaf path k
 unfolding climbed_nodes
 climbed_nodes_at join q leaf path k inside =
     get_or-map-range_with_len (climbed join q leaf path) 0 (length path + 1) k k [] inside (omega arith)
 
--- it is an ascent
+-- the list is an ascent
 pub climbed_is_ascent : (join : Joins) (q : ℕ) (leaf : List ℕ) (path : List (List ℕ))
     → IsAscent join q leaf path (climbed_nodes join q leaf path)
 climbed_is_ascent join q leaf path = record {

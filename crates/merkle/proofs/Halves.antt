@@ -22,7 +22,6 @@ second_count h n leaves above count half =
     let rest : length leaves - n ≡ 2 ^ (h - 1) = omega arith in
     length-take-le (length leaves - n) (drop n leaves) (omega (arith, length-drop n leaves)) ∙ rest
 
--- the leaves of the left half
 pub first_under : (leaf : Leaves) (h j n : ℕ) (leaves : List (List ℕ)) → 0 < h → length leaves ≡ 2 ^ h → n ≡ length leaves / 2
     → AreUnder leaf h j leaves → AreUnder leaf (h - 1) (2 * j) (take n leaves)
 first_under leaf h j n leaves above count half under = λ k low.
@@ -31,7 +30,6 @@ first_under leaf h j n leaves above count half under = λ k low.
     let place : 2 ^ h * j + k ≡ 2 ^ (h - 1) * (2 * j) + k = omega arith in
     get_or-take n leaves k [] (omega arith) ∙ under k (omega arith) ∙ ap leaf place
 
--- the leaves of the right half
 pub second_under : (leaf : Leaves) (h j n : ℕ) (leaves : List (List ℕ)) → 0 < h → length leaves ≡ 2 ^ h → n ≡ length leaves / 2
     → AreUnder leaf h j leaves → AreUnder leaf (h - 1) (2 * j + 1) (take (length leaves - n) (drop n leaves))
 second_under leaf h j n leaves above count half under = λ k low.

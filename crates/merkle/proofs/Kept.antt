@@ -71,13 +71,11 @@ kept_now {T} leaf_of join_of inner cache after index same height_stays upper_sta
     (keeps_both (leaf_of inner.tree) (join_of inner.tree) inner.height index after height_stays is
     (upper_stays ∙ upper) block)
 
--- how many nodes a block has
 pub block_count : (leaf : Leaves) (join : Joins) (height index : ℕ) (nodes : List (List ℕ))
     → nodes ≡ block_nodes leaf join height index → length nodes + 1 ≡ 2 ^ (block_height height + 1)
 block_count leaf join height index nodes are =
     ap (λ xs. length xs + 1) are ∙ nodes_count leaf join 0 (block_height height) index
 
--- how many nodes the upper tree has
 pub upper_count : (leaf : Leaves) (join : Joins) (height : ℕ) (nodes : List (List ℕ))
     → nodes ≡ upper_nodes leaf join height → length nodes + 1 ≡ 2 ^ (height - block_height height + 1)
 upper_count leaf join height nodes are =
@@ -135,14 +133,12 @@ whole_path leaf join height q index lower upper lower_is upper_is is =
     ∙ sym (path_parts leaf join b (height - b) q)
     ∙ ap (λ h. path_of leaf join h q) all
 
--- the upper tree isn't empty
 pub upper_some : (leaf : Leaves) (join : Joins) (height : ℕ) (nodes : List (List ℕ))
     → nodes ≡ upper_nodes leaf join height → 1 ≤ length nodes
 upper_some leaf join height nodes are =
     let depth = height - block_height height in
     omega (arith, upper_count leaf join height nodes are, pow_more 2 depth, pow_pos depth)
 
--- the upper tree's last node is the root
 pub upper_last : (leaf : Leaves) (join : Joins) (height n : ℕ) (nodes : List (List ℕ)) (other : List ℕ)
     → nodes ≡ upper_nodes leaf join height → n + 1 ≡ length nodes
     → slice_index_or nodes n other ≡ root_of leaf join height

@@ -8,17 +8,14 @@ use Rattle.merkle.specs.Tree.{Leaves, Joins, node, root_of, sibling, path_of}
 use Rattle.merkle.specs.Ascent.{at}
 use Rattle.merkle.proofs.Climb.{climbed, climbed-zero, climb_step, half_of}
 
--- node j of height k + 1
 pub node_more : (leaf : Leaves) (join : Joins) (k j : ℕ)
     → node leaf join (k + 1) j ≡ join k j (node leaf join k (2 * j)) (node leaf join k (2 * j + 1))
 unfolding node
 node_more leaf join k j = ap (λ h. node leaf join h j) (add-one k)
 
--- the sibling of an odd index is the left child of its half
 pub sibling-odd : (i : ℕ) → i % 2 ≡ 1 → sibling i ≡ 2 * (i / 2)
 sibling-odd i odd = grind arith
 
--- the sibling of an even index is the right child of its half
 pub sibling-even : (i : ℕ) → i % 2 ≢ 1 → sibling i ≡ 2 * (i / 2) + 1
 sibling-even i even = grind arith
 
@@ -41,7 +38,6 @@ node_over leaf join k i =
           rw (test, sibling-even, itself) refl
     ]
 
--- node k of a path
 pub path_of_at : (leaf : Leaves) (join : Joins) (h q k : ℕ) → k < h
     → at (path_of leaf join h q) k ≡ node leaf join k (sibling (q / 2 ^ k))
 path_of_at leaf join h q k below =

@@ -9,7 +9,6 @@ use Rattle.merkle.specs.Tree.{Leaves, Joins, node}
 use Rattle.merkle.specs.Nodes.{nodes_under}
 use Rattle.merkle.proofs.Building.{children_inside, leaves_twice, node_children}
 
--- one node alone
 pub nodes_one : (leaf : Leaves) (join : Joins) (base depth j : ℕ) → depth ≡ 0
     → nodes_under leaf join base depth j ≡ node leaf join base j ∷ []
 unfolding nodes_under
@@ -40,7 +39,6 @@ nodes_halves leaf join base depth j above =
     ∙ nodes_more leaf join base (depth - 1) j
     ∙ ap (λ d. left ++ (right ++ node leaf join (base + d) j ∷ [])) e
 
--- how many nodes there are
 pub nodes_count : (leaf : Leaves) (join : Joins) (base depth j : ℕ)
     → length (nodes_under leaf join base depth j) + 1 ≡ 2 ^ (depth + 1)
 nodes_count leaf join base zero j = ap (λ xs. length xs + 1) (nodes_one leaf join base zero j refl)

@@ -6,11 +6,9 @@ use Rattle.merkle.specs.Tree.{Joins, Leaves, path_of, root_of}
 use Rattle.merkle.proofs.Climb.{climbed_is_ascent, climbed_nodes, climbed_nodes_at}
 use Rattle.merkle.proofs.Leading.{climbed_to_root}
 
--- it is as long as the tree is high
 pub path_long : (leaves : Leaves) (joins : Joins) (h q : ℕ) → length (path_of leaves joins h q) ≡ h
 path_long leaves joins h q = length-map-range_with_len _ 0 h
 
--- and it leads to the root
 pub path_leads : (leaves : Leaves) (joins : Joins) (h q : ℕ) → q < 2 ^ h
     → PathLeadsTo joins q (leaves q) (path_of leaves joins h q) (root_of leaves joins h)
 path_leads leaves joins h q inside =

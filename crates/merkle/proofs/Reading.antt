@@ -13,7 +13,6 @@ use Rattle.merkle.proofs.Climb.{half_of}
 use Rattle.merkle.proofs.Leading.{sibling-odd, sibling-even}
 use Rattle.merkle.proofs.Listing.{half_room, nodes_count, nodes_halves, nodes_last}
 
--- how many nodes each half has
 half_count : (leaf : Leaves) (join : Joins) (base depth j k : ℕ) (nodes : List (List ℕ)) → 0 < depth
     → nodes ≡ nodes_under leaf join base depth j
     → length nodes / 2 ≡ length (nodes_under leaf join base (depth - 1) k)
@@ -22,7 +21,6 @@ half_count leaf join base depth j k nodes above nodes_are =
     = ap (λ xs. length xs + 1) nodes_are ∙ nodes_count leaf join base depth j in
     omega (arith, half_room (length nodes) depth all above, nodes_count leaf join base (depth - 1) k)
 
--- the first half
 pub first_half : (leaf : Leaves) (join : Joins) (base depth j k : ℕ) (nodes : List (List ℕ)) → 0 < depth
     → nodes ≡ nodes_under leaf join base depth j → 2 * j ≡ k
     → take (length nodes / 2) nodes ≡ nodes_under leaf join base (depth - 1) k
@@ -34,7 +32,6 @@ first_half leaf join base depth j k nodes above nodes_are is =
     ∙ take-append_seam left rest
     ∙ ap (nodes_under leaf join base (depth - 1)) is
 
--- the second half
 pub second_half : (leaf : Leaves) (join : Joins) (base depth j k : ℕ) (nodes : List (List ℕ)) → 0 < depth
     → nodes ≡ nodes_under leaf join base depth j → 2 * j + 1 ≡ k
     → take (2 * (length nodes / 2) - length nodes / 2) (drop (length nodes / 2) nodes)

@@ -1,4 +1,4 @@
-//! A tree that is made once. Enough of its nodes are kept that a path costs few leaves.
+//! A tree that is made once, with enough nodes kept that a path costs few leaves.
 
 ghost use Rattle.std.specs.Prelude.{◌≡◌, ◌==◌, ◌≤◌, ◌<◌, ◌+◌, ◌-◌, ◌/◌, ◌^◌, IfOk, length, min, vec_len};
 ghost use Rattle.std.specs.Prelude.{if◌then◌else◌};
