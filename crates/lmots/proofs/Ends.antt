@@ -17,12 +17,10 @@ concat_more value n =
 pub fed : List ℕ → (ℕ → List ℕ) → ℕ → List ℕ
 fed head end n = head ++ concat (map end (range_with_len 0 n))
 
--- before the first end it is the head
 pub fed_none : (head : List ℕ) (end : ℕ → List ℕ) → head ≡ fed head end 0
 unfolding fed
 fed_none head end = sym (append-nil head)
 
--- one end more
 pub fed_more : (head : List ℕ) (end : ℕ → List ℕ) (n : ℕ) (part : List ℕ) → part ≡ end n
     → fed head end n ++ part ≡ fed head end (n + 1)
 unfolding fed
@@ -30,7 +28,6 @@ fed_more head end n part e =
     append_assoc head (concat (map end (range_with_len 0 n))) part
     ∙ ap (λ rest. head ++ rest) (ap (λ last. concat (map end (range_with_len 0 n)) ++ last) e ∙ sym (concat_more end n))
 
--- after the last one it is the head and all ends
 pub fed_all : (head : List ℕ) (end : ℕ → List ℕ) (n all : ℕ) → n ≡ all
     → fed head end n ≡ head ++ concat (map end (range_with_len 0 all))
 unfolding fed

@@ -17,7 +17,6 @@ ends_until identifier q ots seed n = map (λ i. chain_value identifier q seed i 
 abbrev pub message_until : List ℕ → ℕ → OtsType → List ℕ → ℕ → List ℕ
 message_until identifier q ots seed n = identifier ++ u32str q ++ u16str public_separator ++ concat (ends_until identifier q ots seed n)
 
--- with no end yet
 pub message_none : (identifier : List ℕ) (q : ℕ) (ots : OtsType) (seed : List ℕ)
     → identifier ++ u32str q ++ u16str public_separator ≡ message_until identifier q ots seed 0
 message_none identifier q ots seed = sym (append-nil _)
@@ -25,7 +24,6 @@ message_none identifier q ots seed = sym (append-nil _)
 concat_more : (xs : List (List ℕ)) (x : List ℕ) → concat (xs ++ x ∷ []) ≡ concat xs ++ x
 concat_more xs x = concat-append xs (x ∷ []) ∙ ap (λ l. concat xs ++ l) (append-nil x)
 
--- with one more
 pub message_more : (identifier : List ℕ) (q : ℕ) (ots : OtsType) (seed : List ℕ) (n last : ℕ) (before message end : List ℕ)
     → before ≡ message_until identifier q ots seed n → message ≡ before ++ end
     → end ≡ chain_value identifier q seed n last → last ≡ 2 ^ width_of ots - 1

@@ -125,7 +125,6 @@ impl LmOts {
         LaneKeys::of(identifier, leaves).public_hashes(ots, seed)
     }
 
-    // The public hash of the ends of all chains.
     fn hash_of_ends(&self, ends: &[[u8; 32]]) -> [u8; 32]
         ensures { result ≡ spec.public_hash self.now.identifier self.now.leaf ends.now }
     {
