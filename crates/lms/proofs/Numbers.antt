@@ -5,7 +5,6 @@ use Rattle.std.proofs.Math.Nat.{mul-mod_left}
 use Rattle.std.proofs.lemmas.Nat.{pow-add}
 use Rattle.lmots.specs.Hashes.{u32str}
 
--- the lowest 32 bits of a number have its bytes
 u32str-low : (x : ℕ) → u32str (x % 2 ^ 32) ≡ u32str x
 u32str-low x =
     let first : x % 2 ^ 32 / 2 ^ 24 % 256 ≡ x / 2 ^ 24 % 256 = omega arith in

@@ -50,7 +50,6 @@ refused key message bytes LevelMismatch never = absurd never
 refused key message bytes MessageRead unread = unread
 refused key message bytes (RootMismatch level) invalid = invalid
 
--- the laws of the answers
 pub laws : VerdictLaws Verdict (λ key. signature) IsValid (λ key refusal. refusal ≡ RootMismatch 0)
 laws = tree_laws Verdict (λ key. signature) (λ key s. s.pair ≡ key.pair) IsValid refused (λ key message s valid. valid.types)
 

@@ -18,15 +18,12 @@ leaves_of secret q = leaf_of secret.identifier (height_of secret.pair.tree) q
 abbrev pub joins_of : LmsSecret → Joins
 joins_of secret = join_of secret.identifier (height_of secret.pair.tree)
 
--- the root of the tree
 abbrev pub root_in : LmsSecret → List ℕ
 root_in secret = root_of (leaves_of secret) (joins_of secret) (height_of secret.pair.tree)
 
--- the public key
 abbrev pub public_of : LmsSecret → LmsPublic
 public_of secret = record { pair = secret.pair; identifier = secret.identifier; root = root_in secret }
 
--- the authentication path of leaf q
 abbrev pub path_in : LmsSecret → ℕ → List (List ℕ)
 path_in secret q = path_of (leaves_of secret) (joins_of secret) (height_of secret.pair.tree) q
 

@@ -15,7 +15,6 @@ pub record Signature : Type 0 where
   pub chains : List (List ℕ)
   pub path : List (List ℕ)
 
--- the signature of these parts
 abbrev pub signature_with : LmsPair → ℕ → List ℕ → List (List ℕ) → List (List ℕ) → Signature
 signature_with pair q randomizer chains path =
     record { pair = pair; q = q; randomizer = randomizer; chains = chains; path = path }

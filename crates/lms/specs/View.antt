@@ -5,7 +5,6 @@ use Rattle.std.specs.Prelude.{ℕ, List}
 use Rattle.typecodes.specs.declared.types.LmsPair.{LmsPair}
 use Rattle.lms.specs.Signature.{Signature}
 
--- the signature
 abbrev pub signature_of : LmsSigView → Signature
 signature_of view = record {
   pair = view.pair;
@@ -15,11 +14,10 @@ signature_of view = record {
   path = view.path.now;
 }
 
--- its types
 abbrev pub pair_of : LmsSigView → LmsPair
 pair_of view = view.pair
 
--- the bytes that spell it, as they were lent
+-- the bytes that spell the signature, as they were lent
 abbrev pub lent_of : LmsSigView → Bor (List ℕ)
 lent_of view = view.bytes
 
