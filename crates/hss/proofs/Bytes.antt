@@ -52,12 +52,10 @@ signed_key-spelled signed a b signature_spelled key_spelled =
     from_turn lms_signature after_signature signed.signature signed a b signature_spelled
     (last_field lms_public_key (λ key. done (record { signature = signed.signature; key = key })) signed.key signed b key_spelled (refl, refl))
 
--- no signed keys
 pub keys-none : Spells (signed_keys 0) [] []
 unfolding signed_keys
 keys-none = (refl, refl)
 
--- one more after them
 keys-push : (n : ℕ) (keys : List SignedKey) (last : SignedKey) (a b : List ℕ) → Spells (signed_keys n) keys a → Spells signed_key last b → Spells (signed_keys (suc n)) (keys ++ last ∷ []) (a ++ b)
 unfolding signed_keys
 keys-push zero keys last a b spelled last_spelled =

@@ -17,7 +17,6 @@ use Rattle.lms.specs.Writing.{public_bytes as lms_public_bytes}
 use Rattle.lms.proofs.After.{after_identifier, after_key_tree, after_root, after_types}
 use Rattle.typecodes.proofs.FieldBytes.{four_parts, lms_named, number_spelled, ots_named}
 
--- a number's digits are bytes
 u32-bytes : (c : ℕ) → AreBytes (u32str c)
 u32-bytes c zero = omega arith
 u32-bytes c (suc zero) = omega arith
@@ -39,7 +38,6 @@ typed-bytes code types t bytes small are spelled =
     let a_is : a ≡ u32str c = one_way-number c a (u32str c) (AreBytes-front a b (subst AreBytes bytes_are are)) (u32-bytes c) a_spelled (number_spelled c (subst (λ c. c < 2 ^ 32) code_is small)) in
     bytes_are ∙ ap (λ b. a ++ b) b_is ∙ append-nil a ∙ a_is ∙ ap u32str (sym code_is)
 
--- a block is its bytes
 block-bytes : (n : ℕ) (v bytes : List ℕ) → Spells (block n) v bytes → bytes ≡ v
 block-bytes n v bytes (front, rest, bytes_are, len, ended) = bytes_are ∙ ap (λ rest. front ++ rest) ended.1 ∙ append-nil front ∙ ended.0
 

@@ -99,7 +99,6 @@ made_valid above bottom message theirs digests =
     subst (λ k. IsLmsValid k signed (signature_by level)) (key-from_secret level (theirs.roots i inside))
     (signed_valid level.secret level.leaf level.randomizer signed level.digest level.path.now level.inside (digests i inside) (theirs.paths i inside)))
 
--- pairs of two lists, seen through a function
 zip-map : {A B : Type 0} (f : A → B) (xs ys : List A) → zip (map f xs) (map f ys) ≡ map (λ pair. (f pair.0, f pair.1)) (zip xs ys)
 zip-map f [] ys = refl
 zip-map f (x ∷ xs) [] = refl

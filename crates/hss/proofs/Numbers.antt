@@ -4,11 +4,9 @@ use Rattle.std.specs.Prelude.{◌&&◌}
 use Rattle.std.proofs.lemmas.Bool.{lt-leb}
 use Rattle.typecodes.proofs.Steps.{reading, steps}
 
--- a number within the bounds
 pub number-within : (low high n : ℕ) → low ≤ n → n ≤ high → (nat_le low n && nat_le n high) ≡ true
 number-within low high n above below = rw (le-leb low n above, le-leb n high below) refl
 
--- one below, or above them
 pub number-below : (low high n : ℕ) → n < low → (nat_le low n && nat_le n high) ≡ false
 number-below low high n below = rw (lt-leb low n below) refl
 

@@ -46,7 +46,6 @@ keys-split n bytes place end keys found =
     let pair : ◌≡◌ {A = List SignedKey × ℕ} (x.0 ∷ y.0, y.1) (keys, end) = cc in
     (x.0, x.1, y.0, sym (ap (λ p. p.0) pair), x_found, y_found ∙ ap (λ at. Ok (y.0, at)) (ap (λ p. p.1) pair))
 
--- none were read yet
 pub keys-none : (bytes : List ℕ) (place : ℕ) → read (signed_keys 0) bytes place ≡ Ok ([], place)
 unfolding signed_keys
 keys-none bytes place = refl

@@ -35,7 +35,6 @@ skipped [] (suc i) is = refl
 skipped (x ∷ rest) zero is = ap (λ x. shown x ++ []) is
 skipped (x ∷ rest) (suc i) is = ap (λ keys. shown x ++ keys) (skipped rest i is)
 
--- the first slots are in use
 pub in-use : (n : ℕ) (slots : List (Option SignedKeyView)) (i : ℕ) → AreFirst n slots → i < n → slot slots i ≡ None → ⊥
 in-use n slots i first within is =
     omega (arith, first.0 i (omega arith), first.0 (i + 1) (omega arith), ap (λ k. length (signed_in (take k slots))) (add-one i), ap length (skipped slots i is))

@@ -33,7 +33,6 @@ public-end key bytes place end within found =
     let (a, after, rest_is, end_is, spelled) = read-stands lms_public_key key bytes place end within found in
     omega (arith, end_is, size-public_key key a spelled)
 
--- what is read ends within the bytes
 pub ends-within : {V : Type 0} (layout : Layout V) (v : V) (bytes : List ℕ) (place end : ℕ) → place ≤ length bytes → read layout bytes place ≡ Ok (v, end) → (place ≤ end) × (end ≤ length bytes)
 ends-within layout v bytes place end within found =
     let (a, after, rest_is, end_is, spelled) = read-stands layout v bytes place end within found in

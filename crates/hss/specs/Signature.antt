@@ -61,7 +61,6 @@ message_at message s i = slice_index_or (messages_of message s) i message
 abbrev pub start_of : Signature → ℕ → ℕ
 start_of s i = 4 + sum_by taken (take i (signatures_of s))
 
--- the types of the levels
 abbrev pub pairs_in : Signature → List LmsPair
 pairs_in s = map (λ level. level.pair) (signatures_of s)
 

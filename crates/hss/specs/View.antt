@@ -4,11 +4,10 @@ use Rattle.std.specs.Prelude.{ℕ, List}
 use Rattle.hss.specs.declared.signature.HssSigView.{HssSigView}
 use Rattle.hss.specs.Signature.{Signature, shown_by}
 
--- the signature
 abbrev pub signature_of : HssSigView → Signature
 signature_of view = shown_by view.signed.slots view.bottom
 
--- the bytes that spell it, as they were lent
+-- the bytes that spell the signature, as they were lent
 abbrev pub lent_of : HssSigView → Bor (List ℕ)
 lent_of view = view.bytes
 

@@ -33,11 +33,9 @@ signature_bytes s =
 
 -- ---- the textbook signature of levels: the ones above the bottom, from the top down, and the bottom one
 
--- the levels
 abbrev pub levels_in : {L : Type 0} → List L → L → List L
 levels_in above bottom = above ++ bottom ∷ []
 
--- level i of them
 abbrev pub level_in : {L : Type 0} → List L → L → ℕ → L
 level_in above bottom i = slice_index_or (levels_in above bottom) i bottom
 
@@ -49,7 +47,6 @@ signed_with signature key above bottom =
       bottom = signature bottom;
     }
 
--- the levels' public key
 abbrev pub public_of : List Signing → Signing → HssPublic
 public_of above bottom = record {
   levels = length above + 1;
@@ -86,7 +83,6 @@ pub record AreSigning (above : List Signing) (bottom : Signing) (message : List 
 abbrev pub part_size : Level → ℕ
 part_size level = lms_signature_len_of level.secret.pair + 56
 
--- a level's signature before a key
 abbrev pub signed_key_by : Level → LmsPublic → SignedKey
 signed_key_by level next = record { signature = signature_by level; key = next }
 
@@ -97,7 +93,6 @@ signed_by above bottom = signed_with signature_by key_of above bottom
 abbrev pub public_by : List Level → Level → HssPublic
 public_by above bottom = record { levels = length above + 1; top = key_of (level_in above bottom 0) }
 
--- the types of the levels
 abbrev pub pairs_of : List Level → Level → List LmsPair
 pairs_of above bottom = map (λ level. level.secret.pair) (levels_in above bottom)
 

@@ -146,7 +146,7 @@ fn verify_above<'a, C: Climbing>(
     })
 }
 
-// The key of the bottom level, if all levels above it are valid.
+// The key of the bottom level, where the signatures of all levels above it are valid.
 fn bottom_key<C: Climbing>(
     climbing: &C,
     top: &LmsPublic,
