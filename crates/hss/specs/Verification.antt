@@ -63,7 +63,7 @@ Verdict key message bytes (Err (RootMismatch i)) =
     (s : Signature) × Reaches key message bytes s i × HasKeyTypes key.top s i × (IsValidAt key.top message s i → ⊥)
 
 -- What verification leaves of the message. Where the bottom level's root was compared, it was read whole and gave this
--- text. Where a refusal came before reading, it is untouched.
+-- text. At 14 it can't be read. Where a refusal came before reading, it is untouched.
 abbrev pub LeavesMessage : {M A : Type 0} → Transition M → (M → Option (List ℕ)) → HssPublic → List ℕ → M → M
     → Result A Refusal → Type 0
 LeavesMessage transition remaining key text old new (Ok _) = ReadWhole transition remaining text old new

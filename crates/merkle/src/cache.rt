@@ -16,7 +16,7 @@ use std::marker::Model;
 ///
 /// Let b be half of the tree's height, rounded down. A block is a node of height b with all nodes and the `2^b` leaves
 /// under it. Kept are the nodes from height b upwards, and one block: `2^(height - b + 1) + 2^(b + 1) - 2` nodes of 32
-/// bytes. Only `new` and `for_leaf` take memory.
+/// bytes. Memory is taken when the cache is made, and by no other call.
 #[derive(Drop)]
 pub struct PathCache<T: TreeHash> {
     tree: T,

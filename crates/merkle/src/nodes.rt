@@ -100,7 +100,7 @@ pub(crate) fn fill_from<T: TreeHash>(
     let half = into.len() / 2;
     let (left, rest) = into.split_at_mut(half);
     let (right, top) = rest.split_at_mut(half);
-    // The child that is over the known node, or is it.
+    // The index of the child over the known node.
     let over = known_index / 2u32.pow(u32::from(below));
     if over == 2 * index {
         fill_from(tree, base, below, 2 * index, known_index, known, left);

@@ -14,7 +14,7 @@ pub trait Progress {
         ensures { told self.new ≡ made };
 }
 
-/// Ignores what it is told.
+/// Keeps the last number that it was told, and does nothing else.
 #[derive(Clone, Copy, Debug, Drop)]
 pub struct Silent {
     told: u64,

@@ -7,7 +7,7 @@ use Rattle.typecodes.specs.declared.refusal.Refusal.TheVariants.{Unreadable, Typ
 use Rattle.typecodes.specs.declared.refusal.Refusal.TheVariants.{RootMismatch, MessageRead}
 
 -- What a verification leaves of the message of a signature of one tree. Where the root was compared, the message was
--- read whole and gave this text. Where a refusal came before reading, it is untouched.
+-- read whole and gave this text. At 14 it can't be read. Where a refusal came before reading, it is untouched.
 abbrev pub LeavesMessage : {M A : Type 0} → Transition M → (M → Option (List ℕ)) → List ℕ → M → M → Result A Refusal
     → Type 0
 LeavesMessage transition remaining text old new (Ok _) = ReadWhole transition remaining text old new
