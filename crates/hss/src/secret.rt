@@ -42,7 +42,6 @@ impl Level<'_> {
         }
     }
 
-    /// Writes the level's signature.
     pub(crate) fn write(&self, into: &mut [u8])
         requires { length into.old ≡ lms_signature_len_of self.now.secret.pair }
         ensures bytes { into.new ≡ lms_signature_bytes (signature_by self.now) }

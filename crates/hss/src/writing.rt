@@ -35,7 +35,6 @@ pub fn signature_len(levels: &Levels) -> u32
 pub fn write_public(public: &HssPublic, into: &mut [u8])
     requires { length into.old ≡ 60 }
     ensures bytes { into.new ≡ public_bytes public.now }
-    // They spell the key.
     ensures spells { Spells public_key public.now into.new }
 {
     write_number(public.levels.get(), into);
@@ -46,7 +45,6 @@ pub fn write_public(public: &HssPublic, into: &mut [u8])
 pub fn write_signed_key(level: &Level<'_>, next: &LmsPublic, into: &mut [u8])
     requires { length into.old ≡ lms_signature_len_of level.now.secret.pair + 56 }
     ensures bytes { into.new ≡ signed_key_bytes (signed_key_by level.now next.now) }
-    // They spell the signature and the key.
     ensures spells { Spells signed_key (signed_key_by level.now next.now) into.new }
 {
     let len = into.len();
@@ -61,7 +59,6 @@ pub fn write_signature(above: &[Level<'_>], bottom: &Level<'_>, into: &mut [u8])
     requires few { length above.now ≤ 7 }
     requires room { length into.old ≡ signature_size (pairs_of above.now bottom.now) }
     ensures bytes { into.new ≡ signature_bytes (signed_by above.now bottom.now) }
-    // They spell the signature.
     ensures spells { Spells signature (signed_by above.now bottom.now) into.new }
     // If roots and paths are the levels' secrets', it is the textbook signature.
     ensures textbook { FromSecrets above.now bottom.now

@@ -17,7 +17,6 @@ use typecodes::{LmsSecret, put};
 pub fn write_public(public: &LmsPublic, into: &mut [u8])
     requires { length into.old ≡ 56 }
     ensures bytes { into.new ≡ public_bytes public.now }
-    // They spell the key.
     ensures spells { Spells public_key public.now into.new }
 {
     let offset = put(into, 0, &public.pair.tree.code().to_be_bytes());
@@ -40,7 +39,6 @@ pub fn write_signature(
     requires path { length path.now ≡ height_of secret.now.pair.tree }
     requires room { length into.old ≡ lms_signature_len_of secret.now.pair }
     ensures bytes { into.new ≡ signature_bytes (signed secret.now leaf randomizer.now digest.now path.now) }
-    // They spell the signature.
     ensures spells { Spells signature (signed secret.now leaf randomizer.now digest.now path.now) into.new }
     // If the path is the leaf's, it is the textbook signature.
     ensures textbook { path.now ≡ path_in secret.now leaf →

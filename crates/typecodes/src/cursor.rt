@@ -124,7 +124,6 @@ impl<'a> Cursor<'a> {
         Ok(taken.as_chunks().0)
     }
 
-    // The bytes of the next count values.
     fn values_bytes(&mut self, count: u32) -> Result<&'a [u8], ReadFault>
         requires { self.old.place + 32 * count < 2 ^ 32 }
         ensures read { Gives (λ taken. (first_chunks 32 (length taken.now / 32) taken.now, self.new.place)) result

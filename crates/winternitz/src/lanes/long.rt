@@ -76,7 +76,6 @@ fn hash_blocks<const N: usize>(messages: &[[u8; N]; LANES], count: usize) -> Sta
     states
 }
 
-// Block k of each message.
 fn blocks_at<const N: usize>(messages: &[[u8; N]; LANES], k: usize) -> [[u8; 64]; LANES]
     requires { (k + 1) * 64 ≤ N }
     ensures { (j : ℕ) → j < lanes
