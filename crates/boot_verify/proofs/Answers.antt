@@ -38,7 +38,7 @@ refusal_above LevelMismatch = omega arith
 refusal_above (RootMismatch level) = omega arith
 refusal_above MessageRead = omega arith
 
--- so nothing with a number is 0
+-- so a packed refusal is never 0
 never_zero : (number detail answer : ℕ) → 0 < number → answer ≡ packed number detail → answer ≡ 0 → ⊥
 never_zero number detail answer above is zero = omega (arith, above, is, zero)
 
@@ -47,37 +47,37 @@ key_never_zero : (public : List ℕ) (answer : ℕ) → RefusesKey public answer
 key_never_zero public answer (inl (_, _, _, is)) zero = never_zero 6 _ answer (omega arith) is zero
 key_never_zero public answer (inr (fault, _, is)) zero = never_zero (cause_number fault.cause) fault.place answer (cause_above fault.cause) is zero
 
--- and no bytes that are refused spell a key
+-- refused bytes spell no key
 refused_spells_none : (public : List ℕ) (answer : ℕ) (key : Key) → RefusesKey public answer → SpellsKey key public → ⊥
 refused_spells_none public answer key (inl (not_lms, not_hss, not_xmss, _)) spelled = not_none key public spelled not_lms not_hss not_xmss
 refused_spells_none public answer key (inr (fault, faulty, _)) spelled = no_fault key public fault spelled faulty
 
--- what an accepting verdict says
+-- an accepting verdict means a valid signature
 accepts : (key : Key) (message bytes : List ℕ) (x : Unit {0}) → KeyVerdict key message bytes (Ok x) → Signs key message bytes
 accepts (Lms key) message bytes x verdict = verdict
 accepts (Hss key) message bytes x verdict = verdict
 accepts (Xmss key) message bytes x verdict = verdict
 
--- and a valid signature is accepted
+-- a valid signature is accepted
 accepted : (key : Key) (message bytes : List ℕ) (verdict : Result (Unit {0}) Refusal) → KeyVerdict key message bytes verdict → verdict ≢ Err MessageRead
     → Signs key message bytes → IsOk verdict
 accepted (Lms key) message bytes verdict is read (s, spelled, valid) = lms.accepted key message bytes verdict is read s spelled valid
 accepted (Hss key) message bytes verdict is read (s, spelled, valid) = hss.accepted key message bytes verdict is read s spelled valid
 accepted (Xmss key) message bytes verdict is read (s, spelled, valid) = xmss.accepted key message bytes verdict is read s spelled valid
 
--- an answer of 0 is that of a valid signature
+-- 0 is answered for valid signatures alone
 signed : (public message bytes : List ℕ) (answer : ℕ) → Answers public message bytes answer → answer ≡ 0 → IsSigned public message bytes
 signed public message bytes answer (inl refused) zero = absurd (key_never_zero public answer refused zero)
 signed public message bytes answer (inr (key, Ok x, spelled, verdict, read, is)) zero = (key, spelled, accepts key message bytes x verdict)
 signed public message bytes answer (inr (key, Err refusal, spelled, verdict, read, is)) zero =
     absurd (never_zero (refusal_number refusal) (refusal_detail refusal) answer (refusal_above refusal) is zero)
 
--- of an accepting verdict the answer is 0
+-- an accepting verdict is answered by 0
 zero_of_ok : (verdict : Result (Unit {0}) Refusal) → IsOk verdict → verdict_answer verdict ≡ 0
 zero_of_ok (Ok x) ok = refl
 zero_of_ok (Err refusal) ok = let never : false ≡ true = ok in absurd (cc)
 
--- and a valid signature is answered by 0
+-- a valid signature is answered by 0
 answered : (public message bytes : List ℕ) (answer : ℕ) → Answers public message bytes answer → IsSigned public message bytes → answer ≡ 0
 answered public message bytes answer (inl refused) (key, spelled, signs) = absurd (refused_spells_none public answer key refused spelled)
 answered public message bytes answer (inr (other, verdict, spelled, is, read, answer_is)) (key, spelled_too, signs) =
@@ -90,7 +90,7 @@ valid_exactly public message bytes answer answers = (signed public message bytes
 
 -- ---- the bytes before the message
 
--- a refusal of the key is known before the message is
+-- a refusal of the key needs no message
 cause_early : (cause : Cause) → cause_number cause ≤ 6
 cause_early Truncated = omega arith
 cause_early UnknownType = omega arith
@@ -102,7 +102,7 @@ pub early_key : (public : List ℕ) (answer : ℕ) → RefusesKey public answer 
 early_key public answer (inl (_, _, _, is)) = (6, _, is, inl (omega arith, omega arith))
 early_key public answer (inr (fault, _, is)) = (cause_number fault.cause, fault.place, is, inl (cause_above fault.cause, cause_early fault.cause))
 
--- and so is each refusal for which no type, root or message was looked at
+-- nor does a refusal that compared no type and no root, and read no message
 pub early_refusal : (refusal : Refusal) (answer : ℕ) → refusal ≢ MessageRead → ((level : ℕ) → refusal ≢ TypeMismatch level)
     → ((level : ℕ) → refusal ≢ RootMismatch level) → answer ≡ verdict_answer (Err refusal) → IsEarly answer
 early_refusal (Unreadable fault) answer read types roots is = (cause_number fault.cause, fault.place, is, inl (cause_above fault.cause, cause_early fault.cause))
@@ -111,7 +111,7 @@ early_refusal LevelMismatch answer read types roots is = (11, 0, is, inr refl)
 early_refusal (RootMismatch level) answer read types roots is = absurd (roots level refl)
 early_refusal MessageRead answer read types roots is = absurd (read refl)
 
--- what is hashed after them is the message's digest
+-- SHA-256 of the prefix and the message is the message's digest
 pub digest_after : (key : Key) (bytes prefix message : List ℕ) → KeyHasPrefix key bytes prefix → KeyIsDigest key message bytes (sha256 (prefix ++ message))
 digest_after (Lms key) bytes prefix message (s, spelled, is) = λ t spelled_too.
     ap (λ prefix. sha256 (prefix ++ message)) (is ∙ ap (lms_prefix_of key) (one_value lms_signature s t bytes spelled spelled_too))
@@ -121,14 +121,14 @@ digest_after (Hss key) bytes prefix message (s, spelled, count, is) = λ t spell
 digest_after (Xmss key) bytes prefix message (s, spelled, is) = λ t spelled_too.
     ap (λ prefix. sha256 (prefix ++ message)) (is ∙ ap (xmss_prefix_of key) (one_value (xmss_signature key.tree) s t bytes spelled spelled_too))
 
--- whichever key the bytes spell
+-- the same, for any key that the bytes spell
 pub digest_of_bytes : (key : Key) (public bytes prefix message : List ℕ) → SpellsKey key public → KeyHasPrefix key bytes prefix
     → IsDigest public message bytes (sha256 (prefix ++ message))
 digest_of_bytes key public bytes prefix message spelled has = λ other spelled_too.
     subst (λ key. KeyIsDigest key message bytes (sha256 (prefix ++ message))) (one_key key other public spelled spelled_too)
     (digest_after key bytes prefix message has)
 
--- they are given where they stand at the front of the room, and their number is the scheme's
+-- a prefix at the front of the room, with its length as the answer, is what C asked for
 pub given : (key : Key) (public bytes room : List ℕ) (n answer : ℕ) → SpellsKey key public → n ≡ prefix_length key
     → KeyHasPrefix key bytes (take n room) → answer ≡ packed 0 n → GivesPrefix public bytes room answer
 given key public bytes room n answer spelled count has is =

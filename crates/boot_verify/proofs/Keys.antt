@@ -1,4 +1,4 @@
--- How many bytes the spellings of public keys have, and that bytes spell one key.
+-- The lengths of keys' spellings, and that bytes spell at most one key.
 use Rattle.std.proofs.Common.{◌≡◌, ◌∙◌, sym, ap, arith, ℕ, List, length, cond, nat_le, inl, inr}
 use Rattle.std.specs.Prelude.{◌&&◌}
 use Rattle.typecodes.proofs.Spelling.{no_value, one_value}
@@ -23,7 +23,7 @@ size-xmss_type : HasSize xmss_type 4
 unfolding xmss_type
 size-xmss_type = size-typed xmss_code xmss_types
 
--- a number of levels
+-- a number of levels, refused out of bounds
 tested : ℕ → ℕ → ℕ → Layout ℕ
 tested low high n = cond (nat_le low n && nat_le n high) (done n) (refuse 4 LevelCount)
 
@@ -33,7 +33,7 @@ size-level_number low high =
     size-bind number (tested low high) 4 0 size-number (λ n.
     size-if (nat_le low n && nat_le n high) (done n) (refuse 4 LevelCount) 0 (size-done n) (size-refuse 4 LevelCount 0))
 
--- what follows each field of an HSS key
+-- the rest of an HSS key's layout after each field
 of_top : ℕ → LmsPublic → Layout HssPublic
 of_top levels top = done (record { levels = levels; top = top })
 
@@ -55,11 +55,11 @@ size-xmss_key =
     size-bind (block 32) (after_seed tree root) 32 0 (size-block 32) (λ seed.
     size-done (record { tree = tree; root = root; seed = seed }))))
 
--- lengths of two schemes are two
+-- a list doesn't have two lengths
 apart : {A : Type 0} (m n k : ℕ) → k ≡ m → k ≡ n → (m ≡ n → ⊥) → A
 apart m n k is_m is_n differs = absurd (differs (sym is_m ∙ is_n))
 
--- bytes spell one key
+-- bytes spell at most one key
 pub one_key : (key other : Key) (bytes : List ℕ) → SpellsKey key bytes → SpellsKey other bytes → key ≡ other
 one_key (Lms a) (Lms b) bytes first second = ap Lms (one_value lms_public_key a b bytes first second)
 one_key (Lms a) (Hss b) bytes first second = apart 56 60 (length bytes) (size-lms_key a bytes first) (size-hss_key b bytes second) (λ e. omega (arith, e))
@@ -71,13 +71,13 @@ one_key (Xmss a) (Lms b) bytes first second = apart 68 56 (length bytes) (size-x
 one_key (Xmss a) (Hss b) bytes first second = apart 68 60 (length bytes) (size-xmss_key a bytes first) (size-hss_key b bytes second) (λ e. omega (arith, e))
 one_key (Xmss a) (Xmss b) bytes first second = ap Xmss (one_value xmss_public_key a b bytes first second)
 
--- the length of the bytes of a key is one of the schemes'
+-- spellings of keys have 56, 60 or 68 bytes
 pub not_none : (key : Key) (bytes : List ℕ) → SpellsKey key bytes → (length bytes ≡ 56 → ⊥) → (length bytes ≡ 60 → ⊥) → (length bytes ≡ 68 → ⊥) → ⊥
 not_none (Lms key) bytes spelled not_lms not_hss not_xmss = not_lms (size-lms_key key bytes spelled)
 not_none (Hss key) bytes spelled not_lms not_hss not_xmss = not_hss (size-hss_key key bytes spelled)
 not_none (Xmss key) bytes spelled not_lms not_hss not_xmss = not_xmss (size-xmss_key key bytes spelled)
 
--- and as a key of this length they have no fault
+-- a spelling of a key has no fault
 pub no_fault : (key : Key) (bytes : List ℕ) (fault : ReadFault) → SpellsKey key bytes → KeyHasFault bytes fault → ⊥
 no_fault (Lms key) bytes fault spelled (inl (len, faulty)) = no_value lms_public_key key bytes 0 fault spelled faulty
 no_fault (Lms key) bytes fault spelled (inr (inl (len, faulty))) = apart 56 60 (length bytes) (size-lms_key key bytes spelled) len (λ e. omega (arith, e))

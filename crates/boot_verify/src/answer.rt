@@ -1,4 +1,4 @@
-//! Answers as numbers.
+//! Answers of the C functions, packed into 64 bits.
 
 ghost use Rattle.std.specs.Prelude.{◌≡◌};
 ghost use Rattle.boot_verify.specs.Answer as spec;
@@ -6,24 +6,24 @@ ghost use Rattle.boot_verify.specs.Answer.{refusal_detail, verdict_answer};
 
 use typecodes::{ReadFault, Refusal};
 
-// The number that stands above the lower 32 bits of an answer counts in these.
+// 2^32: what multiplies the upper 32 bits of an answer.
 const UPPER: u64 = 0x1_0000_0000;
 
-/// A number in the lower 32 bits, and what belongs to it in the upper ones.
+/// `number` in the lower 32 bits, `detail` in the upper ones.
 pub(crate) fn packed(number: u8, detail: u32) -> u64
     ensures { result ≡ spec.packed number detail }
 {
     u64::from(number) + UPPER * u64::from(detail)
 }
 
-/// A fault of a public key.
+/// A public key's fault, with the place of its byte.
 pub(crate) fn fault_answer(fault: ReadFault) -> u64
     ensures { result ≡ spec.fault_answer fault }
 {
     packed(fault.cause.number(), fault.place)
 }
 
-/// KeyLength, 6, of a length.
+/// Refusal 6, KeyLength. A length of 2^32 or more is given as `u32::MAX`.
 pub(crate) fn length_answer(length: usize) -> u64
     ensures { result ≡ spec.length_answer length }
 {
@@ -35,7 +35,7 @@ pub(crate) fn length_answer(length: usize) -> u64
     packed(6, detail)
 }
 
-/// 0 for a valid signature, or its refusal.
+/// 0 for a valid signature, else its refusal.
 pub(crate) fn answer_of(verdict: Result<(), Refusal>) -> u64
     ensures { result ≡ verdict_answer verdict }
 {
@@ -45,7 +45,7 @@ pub(crate) fn answer_of(verdict: Result<(), Refusal>) -> u64
     }
 }
 
-// What belongs to a refusal: a place or a level.
+// The refusal's place or level; 0 where it has neither.
 fn detail_of(refusal: &Refusal) -> u32
     ensures { result ≡ refusal_detail refusal.now }
 {

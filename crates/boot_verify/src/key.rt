@@ -11,7 +11,7 @@ use typecodes::Refusal;
 use winternitz::OneByOne;
 use xmss::XmssPublic;
 
-/// A public key of one of the schemes. Its length in bytes names the scheme.
+/// A public key. Its length in bytes names the scheme.
 #[derive(Clone, Copy)]
 pub enum Key {
     /// LMS, 56 bytes (RFC 8554 5.3).
@@ -23,7 +23,7 @@ pub enum Key {
 }
 
 impl Key {
-    /// The key that the bytes spell, of the scheme that their length names. Otherwise the refusal, as it is answered.
+    /// Decodes a key of the scheme that its length names. An `Err` is the final answer for C.
     pub(crate) fn read(public: &[u8]) -> Result<Key, u64>
         ensures ok { IfOk result (λ key. SpellsKey key public.now) }
         ensures err { IfErr result (RefusesKey public.now) }
@@ -38,7 +38,6 @@ impl Key {
         }
     }
 
-    /// Verifies a message in memory.
     pub(crate) fn verify(&self, message: &[u8], signature: &[u8]) -> Result<(), Refusal>
         ensures verdict { KeyVerdict self.now message.now signature.now result }
         ensures read { result ≢ Err Refusal.MessageRead }
@@ -50,7 +49,7 @@ impl Key {
         }
     }
 
-    /// Verifies a message by its digest.
+    /// Verifies by the digest of the prefix and the message.
     pub(crate) fn verify_digest(&self, digest: &[u8; 32], signature: &[u8]) -> Result<(), Refusal>
         ensures verdict { (message : List ℕ) → KeyIsDigest self.now message signature.now digest.now
             → KeyVerdict self.now message signature.now result }
@@ -63,7 +62,8 @@ impl Key {
         }
     }
 
-    /// Writes what is hashed before the message to the front of the room, and counts these bytes.
+    /// Writes what is hashed before the message to the front of `room`, and returns its length. Refused are a signature
+    /// that doesn't decode, and a wrong number of levels; no root is compared.
     pub(crate) fn message_prefix(
         &self,
         signature: &[u8],
@@ -85,7 +85,7 @@ impl Key {
     }
 }
 
-// Lays bytes to the front of the room, and counts them.
+// Copies bytes to the front of `room`, and returns their number.
 fn lay(room: &mut [u8; 128], bytes: &[u8]) -> u32
     requires { length bytes.now ≤ 128 }
     ensures count { result ≡ length bytes.now }

@@ -3,7 +3,7 @@ use Rattle.std.specs.Prelude.{IfErr}
 use Rattle.boot_verify.specs.Key.{KeyVerdict}
 use Rattle.boot_verify.proofs.key.Key.message_prefix.Goals as goal
 
--- a scheme's refusal is that of its key
+-- a scheme's refusal is its key's
 pub returns-in_err-message_prefix-in-Lms-clause-err : goal.returns-in_err-message_prefix-in-Lms-clause-err
 returns-in_err-message_prefix-in-Lms-clause-err c =
     let bytes = c.args.signature.now in
@@ -11,7 +11,6 @@ returns-in_err-message_prefix-in-Lms-clause-err c =
     subst (λ r. IfErr r (λ refusal. (message : List ℕ) → KeyVerdict {A = Unit {0}} c.args.self.now message bytes (Err refusal))) (sym is)
     (λ message. subst (λ key. KeyVerdict {A = Unit {0}} key message bytes (Err c.in_err-message_prefix-in-Lms.field-0.0)) (sym c.in-Lms.is) (c.in_err-message_prefix-in-Lms.ensures.err message))
 
--- a scheme's refusal is that of its key
 pub returns-in_err-message_prefix-in-Hss-clause-err : goal.returns-in_err-message_prefix-in-Hss-clause-err
 returns-in_err-message_prefix-in-Hss-clause-err c =
     let bytes = c.args.signature.now in
@@ -19,7 +18,6 @@ returns-in_err-message_prefix-in-Hss-clause-err c =
     subst (λ r. IfErr r (λ refusal. (message : List ℕ) → KeyVerdict {A = Unit {0}} c.args.self.now message bytes (Err refusal))) (sym is)
     (λ message. subst (λ key. KeyVerdict {A = Unit {0}} key message bytes (Err c.in_err-message_prefix-in-Hss.field-0.0)) (sym c.in-Hss.is) (c.in_err-message_prefix-in-Hss.ensures.err message))
 
--- a scheme's refusal is that of its key
 pub returns-in_err-message_prefix-in-Xmss-clause-err : goal.returns-in_err-message_prefix-in-Xmss-clause-err
 returns-in_err-message_prefix-in-Xmss-clause-err c =
     let bytes = c.args.signature.now in
