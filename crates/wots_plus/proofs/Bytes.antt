@@ -1,4 +1,4 @@
--- Bytes that are written one after the other.
+-- Bytes written one part after the other.
 use Rattle.std.proofs.Common.{◌≡◌, ◌∙◌, refl, sym, ap, ap₂, ℕ, zero, suc, ◌+◌, ◌*◌, ◌<◌, ◌≤◌, List, [], ◌∷◌, ◌++◌, length, get_or, take, set, replicate, arith, append-nil}
 use Rattle.std.specs.Prelude.{bit_xor}
 use Rattle.std.specs.List.{zip}
@@ -13,7 +13,7 @@ use Rattle.wots_plus.specs.declared.address.Address.TheVariants.{OneTime, LTree,
 use Rattle.wots_plus.specs.Address.{address, address_of, bytes_of_words, words_of}
 use Rattle.wots_plus.specs.Hashes.{to_byte, xor}
 
--- the first i words are written, and the next one after them
+-- after the first i words the next one is written
 pub word_more : (words before part : List ℕ) (i k : ℕ) → i < length words → length part ≡ 4 → 4 * i ≤ length before
     → take (4 * i) before ≡ bytes_of_words (take i words) → part ≡ to_byte (get_or words i 0) 4
     → take (4 * (i + 1)) (put_mid (4 * i) k before part) ≡ bytes_of_words (take (i + 1) words)
@@ -32,7 +32,7 @@ number_in_32 (suc (suc (suc zero))) small = refl
 number_in_32 (suc (suc (suc (suc zero)))) small = refl
 number_in_32 (suc (suc (suc (suc (suc n))))) small = absurd (omega arith)
 
--- bytes that are each the XOR of two are the XOR of the lists
+-- bytes that are each an XOR are the lists' XOR
 pub xor_of_each : (n : ℕ) (a b out : List ℕ) → length a ≡ n → length b ≡ n → length out ≡ n
     → ((i : ℕ) → i < n → get_or out i 0 ≡ bit_xor (get_or a i 0) (get_or b i 0)) → out ≡ xor a b
 xor_of_each n a b out a_long b_long out_long each =
@@ -50,7 +50,7 @@ words_count (OneTime leaf chain hash) mask = refl
 words_count (LTree leaf height index) mask = refl
 words_count (HashTree height index) mask = refl
 
--- its bytes are those of its words
+-- the words' bytes are the address
 pub bytes_are : (adrs : Address) (mask : ℕ) → bytes_of_words (words_of adrs mask) ≡ address_of adrs mask
 unfolding address
 bytes_are (OneTime leaf chain hash) mask = refl

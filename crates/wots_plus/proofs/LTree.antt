@@ -7,7 +7,7 @@ use Rattle.std.proofs.Math.Logic.{⊎_elim}
 use Rattle.winternitz.specs.Lanes.{lanes}
 use Rattle.wots_plus.specs.LTree.{LTreeJoins, IsLTreeRoot, at_height, next_height, l_tree_root}
 
--- as many values as there are pairs, and the odd one
+-- half as many values, rounded up
 pub length-next_height : (join : ℕ → List ℕ → List ℕ → List ℕ) (i : ℕ) (values : List (List ℕ))
     → length (next_height join i values) ≡ (length values + 1) / 2
 unfolding next_height
@@ -42,7 +42,7 @@ next_height_odd join i (left ∷ right ∷ rest) (suc k) last =
     let even : 2 * suc k ≡ suc (suc (2 * k)) = omega arith in
     next_height_odd join (i + 1) rest k (omega arith) ∙ ap (λ n. get_or (left ∷ right ∷ rest) n []) (sym even)
 
--- each value is the join of a pair or the odd one: these are all
+-- joins of pairs and the odd value are the whole next height
 pub next_height_all : (join : ℕ → List ℕ → List ℕ → List ℕ) (old new : List (List ℕ)) (pairs count : ℕ)
     → pairs ≡ length old / 2 → count ≡ (length old + 1) / 2 → length new ≡ length old
     → ((k : ℕ) → k < pairs → get_or new k [] ≡ join k (get_or old (2 * k) []) (get_or old (2 * k + 1) []))
@@ -65,7 +65,7 @@ next_height_all join old new pairs count halves all long each odd =
     (λ k within. get_or-take count new k [] within ∙ ⊎_elim (λ h. below k h) (λ h. last k within h) (cases_lt k pairs))
     ∙ sym (fill_by_all f (next_height join 0 old) count [] (length-next_height join 0 old ∙ sym all) (λ k within. refl))
 
--- the same, once the odd one is moved after the others
+-- the same, where the odd value was moved last
 pub next_height_with_odd : (join : ℕ → List ℕ → List ℕ → List ℕ) (old new : List (List ℕ)) (pairs count : ℕ)
     → pairs ≡ length old / 2 → count ≡ (length old + 1) / 2 → length new ≡ length old → length old % 2 ≡ 1
     → ((k : ℕ) → k < pairs → get_or new k [] ≡ join k (get_or old (2 * k) []) (get_or old (2 * k + 1) []))
@@ -77,7 +77,7 @@ next_height_with_odd join old new pairs count halves all long odd each rest =
     (λ k within. let other : k ≢ pairs = omega arith in get_or-set_other new pairs k last [] other ∙ each k within)
     (λ _. get_or-set_same new pairs last [] (omega arith) ∙ rest (2 * pairs) (omega arith))
 
--- as many pairs more are joined as there are lanes, once those before them are
+-- after the first pairs, as many more as there are lanes are joined
 pub pairs_more : (join : ℕ → List ℕ → List ℕ → List ℕ) (old before after : List (List ℕ)) (first : ℕ)
     → ((k : ℕ) → k < first → get_or before k [] ≡ join k (get_or old (2 * k) []) (get_or old (2 * k + 1) []))
     → ((k : ℕ) → 2 * first ≤ k → get_or before k [] ≡ get_or old k [])
@@ -94,7 +94,7 @@ pairs_more join old before after first over rest kept joined k low = elim (cases
       ∙ ap₂ (join k) (rest (2 * k) (omega arith)) (rest (2 * k + 1) (omega arith))
 ]
 
--- one value stays alone
+-- a value that is alone stays alone
 pub alone : (join : LTreeJoins) (values : List (List ℕ)) (k n : ℕ) (root : List ℕ)
     → at_height join values k ≡ root ∷ [] → at_height join values (k + n) ≡ root ∷ []
 unfolding at_height next_height
@@ -103,7 +103,7 @@ alone join values k (suc n) root is =
     let more : k + suc n ≡ suc (k + n) = omega arith in
     ap (at_height join values) more ∙ ap (next_height (join (k + n)) 0) (alone join values k n root is)
 
--- so the root is one
+-- so there is one root
 pub one_root : (join : LTreeJoins) (values : List (List ℕ)) (root other : List ℕ)
     → IsLTreeRoot join values root → IsLTreeRoot join values other → other ≡ root
 one_root join values root other (k, is) (m, was) =
@@ -111,7 +111,7 @@ one_root join values root other (k, is) (m, was) =
     ap (λ list. get_or list 0 [])
     (sym (alone join values m k other was) ∙ ap (at_height join values) both ∙ alone join values k m root is)
 
--- and it is left at the greatest height
+-- which is `l_tree_root`
 pub root_is : (join : LTreeJoins) (values : List (List ℕ)) (k : ℕ) (root : List ℕ) → k ≤ length values
     → at_height join values k ≡ root ∷ [] → root ≡ l_tree_root join values
 root_is join values k root low is =
@@ -125,12 +125,12 @@ unfolding at_height
 height_more join values k before after was is =
     is ∙ ap (next_height (join k) 0) was ∙ ap (at_height join values) (sym (add-one k))
 
--- the values themselves have height 0
+-- height 0 is the values
 pub height_none : (join : LTreeJoins) (values : List (List ℕ)) → values ≡ at_height join values 0
 unfolding at_height
 height_none join values = refl
 
--- the first value alone
+-- one value is left: the first
 pub one_left : (count : ℕ) (values : List (List ℕ)) → count ≡ 1 → 0 < length values → take count values ≡ get_or values 0 [] ∷ []
 one_left count [] one some = absurd (omega arith)
 one_left count (first ∷ rest) one some = rw one refl

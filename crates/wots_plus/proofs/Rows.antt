@@ -1,4 +1,4 @@
--- Rows of a value in each lane, written one after the other, and L-trees over them.
+-- Rows with a value in each lane, written one after the other, and L-trees over them.
 use Rattle.std.proofs.Common.{◌≡◌, ◌≢◌, set, ◌∙◌, refl, sym, inl, inr, ap, ap₂, ℕ, zero, suc, ◌+◌, ◌*◌, ◌/◌, ◌%◌, ◌<◌, ◌≤◌, List, [], ◌∷◌, length, get_or, map, take, arith}
 use Rattle.std.specs.List.{range_with_len}
 use Rattle.std.proofs.lemmas.Bool.{cases_lt}
@@ -9,7 +9,6 @@ use Rattle.wots_plus.specs.LTree.{next_height}
 use Rattle.wots_plus.specs.inner.LaneKeys.{in_lane}
 use Rattle.wots_plus.proofs.LTree.{next_height_all}
 
--- the value of a row in a lane
 pub in_lane_at : (j : ℕ) (rows : List (List (List ℕ))) (k : ℕ) → get_or (in_lane j rows) k [] ≡ get_or (get_or rows k []) j []
 in_lane_at j [] k = refl
 in_lane_at j (row ∷ rows) zero = refl
@@ -31,14 +30,14 @@ row_more f rows row i inside before is j low k within = elim (cases_lt k i) [
       ∙ is j low ∙ ap (f j) (sym here)
 ]
 
--- values that are each f of their place are the list of f
+-- a lane whose values are f of their index is the list of f
 pub lane_is : (f : ℕ → List ℕ) (rows : List (List (List ℕ))) (j n : ℕ) → length rows ≡ n
     → ((k : ℕ) → k < n → get_or (get_or rows k []) j [] ≡ f k) → in_lane j rows ≡ map f (range_with_len 0 n)
 lane_is f rows j n long each =
     fill_by_all f (in_lane j rows) n [] (length-map rows (λ row. get_or row j []) ∙ long)
     (λ k within. in_lane_at j rows k ∙ each k within)
 
--- the rows over pairs, and after them the odd one, have in each lane the values of the next height
+-- the rows over pairs and the odd row are, in each lane, the next height
 pub next_rows : (join : ℕ → List ℕ → List ℕ → List ℕ) (j : ℕ) (old new : List (List (List ℕ))) (pairs count : ℕ)
     → pairs ≡ length old / 2 → count ≡ (length old + 1) / 2 → length new ≡ length old
     → ((k : ℕ) → k < pairs → get_or (get_or new k []) j []
@@ -54,7 +53,7 @@ next_rows join j old new pairs count halves all long each odd =
     (λ k within. in_lane_at j new k ∙ each k within ∙ sym (ap₂ (join k) (in_lane_at j old (2 * k)) (in_lane_at j old (2 * k + 1))))
     (λ is. in_lane_at j new pairs ∙ ap pick (odd (omega arith)) ∙ sym (in_lane_at j old (2 * pairs)))
 
--- the same, once the odd one is moved after the others
+-- the same, where the odd row was moved last
 pub next_rows_with_odd : (join : ℕ → List ℕ → List ℕ → List ℕ) (j : ℕ) (old new : List (List (List ℕ))) (pairs count : ℕ)
     → pairs ≡ length old / 2 → count ≡ (length old + 1) / 2 → length new ≡ length old → length old % 2 ≡ 1
     → ((k : ℕ) → k < pairs → get_or (get_or new k []) j []
@@ -69,7 +68,7 @@ next_rows_with_odd join j old new pairs count halves all long odd each rest =
     ap (λ row. get_or row j []) (get_or-set_other new pairs k last [] other) ∙ each k within)
     (λ _. get_or-set_same new pairs last [] (omega arith) ∙ rest (2 * pairs) (omega arith))
 
--- one row alone
+-- one row is left: the first
 pub one_row : (j count : ℕ) (rows : List (List (List ℕ))) → count ≡ 1 → 0 < length rows
     → in_lane j (take count rows) ≡ get_or (get_or rows 0 []) j [] ∷ []
 one_row j count [] one some = absurd (omega arith)

@@ -5,12 +5,11 @@ use Rattle.wots_plus.specs.declared.address.Address.{Address}
 use Rattle.wots_plus.specs.declared.address.Address.TheVariants.{OneTime, LTree, HashTree}
 use Rattle.wots_plus.specs.Hashes.{Adrs, to_byte}
 
--- the eight words of an address: layer, tree (two words), type, and the four that the type has, of
--- which keyAndMask is the last
+-- an address: layer, tree (two words), type, and the type's four words, the last of them keyAndMask
 abbrev pub words : ℕ → ℕ → ℕ → ℕ → ℕ → List ℕ
 words kind first second third mask = 0 ∷ 0 ∷ 0 ∷ kind ∷ first ∷ second ∷ third ∷ mask ∷ []
 
--- words as bytes, 4 for each
+-- 4 bytes for each word
 abbrev pub bytes_of_words : List ℕ → List ℕ
 bytes_of_words words = flat_map (λ word. to_byte word 4) words
 
@@ -29,13 +28,13 @@ l_tree leaf height index = address 1 leaf height index
 abbrev pub hash_tree : ℕ → ℕ → Adrs
 hash_tree height index = address 2 0 height index
 
--- an address as the code has it
+-- the address of the code's type
 abbrev pub address_of : Address → Adrs
 address_of (OneTime leaf chain hash) mask = one_time leaf chain hash mask
 address_of (LTree leaf height index) mask = l_tree leaf height index mask
 address_of (HashTree height index) mask = hash_tree height index mask
 
--- and its words
+-- its words
 abbrev pub words_of : Address → ℕ → List ℕ
 words_of (OneTime leaf chain hash) mask = words 0 leaf chain hash mask
 words_of (LTree leaf height index) mask = words 1 leaf height index mask

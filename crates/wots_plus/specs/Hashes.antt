@@ -28,7 +28,7 @@ prf key message = sha256 (to_byte 3 32 ++ key ++ message)
 abbrev pub xor : List ℕ → List ℕ → List ℕ
 xor a b = map (λ pair. bit_xor pair.0 pair.1) (zip a b)
 
--- An address but for its keyAndMask: the 32 bytes for each value of that word (2.5)
+-- An address without its keyAndMask: a function of that word (2.5).
 abbrev pub Adrs : Type 0
 Adrs = ℕ → List ℕ
 
@@ -43,17 +43,17 @@ abbrev pub rand_hash : List ℕ → Adrs → List ℕ → List ℕ → List ℕ
 rand_hash seed adrs left right =
     hash_h (prf seed (adrs 0)) (xor left (prf seed (adrs 1)) ++ xor right (prf seed (adrs 2)))
 
--- SHA-256(toByte(4, 32) || S_XMSS || SEED || ADRS): a private value, of the secret and its first
--- address. The standard leaves the choice of private values open (3.1.7).
+-- a private value: SHA-256(toByte(4, 32) || S_XMSS || SEED || ADRS), ADRS with keyAndMask 0. The standard leaves this
+-- choice open (3.1.7).
 abbrev pub private_value_at : List ℕ → List ℕ → Adrs → List ℕ
 private_value_at secret seed adrs = sha256 (to_byte 4 32 ++ secret ++ seed ++ adrs 0)
 
--- What a hasher holds is a fact: two proofs that it holds a message are one.
+-- Two proofs that a hasher holds a message are equal, as a ghost field wants it.
 pub Holds256-prop : (hasher : Sha256) (message : List ℕ) → IsProp (Holds256 hasher message)
 unfolding Holds
 Holds256-prop hasher message =
     ×_prop (Coded-set coded_ℕ _ _) (×_prop (Coded-set (coded_list coded_ℕ) _ _) (Coded-set (coded_list coded_ℕ) _ _))
 
--- So is how long a list is.
+-- So are two proofs of an equation of numbers.
 pub length-prop : (n m : ℕ) → IsProp (n ≡ m)
 length-prop n m = Coded-set coded_ℕ n m

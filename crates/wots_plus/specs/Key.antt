@@ -1,5 +1,5 @@
--- A leaf's one-time key: its chains, its L-tree and what a signature carries of it (RFC 8391 3.1 and 4.1.5).
--- w is 16, so digits have 4 bits and chains 15 steps; there are len = `wots_chains` of them (3.1.1).
+-- A leaf's one-time key: its chains, its L-tree and its signatures (RFC 8391 3.1 and 4.1.5). With w = 16 digits have 4
+-- bits, and each of the len = `wots_chains` chains 15 steps (3.1.1).
 use Rattle.std.specs.Prelude.{ℕ, List, map, slice_index}
 use Rattle.std.specs.List.{range_with_len}
 use Rattle.typecodes.specs.Types.{wots_chains}
@@ -17,31 +17,27 @@ step_of seed leaf i j value = step_at seed (one_time leaf i j) value
 abbrev pub private_value : List ℕ → ℕ → List ℕ → ℕ → List ℕ
 private_value seed leaf secret i = private_value_at secret seed (one_time leaf i 0)
 
--- the value of chain i after its first n steps, from its private value (3.1.2)
+-- the value of chain i after n steps from its private value (3.1.2)
 abbrev pub chain_value : List ℕ → ℕ → List ℕ → ℕ → ℕ → List ℕ
 chain_value seed leaf secret i n = walk (step_of seed leaf) i 0 n (private_value seed leaf secret i)
 
--- the ends of all chains of a key whose private values are made of a secret: each value walked from
--- the first step to the last (3.1.4)
+-- the ends of all chains of a secret's key, after all steps (3.1.4)
 abbrev pub ends_of_secret : List ℕ → ℕ → List ℕ → List (List ℕ)
 ends_of_secret seed leaf secret = map (λ i. chain_value seed leaf secret i 15) (range_with_len 0 wots_chains)
 
--- the values of the signature of a digest: each private value walked from the first step to the
--- chain's digit (3.1.5)
+-- the signature of a digest: each private value after as many steps as the chain's digit (3.1.5)
 abbrev pub signed_values : List ℕ → ℕ → List ℕ → List ℕ → List (List ℕ)
 signed_values seed leaf secret digest =
     map (λ i. chain_value seed leaf secret i (slice_index (digits_of 4 digest) i)) (range_with_len 0 wots_chains)
 
--- The values of a signature of a digest climb to these ends: each is walked from its chain's digit to the
--- end of the chain (3.1.6).
+-- The values of a digest's signature climb to these ends, each from its chain's digit (3.1.6).
 abbrev pub ClimbTo : List ℕ → ℕ → List ℕ → List (List ℕ) → List (List ℕ) → Type 0
 ClimbTo seed leaf digest values ends = AreEnds (step_of seed leaf) 4 (digits_of 4 digest) values ends
 
--- the ends to which they climb
+-- the ends that they climb to
 abbrev pub ends_of_signature : List ℕ → ℕ → List ℕ → List (List ℕ) → List (List ℕ)
 ends_of_signature seed leaf digest values = ends_of (step_of seed leaf) 4 (digits_of 4 digest) values
 
--- the public hash of a key, which is the leaf of the hash tree: the root of the L-tree over the ends
--- of its chains (4.1.6)
+-- a key's public hash, a leaf of the hash tree: the root of the L-tree over its ends (4.1.6)
 abbrev pub public_hash : List ℕ → ℕ → List (List ℕ) → List ℕ
 public_hash seed leaf ends = l_tree_root (l_tree_join seed leaf) ends

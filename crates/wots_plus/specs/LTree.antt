@@ -3,12 +3,11 @@ use Rattle.std.specs.Prelude.{◌≡◌, ℕ, zero, suc, ◌+◌, List, [], ◌�
 use Rattle.wots_plus.specs.Address.{l_tree}
 use Rattle.wots_plus.specs.Hashes.{rand_hash}
 
--- a node from its two children, by the children's height and the node's index among those of its height
+-- a node from its children, by their height and its own index
 abbrev pub LTreeJoins : Type 0
 LTreeJoins = ℕ → ℕ → List ℕ → List ℕ → List ℕ
 
--- the values of the next height: neighbours joined, the nodes above them numbered from i, and an odd
--- last value as it is
+-- the next height: neighbours joined, node numbers from i on, an odd last value unchanged
 unfoldable pub next_height : (ℕ → List ℕ → List ℕ → List ℕ) → ℕ → List (List ℕ) → List (List ℕ)
 next_height join i [] = []
 next_height join i (last ∷ []) = last ∷ []
@@ -19,11 +18,11 @@ unfoldable pub at_height : LTreeJoins → List (List ℕ) → ℕ → List (List
 at_height join values zero = values
 at_height join values (suc k) = next_height (join k) 0 (at_height join values k)
 
--- at some height the root alone is left
+-- at some height only the root is left
 abbrev pub IsLTreeRoot : LTreeJoins → List (List ℕ) → List ℕ → Type 0
 IsLTreeRoot join values root = (k : ℕ) × (at_height join values k ≡ root ∷ [])
 
--- the root: the first value, and by then the only one, at a height as great as their number
+-- the root: one value is left at a height as great as the number of values, if not before
 abbrev pub l_tree_root : LTreeJoins → List (List ℕ) → List ℕ
 l_tree_root join values = slice_index_or (at_height join values (length values)) 0 []
 

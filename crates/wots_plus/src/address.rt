@@ -2,22 +2,21 @@
 
 ghost use Rattle.std.specs.Prelude.{◌≡◌, List, [], ◌∷◌};
 
-/// The address of a hash (RFC 8391 2.5), but for its last word, keyAndMask. The layer and the tree
-/// are 0.
+/// The address of a hash (RFC 8391 2.5) without its last word, keyAndMask. Layer and tree are 0.
 #[derive(Clone, Copy, Debug, PartialEq, Eq)]
 pub enum Address {
     /// A step of a one-time key's chain.
     OneTime { leaf: u32, chain: u32, hash: u32 },
-    /// A node of the L-tree over a one-time key's ends, by the height of its children.
+    /// A node of a leaf's L-tree. `height` is its children's.
     LTree { leaf: u32, height: u32, index: u32 },
-    /// A node of the hash tree over the leaves, by the height of its children.
+    /// A node of the tree over the leaves. `height` is its children's.
     HashTree { height: u32, index: u32 },
 }
 
 impl Address {
     ghost use Rattle.wots_plus.specs.Address.{address_of, words_of};
 
-    /// The 32 bytes of the address with a value for keyAndMask.
+    /// The address's 32 bytes, with this keyAndMask.
     pub fn bytes(&self, key_and_mask: u32) -> [u8; 32]
         ensures { result ≡ address_of self.now key_and_mask }
     {
@@ -28,7 +27,7 @@ impl Address {
         bytes
     }
 
-    // The same as numbers of 4 bytes.
+    // The address's eight words, of 4 bytes each.
     fn words(&self, key_and_mask: u32) -> [u32; 8]
         ensures { result ≡ words_of self.now key_and_mask }
     {

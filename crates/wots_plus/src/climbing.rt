@@ -1,4 +1,4 @@
-//! How a verifier comes from the values of a signature to a public hash.
+//! Two ways from a signature's values to a public hash.
 
 ghost use Rattle.std.specs.Prelude.{◌≡◌, ◌<◌, ◌≤◌, ℕ, ◌+◌, ◌*◌, ◌/◌, List, [], length, slice_index_or};
 ghost use Rattle.typecodes.specs.Types.{wots_chains};
@@ -12,18 +12,16 @@ use typecodes::WOTS_CHAINS;
 use winternitz::lanes::LANES;
 use winternitz::{InLanes, OneByOne};
 
-/// A way to climb the chains of a signature and to join the values of its L-tree. Whichever it is, the public hash is
-/// the same: `InLanes` takes some 64 KB of stack and is fast, `OneByOne` takes less than 4 KB.
+/// How a verifier climbs the chains of a signature and joins its L-tree. Both ways give the same public hash: `InLanes`
+/// is fast and takes some 64 KB of stack, `OneByOne` takes less than 4 KB.
 ///
-/// That chains climb side by side, and what their steps share, is measured and tested: no clause says it, as no value
-/// depends on it.
+/// How chains share work is measured and tested, not proved: no value depends on it.
 pub trait Climbing {
-    /// PRF under a key, with what this way keeps of it.
+    /// PRF under a key, prepared for this way.
     fn prf(&self, key: [u8; 32]) -> Prf
         ensures { result.key ≡ key };
 
-    /// The public hash to which the values of a signature of a key lead, as `Wots::hash_from_signature`. The caller
-    /// gives a value for each chain.
+    /// As `Wots::hash_from_signature`. The caller gives a value for each chain.
     fn hash_from_signature(
         &self,
         key: &Wots<'_>,
@@ -33,7 +31,7 @@ pub trait Climbing {
         requires { length values.now ≡ wots_chains }
         ensures value { result ≡ spec.public_hash key.now.seed.now.key key.now.leaf
             (ends_of_signature key.now.seed.now.key key.now.leaf digest.now values.now) }
-        // The same of any list of ends, and that there is one.
+        // Every list of ends that the values climb to has this hash (`only`), and there is one (`some`).
         ensures only { (ends : List (List ℕ)) →
             ClimbTo key.now.seed.now.key key.now.leaf digest.now values.now ends →
             result ≡ spec.public_hash key.now.seed.now.key key.now.leaf ends }
@@ -42,10 +40,10 @@ pub trait Climbing {
             (result ≡ spec.public_hash key.now.seed.now.key key.now.leaf ends) };
 }
 
-/// Which pairs of a height of an L-tree are joined together.
+/// How many pairs of an L-tree's height are joined at once.
 pub trait Joining {
-    /// Joins the first pairs of neighbours, as many as it takes together, puts their nodes at the front, and counts
-    /// them.
+    /// Joins the first pairs, writes their nodes to the front, and returns their number. The pairs that it leaves are
+    /// unchanged.
     fn join_front(&self, key: &Wots<'_>, height: u32, values: &mut [[u8; 32]]) -> usize
         requires { length values.old ≤ wots_chains }
         ensures count { result ≤ length values.old / 2 }

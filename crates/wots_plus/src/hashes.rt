@@ -25,7 +25,7 @@ pub fn hash_f(key: &[u8; 32], message: &[u8; 32]) -> [u8; 32]
     hasher.finalize()
 }
 
-// F of a key and a message in each lane, side by side.
+// F in each lane.
 pub(crate) fn hash_f_in_lanes(
     keys: &[[u8; 32]; LANES],
     messages: &[[u8; 32]; LANES],
@@ -40,7 +40,7 @@ pub(crate) fn hash_f_in_lanes(
     sha256_of_96(&compress(&initial(), &blocks), messages)
 }
 
-// The first block of a hash's messages: its number in 32 bytes and the key.
+// The first block of a keyed hash: its number in 32 bytes, then the key.
 fn first_block(number: u8, key: &[u8; 32]) -> [u8; 64]
     requires { number ≤ 4 }
     ensures bytes { result ≡ to_byte number 32 ++ key.now }
@@ -52,7 +52,7 @@ fn first_block(number: u8, key: &[u8; 32]) -> [u8; 64]
     block
 }
 
-// The hash value after that block.
+// The hash value after `first_block`.
 pub(crate) fn first_state(number: u8, key: &[u8; 32]) -> [u32; 8]
     requires { number ≤ 4 }
     ensures state { result ≡ compress initial_hash_256 (to_byte number 32 ++ key.now) }
@@ -61,7 +61,7 @@ pub(crate) fn first_state(number: u8, key: &[u8; 32]) -> [u32; 8]
     in_lane(&compress(&initial(), &[first_block(number, key); LANES]), 0)
 }
 
-/// H(KEY, M), the hash of two nodes, M being `left` and then `right`.
+/// H(KEY, left || right), the hash of two nodes.
 pub fn hash_h(key: &[u8; 32], left: &[u8; 32], right: &[u8; 32]) -> [u8; 32]
     ensures { result ≡ spec.hash_h key.now (left.now ++ right.now) }
 {
@@ -71,7 +71,7 @@ pub fn hash_h(key: &[u8; 32], left: &[u8; 32], right: &[u8; 32]) -> [u8; 32]
     hasher.finalize()
 }
 
-// H of a key and two nodes in each lane, side by side.
+// H in each lane.
 pub(crate) fn hash_h_in_lanes(
     keys: &[[u8; 32]; LANES],
     left: &[[u8; 32]; LANES],
@@ -89,7 +89,6 @@ pub(crate) fn hash_h_in_lanes(
     sha256_of_128(&compress(&initial(), &first), &second)
 }
 
-// Two nodes as a block.
 fn block_of(left: &[u8; 32], right: &[u8; 32]) -> [u8; 64]
     ensures bytes { result ≡ left.now ++ right.now }
     ensures long { length result ≡ 64 }
@@ -100,7 +99,7 @@ fn block_of(left: &[u8; 32], right: &[u8; 32]) -> [u8; 64]
     block
 }
 
-/// H_msg(KEY, M), the digest of a message, by the key r || root || toByte(idx, 32).
+/// H_msg(KEY, M), the digest of a message. The key is r || root || toByte(idx, 32).
 pub fn hash_message(key: &[u8; 96], message: &[u8]) -> [u8; 32]
     ensures { result ≡ spec.hash_message key.now message.now }
 {
@@ -109,8 +108,8 @@ pub fn hash_message(key: &[u8; 96], message: &[u8]) -> [u8; 32]
     hasher.finalize()
 }
 
-/// H_msg(KEY, M) of the message that a reader gives, however it is cut: read to its end, in pieces that aren't kept.
-/// Refused where it can't be read: see `typecodes::MessageFailed`.
+/// H_msg(KEY, M) of a reader's message, read to its end in pieces that aren't kept. Refused where it can't be read: see
+/// `typecodes::MessageFailed`.
 pub fn hash_message_from<M: Message>(
     key: &[u8; 96],
     message: &mut M,
@@ -122,14 +121,14 @@ pub fn hash_message_from<M: Message>(
     Ok(hasher.finalize())
 }
 
-// A hasher that holds what stands before a message.
+// H_msg's hasher before the message.
 fn message_hasher(key: &[u8; 96]) -> Sha256
     ensures { Holds256 result (to_byte 2 32 ++ key.now) }
 {
     keyed(2, key)
 }
 
-// A hasher that holds the hash's number in 32 bytes and the key.
+// A hasher that holds a hash's number in 32 bytes and the key.
 pub(crate) fn keyed(number: u8, key: &[u8]) -> Sha256
     requires { number ≤ 4 }
     ensures { Holds256 result (to_byte number 32 ++ key.now) }
@@ -142,14 +141,14 @@ pub(crate) fn keyed(number: u8, key: &[u8]) -> Sha256
     hasher
 }
 
-/// PRF under one key. The first block of all its messages is the same, and is hashed only once. That it is hashed only
-/// once is measured, not proved.
+/// PRF under one key. The first block of all its messages is the same. That it is hashed only once is measured, not
+/// proved.
 #[derive(Drop)]
 pub struct Prf {
     /// KEY
     pub key: [u8; 32],
     begun: Sha256,
-    // whether the hash value after that block is kept, which hashes in lanes begin with
+    // whether `state` is the hash value after the first block, with which hashes in lanes begin
     is_kept: bool,
     state: [u32; 8],
     ghost holds: { Holds256 begun (to_byte 3 32 ++ key) } by { Holds256-prop begun (to_byte 3 32 ++ key) },
@@ -157,7 +156,7 @@ pub struct Prf {
 }
 
 impl Prf {
-    /// PRF under a key.
+    /// PRF for hashes in lanes, too.
     pub fn new(key: [u8; 32]) -> Prf
         ensures { result.key ≡ key }
     {
@@ -171,7 +170,7 @@ impl Prf {
         }
     }
 
-    /// The same, for hashes one by one: nothing is kept for hashes in lanes, which would each make it anew.
+    /// PRF for hashes one by one. It keeps no state for lanes: each hash in lanes would make it anew.
     pub fn without_lanes(key: [u8; 32]) -> Prf
         ensures { result.key ≡ key }
     {
@@ -193,7 +192,7 @@ impl Prf {
         hasher.finalize()
     }
 
-    // PRF(KEY, M) of a message in each lane, side by side.
+    // PRF in each lane.
     pub(crate) fn hash_in_lanes(&self, messages: &[[u8; 32]; LANES]) -> [[u8; 32]; LANES]
         ensures { (j : ℕ) → j < lanes
             → slice_index_or result j [] ≡ prf self.now.key (slice_index_or messages.now j []) }
@@ -201,7 +200,7 @@ impl Prf {
         sha256_of_96(&in_each(&self.first_state()), messages)
     }
 
-    // The hash value after the first block of all messages.
+    // The hash value after the first block.
     fn first_state(&self) -> [u32; 8]
         ensures state { result ≡ compress initial_hash_256 (to_byte 3 32 ++ self.now.key) }
         ensures long { length (to_byte 3 32 ++ self.now.key) ≡ 64 }
@@ -213,7 +212,7 @@ impl Prf {
         }
     }
 
-    // A hasher that holds what all messages begin with.
+    // A hasher that holds the first block.
     fn begun(&self) -> Sha256
         ensures { Holds256 result (to_byte 3 32 ++ self.now.key) }
     {
@@ -234,7 +233,6 @@ pub fn rand_hash(seed: &Prf, address: &Address, left: &[u8; 32], right: &[u8; 32
     hash_h(&key, &left, &right)
 }
 
-// The bytes XOR those of a mask.
 pub(crate) fn xor(bytes: &[u8; 32], mask: &[u8; 32]) -> [u8; 32]
     ensures { result ≡ spec.xor bytes.now mask.now }
 {
@@ -245,7 +243,7 @@ pub(crate) fn xor(bytes: &[u8; 32], mask: &[u8; 32]) -> [u8; 32]
     out
 }
 
-// The same in each lane.
+// `xor` in each lane.
 pub(crate) fn xor_in_lanes(
     bytes: &[[u8; 32]; LANES],
     masks: &[[u8; 32]; LANES],

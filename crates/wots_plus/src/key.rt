@@ -21,18 +21,18 @@ use typecodes::{WOTS_CHAINS, put};
 use winternitz::lanes::{LANES, States, in_each, sha256_of_128};
 use winternitz::{MOST_CHAINS, Step, Values, climb, climb_from, climb_to, climb_whole, digits};
 
-// The bits of a digit, for w = 16.
+// log2(w), for w = 16.
 const WIDTH: u8 = 4;
 
-// The steps of a chain, which is also the greatest digit.
+// The steps of a chain, and the greatest digit.
 pub(crate) const STEPS: u8 = 15;
 
-/// A leaf's one-time key, by the public SEED of its tree and its number.
+/// A leaf's one-time key, named by its tree's public SEED and the leaf's number.
 #[derive(Clone, Copy)]
 pub struct Wots<'seed> {
     /// PRF under SEED.
     pub seed: &'seed Prf,
-    /// The leaf's number, the OTS address and L-tree address of RFC 8391 2.5.
+    /// The leaf's number: "OTS address" and "L-tree address" in RFC 8391 2.5.
     pub leaf: u32,
 }
 
@@ -58,7 +58,6 @@ impl Step for Wots<'_> {
 }
 
 impl Wots<'_> {
-    // The bytes of a step's address.
     pub(crate) fn step_address(&self, chain: u16, at: u8, key_and_mask: u32) -> [u8; 32]
         ensures { result ≡ one_time self.now.leaf chain at key_and_mask }
     {
@@ -70,7 +69,7 @@ impl Wots<'_> {
         address.bytes(key_and_mask)
     }
 
-    // Those of a step in each lane.
+    // The address of a step in each lane.
     fn step_addresses(
         &self,
         chains: &[u16; LANES],
@@ -87,7 +86,7 @@ impl Wots<'_> {
         addresses
     }
 
-    /// The private value of a chain, made of a secret.
+    /// The private value of a chain, derived from a secret.
     pub fn private_value(&self, secret: &[u8; 32], chain: u16) -> [u8; 32]
         ensures { result ≡ spec.private_value self.now.seed.now.key self.now.leaf secret.now chain }
     {
@@ -97,7 +96,7 @@ impl Wots<'_> {
         hasher.finalize()
     }
 
-    // The private values of all chains, made in lanes.
+    // The private values of all chains, made in lanes and the last ones one by one.
     fn private_values(&self, secret: &[u8; 32]) -> Values
         ensures { (i : ℕ) → i < wots_chains → slice_index_or result i []
             ≡ spec.private_value self.now.seed.now.key self.now.leaf secret.now i }
@@ -113,7 +112,8 @@ impl Wots<'_> {
         values
     }
 
-    // A private value in each lane, from that of a chain on, by the hash value after the first block of all.
+    // Writes a private value for each lane, `chain`'s and those after it. `first` is the hash value after their common
+    // first block.
     fn private_values_in_lanes(
         &self,
         secret: &[u8; 32],
@@ -139,7 +139,7 @@ impl Wots<'_> {
         }
     }
 
-    // The second block of what a private value is made of.
+    // The second block that is hashed into a private value: SEED and the address.
     pub(crate) fn private_block(&self, chain: u16) -> [u8; 64]
         ensures bytes { result ≡ self.now.seed.now.key ++ one_time self.now.leaf chain 0 0 }
         ensures long { length result ≡ 64 }
@@ -150,8 +150,7 @@ impl Wots<'_> {
         block
     }
 
-    /// The public hash of the key whose private values are made of a secret: the root of the L-tree
-    /// over the ends of its chains (RFC 8391 3.1.4 and 4.1.6).
+    /// The public hash of a secret's key: the root of the L-tree over its chains' ends (RFC 8391 3.1.4 and 4.1.6).
     pub fn public_hash(&self, secret: &[u8; 32]) -> [u8; 32]
         ensures { result ≡ spec.public_hash self.now.seed.now.key self.now.leaf
             (ends_of_secret self.now.seed.now.key self.now.leaf secret.now) }
@@ -160,8 +159,7 @@ impl Wots<'_> {
         self.l_tree(&mut ends[..WOTS_CHAINS])
     }
 
-    /// The public hashes of the keys of several leaves of a tree, one in each lane, by PRF under the tree's SEED: as
-    /// `public_hash`, but side by side. The private values of all of them are made of one secret.
+    /// `public_hash` of a leaf in each lane. All leaves are of one tree and made from one secret.
     pub fn public_hashes_in_lanes(
         seed: &Prf,
         leaves: [u32; LANES],
@@ -173,7 +171,7 @@ impl Wots<'_> {
         LaneKeys { seed, leaves }.public_hashes(secret)
     }
 
-    // The ends of the chains of a secret's key.
+    // The ends of all chains of a secret's key.
     fn ends_from_secret(&self, secret: &[u8; 32]) -> Values
         ensures { take wots_chains result ≡ ends_of_secret self.now.seed.now.key self.now.leaf secret.now }
     {
@@ -181,13 +179,12 @@ impl Wots<'_> {
         climb_whole(self, STEPS, &starts[..WOTS_CHAINS])
     }
 
-    /// Writes the values of a digest's signature, one after the other: each chain climbed from its
-    /// private value to its digit of the digest (RFC 8391 3.1.5). The caller gives 32 bytes for each
-    /// chain.
+    /// Writes the signature of a digest, 32 bytes for each chain: its value after as many steps as the digest's digit
+    /// (RFC 8391 3.1.5). The caller gives just that room.
     pub fn sign_digest(&self, secret: &[u8; 32], digest: &[u8; 32], into: &mut [u8])
         requires { length into.old ≡ 32 * wots_chains }
         ensures value { into.new ≡ concat (signed_values self.now.seed.now.key self.now.leaf secret.now digest.now) }
-        // They climb to the ends of the key's chains.
+        // The signature's values climb to the ends of the key's chains.
         ensures climbs { ClimbTo self.now.seed.now.key self.now.leaf digest.now
             (values_in wots_chains into.new) (ends_of_secret self.now.seed.now.key self.now.leaf secret.now) }
     {
@@ -196,14 +193,13 @@ impl Wots<'_> {
         into.copy_from_slice(values[..WOTS_CHAINS].as_flattened());
     }
 
-    /// The public hash to which the values of a signature lead: the root of the L-tree over the ends
-    /// of the chains, each climbed from its digit of the digest (RFC 8391 3.1.6 and 4.1.10). The caller
-    /// gives a value for each chain.
+    /// The public hash that a signature leads to (RFC 8391 3.1.6 and 4.1.10). Each chain climbs from its digit to its
+    /// end, and the L-tree joins the ends. The caller gives a value for each chain.
     pub fn hash_from_signature(&self, digest: &[u8; 32], values: &[[u8; 32]]) -> [u8; 32]
         requires { length values.now ≡ wots_chains }
         ensures value { result ≡ spec.public_hash self.now.seed.now.key self.now.leaf
             (ends_of_signature self.now.seed.now.key self.now.leaf digest.now values.now) }
-        // The same of any list of ends, and that there is one.
+        // Every list of ends that the values climb to has this hash (`only`), and there is one (`some`).
         ensures only { (ends : List (List ℕ)) →
             ClimbTo self.now.seed.now.key self.now.leaf digest.now values.now ends →
             result ≡ spec.public_hash self.now.seed.now.key self.now.leaf ends }
@@ -215,7 +211,7 @@ impl Wots<'_> {
         self.l_tree(&mut ends[..WOTS_CHAINS])
     }
 
-    // The ends of the chains that a signature's values are climbed to.
+    // The ends that a signature's values climb to.
     fn ends_from_signature(&self, digest: &[u8; 32], values: &[[u8; 32]]) -> Values
         requires { length values.now ≡ wots_chains }
         ensures { take wots_chains result
@@ -224,7 +220,7 @@ impl Wots<'_> {
         climb_from(self, &digits(WIDTH, digest), STEPS, values)
     }
 
-    // Writes the same ends, each climbed after the other.
+    // The same, one chain after the other.
     pub(crate) fn ends_one_by_one(
         &self,
         digest: &[u8; 32],
@@ -237,7 +233,7 @@ impl Wots<'_> {
         self.climb_one_by_one(&digits(WIDTH, digest), values, ends);
     }
 
-    // Writes the values of chains after the steps from their digits on.
+    // Writes each chain's end, from its value at its digit.
     fn climb_one_by_one(
         &self,
         digits: &[u8],

@@ -14,13 +14,13 @@ use winternitz::InLanes;
 use winternitz::lanes::LANES;
 
 impl Wots<'_> {
-    /// The root of the leaf's L-tree over values, which it overwrites (RFC 8391 4.1.5). The caller
-    /// gives at least one value, and at most as many as a key has chains.
+    /// The root of the leaf's L-tree over `values` (RFC 8391 4.1.5), which are overwritten. The caller gives 1 to 67
+    /// values, 67 being a key's chains.
     pub fn l_tree(&self, values: &mut [[u8; 32]]) -> [u8; 32]
         requires some { 0 < length values.old }
         requires few { length values.old ≤ wots_chains }
         ensures value { result ≡ l_tree_root (l_tree_join self.now.seed.now.key self.now.leaf) values.old }
-        // The values, replaced height by height, leave it alone in the end, and nothing else.
+        // At some height of the L-tree the root is alone, and no other value ever is.
         ensures root { IsLTreeRoot (l_tree_join self.now.seed.now.key self.now.leaf) values.old result }
         ensures only { (root : List ℕ) →
             IsLTreeRoot (l_tree_join self.now.seed.now.key self.now.leaf) values.old root → root ≡ result }
@@ -28,7 +28,7 @@ impl Wots<'_> {
         self.l_tree_by(&InLanes, values)
     }
 
-    // The same, by a way to join pairs.
+    // `l_tree`, with a way to join pairs.
     pub(crate) fn l_tree_by<J: Joining>(&self, joining: &J, values: &mut [[u8; 32]]) -> [u8; 32]
         requires some { 0 < length values.old }
         requires few { length values.old ≤ wots_chains }
@@ -46,8 +46,8 @@ impl Wots<'_> {
         values[0]
     }
 
-    // Replaces the values of a height by those of the next, at the front, and counts these. The first pairs are joined
-    // together, where there is a way to do so, and those that are left over one by one.
+    // Writes the next height's values to the front, and returns their number. `joining` takes the first pairs, and the
+    // others are joined one by one. An odd last value moves up unchanged.
     fn join_neighbours<J: Joining>(
         &self,
         joining: &J,
@@ -70,8 +70,7 @@ impl Wots<'_> {
         values.len().div_ceil(2)
     }
 
-    // Joins pairs from that of an index on, as many as there are lanes, and puts their nodes at the places of the
-    // indices.
+    // Joins as many pairs as there are lanes, from pair `first` on, and writes each node at its index.
     pub(crate) fn join_pairs(&self, height: u32, first: usize, values: &mut [[u8; 32]])
         requires room { 2 * (first + lanes) ≤ length values.old }
         requires few { length values.old ≤ wots_chains }
@@ -90,7 +89,7 @@ impl Wots<'_> {
         }
     }
 
-    // Nodes of the leaf's L-tree in a row, one in each lane, from that of an index on, by the height of their children.
+    // As many nodes in a row as there are lanes, from node `first` on. `height` is their children's.
     fn join_in_lanes(
         &self,
         height: u32,
@@ -125,7 +124,6 @@ impl Wots<'_> {
         addresses
     }
 
-    // The bytes of a node's address.
     pub(crate) fn node_address(&self, height: u32, index: u32, key_and_mask: u32) -> [u8; 32]
         ensures { result ≡ l_tree self.now.leaf height index key_and_mask }
     {
@@ -137,7 +135,7 @@ impl Wots<'_> {
         address.bytes(key_and_mask)
     }
 
-    // A node of the leaf's L-tree, by the height of its children.
+    // One node of the L-tree. `height` is its children's.
     fn join(&self, height: u32, index: u32, left: &[u8; 32], right: &[u8; 32]) -> [u8; 32]
         ensures { result ≡ l_tree_join self.now.seed.now.key self.now.leaf height index left.now right.now }
     {
@@ -150,7 +148,7 @@ impl Wots<'_> {
     }
 }
 
-// Every other value from a place on, one for each lane.
+// Every other value from `first` on, one for each lane.
 fn every_other(values: &[[u8; 32]], first: usize) -> [[u8; 32]; LANES]
     requires { first + 2 * lanes ≤ length values.now + 1 }
     ensures { (j : ℕ) → j < lanes → slice_index_or result j [] ≡ slice_index_or values.now (first + 2 * j) [] }

@@ -28,7 +28,7 @@ pub(crate) struct LaneKeys<'seed> {
 }
 
 impl LaneKeys<'_> {
-    /// Their public hashes, where their private values are made of a secret (RFC 8391 3.1.4 and 4.1.6).
+    /// The public hash of each key, derived from one secret (RFC 8391 3.1.4 and 4.1.6).
     pub(crate) fn public_hashes(&self, secret: &[u8; 32]) -> Row
         ensures { (j : ℕ) → j < lanes → let leaf = slice_index self.now.leaves j in slice_index_or result j []
             ≡ spec.public_hash self.now.seed.now.key leaf (ends_of_secret self.now.seed.now.key leaf secret.now) }
@@ -37,7 +37,7 @@ impl LaneKeys<'_> {
         self.l_trees(&mut ends)
     }
 
-    // The ends of all chains of each key.
+    // The ends of all chains: a row for each chain, a lane for each key.
     fn ends(&self, secret: &[u8; 32]) -> [Row; WOTS_CHAINS]
         ensures { (j : ℕ) → j < lanes → in_lane j result
             ≡ ends_of_secret self.now.seed.now.key (slice_index self.now.leaves j) secret.now }
@@ -50,7 +50,7 @@ impl LaneKeys<'_> {
         ends
     }
 
-    // The end of one chain of each key, by the hash value after the first block of what private values are made of.
+    // The ends of one chain. `first` is the hash value after the private values' common first block.
     fn ends_of_chain(&self, chain: u16, first: &States) -> Row
         ensures { (secret : List ℕ) → BeginsPrivateValues secret first.now → (j : ℕ) → j < lanes
             → slice_index_or result j []
@@ -63,7 +63,7 @@ impl LaneKeys<'_> {
         values
     }
 
-    // The private value of one chain of each key, by the same.
+    // The private values of one chain, from the same `first`.
     fn private_values(&self, chain: u16, first: &States) -> Row
         ensures { (secret : List ℕ) → BeginsPrivateValues secret first.now → (j : ℕ) → j < lanes
             → slice_index_or result j []
@@ -80,7 +80,7 @@ impl LaneKeys<'_> {
         sha256_of_128(first, &blocks)
     }
 
-    // A step of one chain of each key (RFC 8391 3.1.2).
+    // A step of one chain (RFC 8391 3.1.2).
     fn step(&self, chain: u16, at: u8, values: &Row) -> Row
         ensures { (j : ℕ) → j < lanes → slice_index_or result j []
             ≡ step_of self.now.seed.now.key (slice_index self.now.leaves j) chain at (slice_index_or values.now j []) }
@@ -90,7 +90,7 @@ impl LaneKeys<'_> {
         hash_f_in_lanes(&keys, &xor_in_lanes(values, &masks))
     }
 
-    // The addresses of such steps.
+    // The addresses of that step.
     fn step_addresses(&self, chain: u16, at: u8, key_and_mask: u32) -> Row
         ensures { (j : ℕ) → j < lanes
             → slice_index_or result j [] ≡ one_time (slice_index self.now.leaves j) chain at key_and_mask }
@@ -106,8 +106,7 @@ impl LaneKeys<'_> {
         addresses
     }
 
-    // The roots of the keys' L-trees over a value in each lane of each row, which are overwritten (RFC 8391 4.1.5). The
-    // caller gives at least one row, and at most as many as a key has chains.
+    // The roots of the L-trees over 1 to 67 rows (RFC 8391 4.1.5), which are overwritten.
     fn l_trees(&self, rows: &mut [Row]) -> Row
         requires some { 0 < length rows.old }
         requires few { length rows.old ≤ wots_chains }
@@ -123,7 +122,7 @@ impl LaneKeys<'_> {
         rows[0]
     }
 
-    // Replaces the rows of a height by those of the next, at the front, and counts these.
+    // Writes the next height's rows to the front, and returns their number.
     fn join_neighbours(&self, height: u32, rows: &mut [Row]) -> usize
         requires { length rows.old ≤ wots_chains }
         ensures count { result ≡ (length rows.old + 1) / 2 }
@@ -142,7 +141,7 @@ impl LaneKeys<'_> {
         rows.len().div_ceil(2)
     }
 
-    // One node of each key's L-tree, by the height of its children.
+    // One node of each L-tree. `height` is its children's.
     fn join(&self, height: u32, index: u32, left: &Row, right: &Row) -> Row
         ensures { (j : ℕ) → j < lanes → slice_index_or result j []
             ≡ l_tree_join self.now.seed.now.key (slice_index self.now.leaves j) height index
@@ -157,7 +156,7 @@ impl LaneKeys<'_> {
         hash_h_in_lanes(&keys, &left, &right)
     }
 
-    // The addresses of such nodes.
+    // The addresses of these nodes.
     fn node_addresses(&self, height: u32, index: u32, key_and_mask: u32) -> Row
         ensures { (j : ℕ) → j < lanes
             → slice_index_or result j [] ≡ l_tree (slice_index self.now.leaves j) height index key_and_mask }

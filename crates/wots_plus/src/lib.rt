@@ -1,15 +1,12 @@
-//! WOTS+ one-time signatures and their L-trees, of RFC 8391, sections 3.1 and 4.1.5, for SHA-256 with
-//! n = 32 and w = 16.
+//! WOTS+ one-time signatures and L-trees (RFC 8391, sections 3.1 and 4.1.5), for SHA-256 with n = 32 and w = 16.
 //!
-//! Its model is `specs/Hashes.antt`, the standard's hashes, each as a formula over SHA-256,
-//! `specs/Address.antt`, the addresses that go into them, `specs/Key.antt`, the chains of a key, and
-//! `specs/LTree.antt`: a list of values in which neighbours are joined until one is left. Its contract
-//! for the crates above: `hash_from_signature` gives the public hash of the chain ends to which a
-//! signature's values lead, and `public_hash` that of the ends to which a secret's do;
-//! `public_hashes_in_lanes` gives the same of several leaves side by side. `sign_digest`
-//! writes the values of a secret's signature, which climb to the secret's ends. `rand_hash` joins the
-//! nodes of the hash tree above. `Climbing` is the choice between two ways to the first of these
-//! hashes, in lanes or with little stack, which a verifier takes as a parameter.
+//! `hash_from_signature` gives the public hash that a signature's values lead to, `public_hash` the one of a secret's
+//! key, and `public_hashes_in_lanes` those of several leaves side by side. `sign_digest` writes the values of a
+//! secret's signature, which climb to the secret's ends. `rand_hash` joins the nodes of the hash tree above. A verifier
+//! takes `Climbing` as a parameter: in lanes, or with little stack.
+//!
+//! The model is `specs/Hashes.antt`, the standard's hashes over SHA-256; `specs/Address.antt`, their addresses;
+//! `specs/Key.antt`, a key's chains; and `specs/LTree.antt`, the joining of neighbours until one value is left.
 //!
 //! ```rust
 //! use typecodes::WOTS_CHAINS;

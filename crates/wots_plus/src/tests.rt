@@ -1,5 +1,5 @@
-//! Expected values were computed with Python's hashlib by the formulas of RFC 8391, and where a test
-//! says so they are another program's.
+//! Expected values are from Python's hashlib, by the formulas of RFC 8391, or from another program where a test says
+//! so.
 
 ghost use Rattle.std.specs.Prelude.{◌<◌, ◌≤◌};
 
@@ -97,7 +97,7 @@ fn keyed_hashes_begin_with_their_number(rt: HostRuntime) {
     assert!(rt; Prf::new(SEED).hash(&VALUE) == prf);
 }
 
-// A reader's text has the digest of its bytes, around the length of one piece and of two.
+// A reader's digest is its bytes', for lengths around one piece and two.
 #[test]
 fn digest_of_a_reader(rt: HostRuntime) {
     let text = [7; 32769];
@@ -125,14 +125,14 @@ fn step_hashes_what_its_mask_leaves(rt: HostRuntime) {
     assert!(rt; key.step(2, 3, &VALUE) == expected);
 }
 
-// A chain and a value in each lane.
+// a chain and a value for each lane
 const CHAINS: [u16; LANES] = [3, 0, 66, 5, 1, 33, 64, 65];
 
 const VALUES: [[u8; 32]; LANES] = [
     VALUE, OTHER, [0; 32], [0xff; 32], [1; 32], [0x80; 32], VALUE, SECRET,
 ];
 
-// Steps side by side, each with a chain, a place and a value of its own, under two keys in turn.
+// Each lane has its own chain, place and value; two keys in turn.
 #[test]
 fn steps_in_lanes_are_steps(rt: HostRuntime) {
     let at = [7, 0, 14, 1, 13, 8, 2, 0];
@@ -150,8 +150,8 @@ fn steps_in_lanes_are_steps(rt: HostRuntime) {
     }
 }
 
-// Each number of steps in each lane, with the same in the lanes beside it, which then take all of them, and with other
-// ones: the ends are those of each chain by itself.
+// Each number of steps in each lane, with equal and with other numbers beside it. Each lane ends where its chain does
+// by itself.
 #[test]
 fn each_length_climbs_in_each_lane(rt: HostRuntime) {
     let seed = Prf::new(SEED);
@@ -169,7 +169,7 @@ fn each_length_climbs_in_each_lane(rt: HostRuntime) {
     }
 }
 
-// Chains that climb together from their first values, by as many steps, end where each ends by itself.
+// Chains that climb together from place 0 end where each does by itself.
 fn expect_lanes_by(rt: &impl Abort, key: &Wots<'_>, steps: u8) {
     let ends = key.steps_in_lanes(&CHAINS, &[0; LANES], steps, &VALUES);
     for lane in 0..LANES {
@@ -178,7 +178,7 @@ fn expect_lanes_by(rt: &impl Abort, key: &Wots<'_>, steps: u8) {
     }
 }
 
-// The same of the first chains of a key, each to a place of its own.
+// The same for the key's first chains, each to its own place.
 fn expect_climbs(rt: &impl Abort, key: &Wots<'_>, to: &[u8; LANES]) {
     let ends = climb_to(key, to, &VALUES);
     for chain in 0..LANES {
@@ -213,7 +213,7 @@ fn nodes_are_joined_at_their_address(rt: HostRuntime) {
     assert!(rt; rand_hash(&seed, &hash_tree, &VALUE, &OTHER) == in_hash_tree);
 }
 
-// Bytes for 67 values: byte k is k modulo 251.
+// Byte k is k modulo 251, for 67 values.
 fn made_up_bytes() -> [u8; 32 * 67] {
     let mut bytes = [0; 32 * 67];
     for (k, byte) in bytes.iter_mut().enumerate() {
@@ -222,7 +222,7 @@ fn made_up_bytes() -> [u8; 32 * 67] {
     bytes
 }
 
-// The root of the L-tree of leaf 5 over the first made up values.
+// The root of leaf 5's L-tree over the first made-up values.
 fn assert_root(rt: &impl Abort, count: usize, expected: [u8; 32])
     requires some { 0 < count }
     requires few { count ≤ 67 }
@@ -237,8 +237,7 @@ fn assert_root(rt: &impl Abort, count: usize, expected: [u8; 32])
     assert!(rt; key.l_tree(values) == expected);
 }
 
-// Over 67 values there are 33, 17, 8, 4, 2, 1 and 1 joins at the heights 0 to 6. So these are the
-// numbers of values on the way.
+// Heights 0 to 6 over 67 values have 33, 17, 8, 4, 2, 1 and 1 joins. So these are the numbers of values on the way.
 #[test]
 fn l_trees_have_their_roots(rt: HostRuntime) {
     let of_67 = [
@@ -291,7 +290,7 @@ fn l_trees_have_their_roots(rt: HostRuntime) {
     assert_root(&rt, 1, of_1);
 }
 
-// As many pairs as twice the lanes, as the lanes, and one less.
+// Twice as many pairs as lanes, as many, and one less.
 #[test]
 fn l_trees_of_whole_lanes_have_their_roots(rt: HostRuntime) {
     let of_32 = [
@@ -330,7 +329,7 @@ fn private_values_come_from_the_secret(rt: HostRuntime) {
     assert!(rt; key.private_value(&SECRET, 2) == expected);
 }
 
-// The root of the L-tree over the private values after all 15 steps.
+// The L-tree's root over the private values after all 15 steps.
 #[test]
 fn public_hash_ends_every_chain(rt: HostRuntime) {
     let seed = Prf::new(SEED);
@@ -346,7 +345,7 @@ fn public_hash_ends_every_chain(rt: HostRuntime) {
     assert!(rt; key.public_hash(&SECRET) == expected);
 }
 
-// Keys side by side, with the leaf above in two lanes: the public hash of each is the one that it has by itself.
+// Keys side by side, one leaf in two lanes: each has the public hash that it has by itself.
 #[test]
 fn keys_in_lanes_have_their_public_hashes(rt: HostRuntime) {
     let seed = Prf::new(SEED);
@@ -361,7 +360,7 @@ fn keys_in_lanes_have_their_public_hashes(rt: HostRuntime) {
     }
 }
 
-// SHA-256 of the private values after digit i steps each, of the digest SHA-256("digest").
+// SHA-256 of the private values after digit i steps. The digest is SHA-256("digest").
 #[test]
 fn signatures_walk_to_their_digits(rt: HostRuntime) {
     let seed = Prf::new(SEED);
@@ -379,7 +378,7 @@ fn signatures_walk_to_their_digits(rt: HostRuntime) {
     assert!(rt; Sha256::digest(&values) == expected);
 }
 
-// The root of the L-tree over the made up values after the steps digit i, .., 14 each.
+// The L-tree's root over the made-up values after the steps from digit i to 14.
 #[test]
 fn made_up_signature_leads_to_its_public_hash(rt: HostRuntime) {
     let seed = Prf::new(SEED);
@@ -408,8 +407,8 @@ fn digits_end_with_the_checksum(rt: HostRuntime) {
     assert!(rt; &digits[64..] == [3, 11, 1].as_slice());
 }
 
-// A signature of leaf 255 by XMSS-SHA2_10_256 that Bouncy Castle made. The public hash below leads
-// along the signature's path to the root of the public key.
+// Bouncy Castle's signature of leaf 255, XMSS-SHA2_10_256. The public hash leads along its path to the public key's
+// root.
 #[test]
 fn a_real_signature_leads_to_its_leaf(rt: HostRuntime) {
     let seed = Prf::new(REAL_SEED);

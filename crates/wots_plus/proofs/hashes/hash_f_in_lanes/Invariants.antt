@@ -1,4 +1,4 @@
--- The first blocks of the lanes so far.
+-- The lanes so far have their first blocks.
 use Rattle.std.proofs.Common.{◌≡◌, ℕ, ◌<◌, ◌++◌, [], length, slice_index_or}
 use Rattle.wots_plus.specs.Hashes.{to_byte}
 use Rattle.winternitz.specs.Lanes.{lanes}

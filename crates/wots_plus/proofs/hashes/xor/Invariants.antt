@@ -1,4 +1,4 @@
--- The bytes so far are those of the XOR.
+-- The first i bytes are XORed.
 use Rattle.std.proofs.Common.{◌≡◌, ℕ, ◌<◌, get_or, length}
 use Rattle.std.specs.Prelude.{bit_xor}
 use Rattle.wots_plus.proofs.hashes.xor.Given as goal

@@ -1,4 +1,4 @@
--- The lanes so far.
+-- The lanes so far are XORed.
 use Rattle.std.proofs.Common.{◌≡◌, ℕ, ◌<◌, [], length, slice_index_or}
 use Rattle.wots_plus.specs.Hashes.{xor}
 use Rattle.winternitz.specs.Lanes.{lanes}

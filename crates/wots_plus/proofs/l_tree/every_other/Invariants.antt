@@ -1,4 +1,4 @@
--- The values of the lanes so far.
+-- The lanes so far have their values.
 use Rattle.std.proofs.Common.{◌≡◌, ℕ, ◌<◌, ◌+◌, ◌*◌, [], length, slice_index_or}
 use Rattle.winternitz.specs.Lanes.{lanes}
 use Rattle.wots_plus.proofs.l_tree.every_other.Given as goal

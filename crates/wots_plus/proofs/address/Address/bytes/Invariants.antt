@@ -1,4 +1,4 @@
--- The words so far are written.
+-- The first i words are written.
 use Rattle.std.proofs.Common.{◌≡◌, ◌*◌, take, length}
 use Rattle.wots_plus.specs.Address.{bytes_of_words}
 use Rattle.wots_plus.proofs.address.Address.bytes.Given as goal

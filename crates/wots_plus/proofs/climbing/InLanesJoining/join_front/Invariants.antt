@@ -1,4 +1,4 @@
--- The first pairs are joined, as many as the groups so far have, and what comes after them is as it was.
+-- The pairs of the groups so far are joined, the others unchanged.
 use Rattle.std.proofs.Common.{◌≡◌, ℕ, ◌+◌, ◌*◌, ◌<◌, ◌≤◌, [], get_or, length}
 use Rattle.winternitz.specs.Lanes.{lanes}
 use Rattle.wots_plus.specs.LTree.{l_tree_join}

@@ -1,4 +1,4 @@
--- The ends of the chains so far.
+-- The chains so far have their ends.
 use Rattle.std.proofs.Common.{◌≡◌, ℕ, ◌<◌, [], length, slice_index_or}
 use Rattle.winternitz.specs.Chain.{end_of}
 use Rattle.wots_plus.specs.Key.{step_of}

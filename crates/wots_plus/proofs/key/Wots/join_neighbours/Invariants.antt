@@ -1,4 +1,4 @@
--- The first pairs are joined, and what comes after them is as it was.
+-- The first i pairs are joined, the others unchanged.
 use Rattle.std.proofs.Common.{◌≡◌, ℕ, ◌+◌, ◌*◌, ◌<◌, ◌≤◌, [], get_or, length}
 use Rattle.wots_plus.specs.LTree.{l_tree_join}
 use Rattle.wots_plus.proofs.key.Wots.join_neighbours.Given as goal

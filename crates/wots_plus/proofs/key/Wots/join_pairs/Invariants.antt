@@ -1,4 +1,4 @@
--- The nodes of the lanes so far are written.
+-- The lanes so far have their nodes.
 use Rattle.std.proofs.Common.{◌≡◌, ℕ, ◌<◌, ◌≤◌, ◌+◌, [], length, slice_index_or}
 use Rattle.wots_plus.proofs.key.Wots.join_pairs.Given as goal
 

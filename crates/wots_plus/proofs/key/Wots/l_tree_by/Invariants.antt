@@ -1,4 +1,4 @@
--- In front are the values of the height.
+-- The height's values are in front.
 use Rattle.std.proofs.Common.{◌≡◌, ◌+◌, ◌<◌, ◌≤◌, length, take}
 use Rattle.wots_plus.specs.LTree.{at_height, l_tree_join}
 use Rattle.wots_plus.proofs.key.Wots.l_tree_by.Given as goal

@@ -1,4 +1,4 @@
--- Those so far are written.
+-- The groups so far are written.
 use Rattle.std.proofs.Common.{◌≡◌, ℕ, ◌*◌, ◌<◌, [], length, slice_index_or}
 use Rattle.wots_plus.specs.Key.{private_value}
 use Rattle.winternitz.specs.Lanes.{lanes}

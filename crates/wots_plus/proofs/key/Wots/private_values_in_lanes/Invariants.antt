@@ -1,4 +1,4 @@
--- The blocks of the lanes so far; then the values of the lanes so far are written.
+-- First the blocks, then the values of the lanes so far are written.
 use Rattle.std.proofs.Common.{◌≡◌, ℕ, ◌<◌, ◌+◌, ◌++◌, [], length, slice_index_or}
 use Rattle.wots_plus.specs.Address.{one_time}
 use Rattle.winternitz.specs.Lanes.{lanes}

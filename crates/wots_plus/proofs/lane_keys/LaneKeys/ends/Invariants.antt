@@ -1,4 +1,4 @@
--- The ends of the chains so far stand in their rows.
+-- The chains so far have their rows of ends.
 use Rattle.std.proofs.Common.{◌≡◌, ℕ, ◌<◌, [], length, slice_index, slice_index_or}
 use Rattle.winternitz.specs.Lanes.{lanes}
 use Rattle.wots_plus.specs.Key.{chain_value}

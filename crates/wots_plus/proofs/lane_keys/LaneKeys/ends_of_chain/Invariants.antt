@@ -1,4 +1,4 @@
--- Each chain has walked as many steps from its private value.
+-- Each lane has taken `at` steps from its private value.
 use Rattle.std.proofs.Common.{◌≡◌, ℕ, ◌<◌, List, [], slice_index, slice_index_or}
 use Rattle.winternitz.specs.Lanes.{lanes}
 use Rattle.wots_plus.specs.Key.{chain_value}

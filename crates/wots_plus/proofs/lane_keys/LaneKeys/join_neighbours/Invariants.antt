@@ -1,4 +1,4 @@
--- The first pairs of rows are joined, and what comes after them is as it was.
+-- The first i pairs of rows are joined, the others unchanged.
 use Rattle.std.proofs.Common.{◌≡◌, ℕ, ◌+◌, ◌*◌, ◌<◌, ◌≤◌, [], get_or, length, slice_index}
 use Rattle.winternitz.specs.Lanes.{lanes}
 use Rattle.wots_plus.specs.LTree.{l_tree_join}

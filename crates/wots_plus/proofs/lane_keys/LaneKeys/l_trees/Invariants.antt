@@ -1,4 +1,4 @@
--- In front are, in each lane, the values of the height.
+-- The height's rows are in front.
 use Rattle.std.proofs.Common.{◌≡◌, ℕ, ◌+◌, ◌<◌, ◌≤◌, length, slice_index, take}
 use Rattle.winternitz.specs.Lanes.{lanes}
 use Rattle.wots_plus.specs.LTree.{at_height, l_tree_join}

@@ -1,4 +1,4 @@
--- The blocks of the lanes so far.
+-- The lanes so far have their blocks.
 use Rattle.std.proofs.Common.{◌≡◌, ℕ, ◌<◌, ◌++◌, [], length, slice_index, slice_index_or}
 use Rattle.winternitz.specs.Lanes.{lanes}
 use Rattle.wots_plus.specs.Address.{one_time}

@@ -1,4 +1,4 @@
--- The addresses of the lanes so far.
+-- The lanes so far have their addresses.
 use Rattle.std.proofs.Common.{◌≡◌, ℕ, ◌<◌, [], length, slice_index, slice_index_or}
 use Rattle.winternitz.specs.Lanes.{lanes}
 use Rattle.wots_plus.specs.Address.{one_time}
