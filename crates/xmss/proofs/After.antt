@@ -1,5 +1,4 @@
--- What comes after each field of a public key and of a signature, in this crate's layouts. lms has a file like this one
--- for its own.
+-- The rest of this crate's layouts after each field. lms has such a file for its own.
 use Rattle.std.proofs.Common.{ℕ, ◌^◌, List, nat_lt, if◌then◌else◌}
 use Rattle.typecodes.specs.declared.fault.Cause.TheVariants.{LeafOutOfRange}
 use Rattle.typecodes.specs.declared.types.XmssType.{XmssType}
@@ -18,7 +17,7 @@ after_root tree root = block 32 >>= after_seed tree root
 abbrev pub after_tree : XmssType → Layout XmssPublic
 after_tree tree = block 32 >>= after_root tree
 
--- the condition of an index
+-- an index is refused unless it is a leaf's
 abbrev pub checked : ℕ → ℕ → Layout ℕ
 checked h index = if nat_lt index (2 ^ h) then done index else refuse 4 LeafOutOfRange
 

@@ -1,5 +1,5 @@
--- The root to which a signature leads, from the steps by which it is computed. lms has a file like this one, of the
--- steps of its own standard: what both share, the way along a path, stands in merkle.
+-- The root that a signature leads to, from the steps that compute it. lms has such a file for its standard; what both
+-- share, the way along a path, stands in merkle.
 use Rattle.std.proofs.Common.{◌≡◌, ℕ, List, sym, subst}
 use Rattle.merkle.specs.Ascent.{PathLeadsTo}
 use Rattle.wots_plus.specs.Key.{ClimbTo}
@@ -8,7 +8,7 @@ use Rattle.xmss.specs.Signature.{Signature}
 use Rattle.xmss.specs.Nodes.{join_of, leaf_of}
 use Rattle.xmss.specs.Verification.{LeadsTo}
 
--- the ends of the chains and the path from the leaf show that the signature leads to the root
+-- ends and a path lead to the root
 pub leads : (key : XmssPublic) (digest : List ℕ) (s : Signature) (seed leaf root : List ℕ) → seed ≡ key.seed
     → ((ends : List (List ℕ)) × ClimbTo seed s.index digest s.chains ends × (leaf ≡ leaf_of seed s.index ends))
     → PathLeadsTo (join_of seed) s.index leaf s.path root
@@ -20,7 +20,7 @@ leads key digest s seed leaf root seed_is (ends, climbed, leaf_is) led = record 
       (subst (λ l. PathLeadsTo (join_of seed) s.index l s.path root) leaf_is led);
 }
 
--- and any root to which it leads is this one
+-- every root that it leads to is this one
 pub leads_only : (key : XmssPublic) (digest : List ℕ) (s : Signature) (seed leaf root : List ℕ) → seed ≡ key.seed
     → ((ends : List (List ℕ)) → ClimbTo seed s.index digest s.chains ends → leaf ≡ leaf_of seed s.index ends)
     → ((other : List ℕ) → PathLeadsTo (join_of seed) s.index leaf s.path other → other ≡ root)

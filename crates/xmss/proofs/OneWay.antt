@@ -1,4 +1,4 @@
--- Public keys and signatures are spelled in one way.
+-- Public keys and signatures have one spelling.
 use Rattle.std.proofs.Common.{◌≡◌, ◌^◌, ℕ, true, false, cond, refl, sym, nat_lt}
 use Rattle.typecodes.specs.declared.fault.Cause.TheVariants.{LeafOutOfRange}
 use Rattle.typecodes.specs.declared.types.XmssType.{XmssType}
@@ -21,7 +21,7 @@ one_way-public_key =
     way-done _ _ (refl, (refl, (refl, tt)))))) in
     way.one
 
--- an index that meets the condition is the one that was read
+-- an accepted index is the one that was read
 checked_shows : (h index : ℕ) → Shows (checked h index) (λ i. i) index
 checked_shows h index v bytes =
     elim (nat_lt index (2 ^ h)) as (λ leaf. Spells (cond leaf (done index) (refuse 4 LeafOutOfRange)) v bytes → v ≡ index) [

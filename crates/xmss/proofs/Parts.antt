@@ -1,11 +1,11 @@
--- Where the values of a signature's chains stand in its bytes.
+-- Where a signature's bytes have the chains' values.
 use Rattle.std.proofs.Common.{◌≡◌, ◌∙◌, refl, sym, ap, ℕ, ◌+◌, ◌*◌, ◌<◌, ◌≤◌, List, [], length, take, drop, get_or, Ok, arith}
 use Rattle.typecodes.specs.Fields.{values, values_in}
 use Rattle.typecodes.specs.Cursor.{read}
 use Rattle.typecodes.proofs.Parts.{values_at, values_read_at}
 use Rattle.xmss.specs.Signature.{chains_in}
 
--- the values of all chains are 67
+-- `chains_in` is 67 values
 chains_are : (n : ℕ) (bytes : List ℕ) → n ≡ 67 → values_in n bytes ≡ chains_in bytes
 unfolding chains_in
 chains_are n bytes all = ap (λ n. values_in n bytes) all
@@ -19,7 +19,7 @@ pub chains_read_at : (place : ℕ) (bytes all : List ℕ) (vs : List (List ℕ))
     → vs ≡ chains_in (drop place bytes)
 chains_read_at place bytes all vs from end = chains_read 67 place bytes all vs from end refl
 
--- value i of theirs
+-- value i of them
 of_chains : (n place : ℕ) (bytes : List ℕ) (vs : List (List ℕ)) (j i : ℕ) → n ≡ 67 → vs ≡ chains_in (drop place bytes) → i < 67 → j ≡ i
     → get_or vs j [] ≡ take 32 (drop (place + 32 * i) bytes)
 of_chains n place bytes vs j i all vs_are within same =

@@ -1,5 +1,5 @@
--- The textbook signature is valid. lms has a file like this one, of its own standard's validity: what both share stands
--- in winternitz and merkle.
+-- The textbook signature is valid. lms has such a file for its standard; what both share stands in winternitz and
+-- merkle.
 use Rattle.std.proofs.Common.{◌≡◌, refl, ℕ, ◌<◌, ◌^◌, List}
 use Rattle.typecodes.specs.Types.{xmss_height_of}
 use Rattle.merkle.proofs.Paths.{path_leads, path_long}
@@ -10,7 +10,7 @@ use Rattle.xmss.specs.Secret.{digest_in, joins_of, leaves_of, path_in, public_of
 use Rattle.xmss.specs.Writing.{signed, textbook}
 use Rattle.xmss.specs.Verification.{IsValid}
 
--- The textbook signature of a message is valid under the secret's public key.
+-- It is valid for the message under the secret's public key.
 textbook_valid : (secret : XmssSecret) (i : ℕ) (message : List ℕ) → i < 2 ^ xmss_height_of secret.tree
     → IsValid (public_of secret) message (textbook secret i (digest_in secret (root_in secret) i message))
 textbook_valid secret i message inside = record {
@@ -24,7 +24,7 @@ textbook_valid secret i message inside = record {
   };
 }
 
--- The same of a signature that was made with a digest and a path, where these are the textbook's.
+-- So is a signature whose digest and path are the textbook's.
 pub signed_valid : (secret : XmssSecret) (i : ℕ) (message digest : List ℕ) (path : List (List ℕ)) → i < 2 ^ xmss_height_of secret.tree
     → digest ≡ digest_in secret (root_in secret) i message → path ≡ path_in secret i
     → IsValid (public_of secret) message (signed secret i digest path)

@@ -1,5 +1,5 @@
--- The bytes of keys and signatures spell them, field by field. What the fields of both standards share stands in
--- typecodes; lms has a file like this one for its own layouts, whose fields are others.
+-- The bytes of keys and signatures spell them. Fields that both standards share stand in typecodes; lms has such a file
+-- for its own layouts.
 use Rattle.std.proofs.Common.{◌≡◌, refl, ℕ, ◌<◌, ◌^◌, List, [], ◌++◌, length, get_or, subst}
 use Rattle.std.specs.List.{concat}
 use Rattle.std.proofs.lemmas.Bool.{lt-ltb}
@@ -20,14 +20,14 @@ use Rattle.xmss.specs.Signature.{Signature, leaf_index, signature}
 use Rattle.xmss.specs.Writing.{public_bytes, signature_bytes, signed}
 use Rattle.xmss.proofs.After.{after_chains, after_index, after_randomizer, after_root, after_tree, checked}
 
--- an index of a leaf is spelled by 4 bytes
+-- 4 bytes spell a leaf's index
 index_spelled : (h index : ℕ) → index < 2 ^ h → index < 2 ^ 32 → Spells (leaf_index h) index (to_byte index 4)
 unfolding leaf_index
 index_spelled h index inside small =
     last_field number (checked h) index index (to_byte index 4) (number_spelled index small)
     (rw (lt-ltb index (2 ^ h) inside) (refl, refl))
 
--- The signature's parts have the sizes of a type, and its index is one of a leaf.
+-- Parts of a type's sizes, and an index that is a leaf's.
 pub record IsSized (tree : XmssType) (s : Signature) : Type 0 where
   pub inside : s.index < 2 ^ xmss_height_of tree
   pub randomizer : length s.randomizer ≡ 32
@@ -36,7 +36,7 @@ pub record IsSized (tree : XmssType) (s : Signature) : Type 0 where
   pub path_count : length s.path ≡ xmss_height_of tree
   pub path : (i : ℕ) → i < xmss_height_of tree → length (get_or s.path i []) ≡ 32
 
--- A signature whose parts have their sizes is spelled by its bytes.
+-- A signature with such parts is spelled by its bytes.
 signature_spelled : (tree : XmssType) (s : Signature) → IsSized tree s → Spells (signature tree) s (signature_bytes s)
 unfolding signature
 signature_spelled tree s sized =
@@ -53,7 +53,7 @@ signature_spelled tree s sized =
     (values_spelled 67 s.chains sized.chain_count sized.chains)
     (last_field (values h) _ s.path s path (values_spelled h s.path sized.path_count sized.path) (refl, refl)))))
 
--- So is that which a secret makes, with a path of as many values of 32 bytes as its tree is high.
+-- So is a secret's signature, if the path has a value of 32 bytes for each height.
 pub signed_spelled : (secret : XmssSecret) (i : ℕ) (digest : List ℕ) (path : List (List ℕ)) → i < 2 ^ xmss_height_of secret.tree
     → length path ≡ xmss_height_of secret.tree → ((k : ℕ) → k < xmss_height_of secret.tree → length (get_or path k []) ≡ 32)
     → Spells (signature secret.tree) (signed secret i digest path) (signature_bytes (signed secret i digest path))

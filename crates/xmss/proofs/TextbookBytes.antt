@@ -56,7 +56,7 @@ long_first (first ∷ rest) some are = are.0
 
 -- ---- nodes
 
--- the end of a walk
+-- a walk ends in 32 bytes
 walk_size : (step : Steps) (c a n : ℕ) (value : List ℕ) → ((i j : ℕ) (v : List ℕ) → length (step i j v) ≡ 32) → length value ≡ 32
     → length (walk_on step c a n value) ≡ 32
 unfolding walk_on
@@ -87,7 +87,6 @@ path_size secret q i inside =
     let node_at : ℕ → List ℕ = λ k. node (leaves_of secret) (joins_of secret) k (sibling (q / 2 ^ k)) in
     ap length (get_or-map-range_with_len node_at 0 (xmss_height_of secret.tree) i i [] inside (omega arith)) ∙ node_size secret i (sibling (q / 2 ^ i))
 
--- the bytes of the textbook signature spell it
 pub textbook_spelled : (secret : XmssSecret) (q : ℕ) (digest : List ℕ) → q < 2 ^ xmss_height_of secret.tree
     → Spells (signature secret.tree) (textbook secret q digest) (signature_bytes (textbook secret q digest))
 textbook_spelled secret q digest inside =

@@ -1,4 +1,4 @@
--- The key, the message and the bytes alone decide the answers of verification.
+-- Key, message and bytes alone decide verification's answers.
 use Rattle.std.proofs.Common.{◌≡◌, ℕ, List, Option, Result, Err, sym, subst}
 use Rattle.std.specs.Prelude.{◌≢◌, IsOk}
 use Rattle.typecodes.specs.Message.{ReadWhole, Transition}
@@ -11,7 +11,7 @@ use Rattle.xmss.specs.declared.key.XmssPublic.{XmssPublic}
 use Rattle.xmss.specs.Signature.{Signature, signature}
 use Rattle.xmss.specs.Verification.{IsValid, IsValidFor, LeavesMessage, Verdict, digest_of}
 
--- the answer by the digest of a message is that of the message and of the bytes that spell the signature
+-- a verdict by the message's digest is one by the message
 pub verdict_of_digest : {A : Type 0} (key : XmssPublic) (message digest bytes : List ℕ) (s : Signature) (result : Result A Refusal)
     → digest ≡ digest_of key message s → Spells (signature key.tree) s bytes → DigestVerdict (IsValidFor key digest s) 0 result
     → Verdict key message bytes result
@@ -20,7 +20,7 @@ verdict_of_digest key message digest bytes s result same spelled verdict =
     (λ x valid. (s, spelled, subst (λ d. IsValidFor key d s) same valid))
     (λ level at invalid. (at, (s, spelled, λ valid. invalid (subst (λ d. IsValidFor key d s) (sym same) valid))))
 
--- with a digest the message was read
+-- by a digest, a message is never unreadable
 pub digest_was_read : {A : Type 0} (key : XmssPublic) (digest : List ℕ) (s : Signature) (result : Result A Refusal)
     → DigestVerdict (IsValidFor key digest s) 0 result → result ≡ Err MessageRead → ⊥
 digest_was_read key digest s result verdict same = elim (subst (DigestVerdict (IsValidFor key digest s) 0) same verdict) [ ]
@@ -32,7 +32,7 @@ leaves_of_digest transition remaining text old new key digest s result verdict r
     of_digest (LeavesMessage transition remaining text old new) (IsValidFor key digest s) 0 result verdict
     (λ x valid. read) (λ level at invalid. read)
 
--- what a refusal says, as that of any tree: the signature names no type, and is read as one of the key's
+-- a refusal is one of any tree, where the signature names no type of its own
 refused : (key : XmssPublic) (message bytes : List ℕ) (refusal : Refusal) → Verdict {A = Unit {0}} key message bytes (Err refusal)
     → Refused (signature key.tree) (λ s. Unit {0}) (IsValid key message) bytes refusal
 refused key message bytes (Unreadable fault) faulty = faulty
@@ -41,11 +41,11 @@ refused key message bytes LevelMismatch never = absurd never
 refused key message bytes MessageRead (s, spelled) = (s, spelled, tt)
 refused key message bytes (RootMismatch level) (top, (s, spelled, invalid)) = (top, (s, spelled, tt, invalid))
 
--- the laws of the answers
+-- the laws of the verdicts
 pub laws : VerdictLaws Verdict (λ key. signature key.tree) IsValid (λ key refusal. refusal ≡ RootMismatch 0)
 laws = tree_laws Verdict (λ key. signature key.tree) (λ key s. Unit {0}) IsValid refused (λ key message s valid. tt)
 
--- a valid signature is refused by no answer, unless the message can't be read
+-- a valid signature is accepted, unless the message can't be read
 pub accepted : (key : XmssPublic) (message bytes : List ℕ) (result : Result (Unit {0}) Refusal) → Verdict key message bytes result
     → result ≢ Err MessageRead → (s : Signature) → Spells (signature key.tree) s bytes → IsValid key message s → IsOk result
 accepted = laws.accepted

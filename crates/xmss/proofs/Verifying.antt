@@ -10,7 +10,7 @@ use Rattle.xmss.specs.declared.signature.XmssSigView.{XmssSigView}
 use Rattle.xmss.specs.Signature.{signature}
 use Rattle.xmss.specs.View.{signature_of}
 
--- The bytes spell what the view shows, and its tree is the key's.
+-- The bytes spell what the view shows, of the key's type.
 pub record IsRead (key : XmssPublic) (bytes : List ℕ) (view : XmssSigView) : Type 0 where
   pub spelled : Spells (signature key.tree) (signature_of view) bytes
   pub tree : view.tree ≡ key.tree

@@ -5,12 +5,10 @@ use Rattle.wots_plus.specs.Address.{hash_tree}
 use Rattle.wots_plus.specs.Hashes.{rand_hash}
 use Rattle.wots_plus.specs.Key.{public_hash}
 
--- the leaf of an index, of the ends of its one-time key's chains: the root of the L-tree over them, under the OTS
--- address and the L-tree address with this index (4.1.6)
+-- a leaf: the root of the L-tree over the ends of its chains, with this index as OTS address and L-tree address (4.1.6)
 abbrev pub leaf_of : List ℕ → ℕ → List (List ℕ) → List ℕ
 leaf_of seed index ends = public_hash seed index ends
 
--- RAND_HASH of two nodes of height k under a hash tree address with that height and the index j of
--- the node above them (4.1.6)
+-- RAND_HASH of two nodes of height k, with a hash tree address of that height and of the upper node's index j (4.1.6)
 abbrev pub join_of : List ℕ → Joins
 join_of seed k j left right = rand_hash seed (hash_tree k j) left right

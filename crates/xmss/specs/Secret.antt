@@ -1,5 +1,5 @@
--- What a secret makes: the leaves of its tree, the nodes above them, its public key, the authentication paths, the
--- randomizers and the digests (RFC 8391 3.1.3, 3.1.4, 4.1.6, 4.1.7 and 4.1.9); and what callers see of its tree.
+-- What a secret makes: leaves, nodes, the public key, authentication paths, randomizers and digests (RFC 8391 3.1.3,
+-- 3.1.4, 4.1.6, 4.1.7 and 4.1.9). Also what callers see of its tree.
 use Rattle.std.specs.Prelude.{ℕ, List}
 use Rattle.typecodes.specs.Types.{xmss_height_of}
 use Rattle.merkle.specs.Tree.{Joins, Leaves, path_of, root_of}
@@ -11,24 +11,21 @@ use Rattle.xmss.specs.declared.secret.XmssTree.{XmssTree}
 use Rattle.xmss.specs.Digest.{index_bytes, message_digest_of}
 use Rattle.xmss.specs.Nodes.{join_of, leaf_of}
 
--- the leaves of a secret's tree: each of the ends of all chains, walked from their private values
+-- the leaves, each over the ends of its key's chains
 abbrev pub leaves_of : XmssSecret → Leaves
 leaves_of secret index =
     leaf_of secret.public_seed index (ends_of_secret secret.public_seed index secret.secret_seed)
 
--- and the nodes above them
+-- the join of two nodes
 abbrev pub joins_of : XmssSecret → Joins
 joins_of secret = join_of secret.public_seed
 
--- the root of the tree
 abbrev pub root_in : XmssSecret → List ℕ
 root_in secret = root_of (leaves_of secret) (joins_of secret) (xmss_height_of secret.tree)
 
--- the public key
 abbrev pub public_of : XmssSecret → XmssPublic
 public_of secret = record { tree = secret.tree; root = root_in secret; seed = secret.public_seed }
 
--- the authentication path of a leaf
 abbrev pub path_in : XmssSecret → ℕ → List (List ℕ)
 path_in secret index = path_of (leaves_of secret) (joins_of secret) (xmss_height_of secret.tree) index
 
@@ -36,15 +33,15 @@ path_in secret index = path_of (leaves_of secret) (joins_of secret) (xmss_height
 abbrev pub randomizer_of : List ℕ → ℕ → List ℕ
 randomizer_of prf_key index = prf prf_key (index_bytes index)
 
--- the digest M' of a message that a leaf signs
+-- M', the digest of a message that a leaf signs
 abbrev pub digest_in : XmssSecret → List ℕ → ℕ → List ℕ → List ℕ
 digest_in secret root index message =
     message_digest_of (randomizer_of secret.prf_key index) root index message
 
--- the secret that a tree's leaves are made from
+-- the secret of a tree
 abbrev pub secret_of : XmssTree → XmssSecret
 secret_of tree = tree.secret
 
--- how many leaves of a tree were made
+-- leaves made so far
 abbrev pub leaves_made : XmssTree → ℕ
 leaves_made tree = tree.made

@@ -6,29 +6,28 @@ use Rattle.typecodes.specs.Types.{wots_chains, xmss_height_of}
 use Rattle.typecodes.specs.Layout.{Layout, done, refuse, ◌>>=◌}
 use Rattle.typecodes.specs.Fields.{number, block, values, values_in}
 
--- a signature: its leaf's index idx, r, the value of each chain, and the authentication path
+-- a signature: idx, r, a value for each chain, and the authentication path
 pub record Signature : Type 0 where
   pub index : ℕ
   pub randomizer : List ℕ
   pub chains : List (List ℕ)
   pub path : List (List ℕ)
 
--- the signature of these parts
 abbrev pub signature_with : ℕ → List ℕ → List (List ℕ) → List (List ℕ) → Signature
 signature_with index randomizer chains path =
     record { index = index; randomizer = randomizer; chains = chains; path = path }
 
--- the values of all chains in the bytes, each of 32 bytes (3.1.1)
+-- the values of all chains, 32 bytes each (3.1.1)
 unfoldable pub chains_in : List ℕ → List (List ℕ)
 chains_in bytes = values_in wots_chains bytes
 
--- the index of a leaf of a tree of height h: any other is a fault, where it stands
+-- A leaf's index in a tree of height h. Any other index is a fault at its own place.
 unfoldable pub leaf_index : ℕ → Layout ℕ
 leaf_index h = do
   index ← number
   if nat_lt index (2 ^ h) then done index else refuse 4 LeafOutOfRange
 
--- A signature of a type (4.1.8), which has no code of the type: idx, r, a value for each chain and the path.
+-- A signature of a type (4.1.8): idx, r, the chains' values, the path. It has no code for the type.
 unfoldable pub signature : XmssType → Layout Signature
 signature tree = do
   index ← leaf_index (xmss_height_of tree)

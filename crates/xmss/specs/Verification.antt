@@ -1,5 +1,4 @@
--- Which signatures are valid (RFC 8391 4.1.10, 3.1.6 and 4.1.5), and what verification answers, with the refusal that
--- comes first.
+-- Which signatures are valid (RFC 8391 4.1.10, 3.1.6 and 4.1.5), and verification's answers, with the first refusal.
 use Rattle.std.specs.Prelude.{◌≡◌, ℕ, ◌<◌, ◌^◌, List, Option, length, Result, Ok, Err}
 use Rattle.typecodes.specs.declared.refusal.Refusal.{Refusal}
 use Rattle.typecodes.specs.declared.refusal.Refusal.TheVariants.{Unreadable, TypeMismatch, LevelMismatch}
@@ -15,44 +14,44 @@ use Rattle.xmss.specs.Digest.{message_digest_of, message_prefix_of}
 use Rattle.xmss.specs.Nodes.{join_of, leaf_of}
 use Rattle.xmss.specs.Signature.{Signature, signature}
 
--- The node to which a signature of a digest M' leads under a key: from the digits of M' the signature's values climb to
--- the ends of their chains; the L-tree over these is the leaf; and from this leaf the path leads to the node.
+-- The signature of a digest M' leads to this node. Its values climb from the digits of M' to the chains' ends, whose
+-- L-tree gives the leaf. The path leads from the leaf to the node.
 pub record LeadsTo (key : XmssPublic) (digest : List ℕ) (s : Signature) (node : List ℕ) : Type 0 where
   pub ends : List (List ℕ)
   pub climbed : ClimbTo key.seed s.index digest s.chains ends
   pub path : PathLeadsTo (join_of key.seed) s.index (leaf_of key.seed s.index ends) s.path node
 
--- The signature has a value for each chain (3.1.1); its index is one of a leaf of the key's tree, and the path is
--- as long as the tree is high; and as that of a digest it leads to the key's root.
+-- The signature has a value for each chain (3.1.1), a leaf's index, and a path of the tree's height. With this digest
+-- it leads to the key's root.
 pub record IsValidFor (key : XmssPublic) (digest : List ℕ) (s : Signature) : Type 0 where
   pub chains : length s.chains ≡ wots_chains
   pub leaf : s.index < 2 ^ xmss_height_of key.tree
   pub height : length s.path ≡ xmss_height_of key.tree
   pub leads : LeadsTo key digest s key.root
 
--- M', the digest of a message that a signature signs
+-- M', the digest of a signature's message
 abbrev pub digest_of : XmssPublic → List ℕ → Signature → List ℕ
 digest_of key message s = message_digest_of s.randomizer key.root s.index message
 
--- toByte(2, 32), r, the root and toByte(idx, 32), which are hashed before the message (4.1.9)
+-- what is hashed before the message: toByte(2, 32), r, the root and toByte(idx, 32) (4.1.9)
 abbrev pub prefix_of : XmssPublic → Signature → List ℕ
 prefix_of key s = message_prefix_of s.randomizer key.root s.index
 
--- The digest is that of the message under the signature that the bytes spell, if they spell one.
+-- If the bytes spell a signature, this is the message's digest under it.
 abbrev pub IsDigest : XmssPublic → List ℕ → List ℕ → List ℕ → Type 0
 IsDigest key message bytes digest =
     (s : Signature) → Spells (signature key.tree) s bytes → digest ≡ digest_of key message s
 
--- The bytes spell a signature, and this is what is hashed before its message.
+-- The bytes spell a signature, and this is its message's prefix.
 abbrev pub HasPrefix : XmssPublic → List ℕ → List ℕ → Type 0
 HasPrefix key bytes prefix = (s : Signature) × Spells (signature key.tree) s bytes × (prefix ≡ prefix_of key s)
 
--- It is valid for the digest of the message.
+-- It is valid for the message's digest.
 abbrev pub IsValid : XmssPublic → List ℕ → Signature → Type 0
 IsValid key message s = IsValidFor key (digest_of key message s) s
 
--- Ok: the bytes spell a valid signature of the key's type. Else the bytes spell none of that type, and
--- have this fault; or they spell one, and the message can't be read; or one that isn't valid.
+-- Ok: the bytes spell a valid signature of the key's type. Else one of these: the bytes have this fault; or they spell
+-- a signature, and the message can't be read; or they spell one that isn't valid.
 abbrev pub Verdict : {A : Type 0} → XmssPublic → List ℕ → List ℕ → Result A Refusal → Type 0
 Verdict key message bytes (Ok _) = (s : Signature) × Spells (signature key.tree) s bytes × IsValid key message s
 Verdict key message bytes (Err (Unreadable fault)) = HasFault (signature key.tree) bytes 0 fault
@@ -62,7 +61,7 @@ Verdict key message bytes (Err MessageRead) = (s : Signature) × Spells (signatu
 Verdict key message bytes (Err (RootMismatch level)) =
     (level ≡ 0) × ((s : Signature) × Spells (signature key.tree) s bytes × (IsValid key message s → ⊥))
 
--- What becomes of the message: as of that of any tree, where no refusal says that types differ.
+-- What happens to the message: as with any tree, except that types never differ.
 abbrev pub LeavesMessage : {M A : Type 0} → Transition M → (M → Option (List ℕ)) → List ℕ → M → M → Result A Refusal
     → Type 0
 LeavesMessage transition remaining text old new (Err (TypeMismatch level)) = ⊥

@@ -14,14 +14,13 @@ signature_of view = record {
   path = view.path.now;
 }
 
--- the type of its key
 abbrev pub tree_of : XmssSigView → XmssType
 tree_of view = view.tree
 
--- the bytes that spell it, as they were lent
+-- its bytes, as borrowed
 abbrev pub lent_of : XmssSigView → Bor (List ℕ)
 lent_of view = view.bytes
 
--- and as a list
+-- its bytes, as a list
 abbrev pub bytes_of : XmssSigView → List ℕ
 bytes_of view = view.bytes.now

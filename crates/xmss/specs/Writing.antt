@@ -9,7 +9,7 @@ use Rattle.typecodes.specs.declared.secret.XmssSecret.{XmssSecret}
 use Rattle.xmss.specs.Secret.{path_in, randomizer_of}
 use Rattle.xmss.specs.Signature.{Signature}
 
--- the signature of the digest M' by a leaf, with a path
+-- a leaf's signature of the digest M', with any path
 abbrev pub signed : XmssSecret → ℕ → List ℕ → List (List ℕ) → Signature
 signed secret index digest path = record {
   index = index;
@@ -18,7 +18,7 @@ signed secret index digest path = record {
   path = path;
 }
 
--- The textbook signature: that with the path of the leaf.
+-- the textbook signature, with the leaf's own path
 abbrev pub textbook : XmssSecret → ℕ → List ℕ → Signature
 textbook secret index digest = signed secret index digest (path_in secret index)
 

@@ -9,19 +9,18 @@ ghost use Rattle.xmss.specs.Secret.{digest_in, randomizer_of};
 use typecodes::{Message, MessageFailed, XmssSecret, put};
 use wots_plus::{Prf, hash_message, hash_message_from};
 
-// The number of H_msg among the keyed hashes (RFC 8391 5.1).
+// H_msg's number among the keyed hashes (RFC 8391 5.1).
 const MESSAGE: u32 = 2;
 
-/// M', the digest of a message that a leaf signs in the tree with this root, by the randomizer r
-/// of the signature (RFC 8391 4.1.9).
+/// M', the digest of a message (RFC 8391 4.1.9), by r, the root and the leaf that signs.
 pub fn message_digest(randomizer: &[u8; 32], root: &[u8; 32], leaf: u32, message: &[u8]) -> [u8; 32]
     ensures { result ≡ message_digest_of randomizer.now root.now leaf message.now }
 {
     hash_message(&digest_key(randomizer, root, leaf), message)
 }
 
-/// M' of the message that a reader gives, however it is cut: it is read to its end, in pieces that aren't kept. Refused
-/// where it can't be read: see `typecodes::MessageFailed`.
+/// M' of a reader's message, read to its end in pieces that aren't kept. Refused where it can't be read: see
+/// `typecodes::MessageFailed`.
 pub fn message_digest_from<M: Message>(
     randomizer: &[u8; 32],
     root: &[u8; 32],
@@ -41,8 +40,7 @@ pub fn randomizer(secret: &XmssSecret, leaf: u32) -> [u8; 32]
     Prf::new(secret.prf_key).hash(&index_bytes(leaf))
 }
 
-/// M', the digest of a message that a leaf signs in the tree with this root, by the leaf's
-/// randomizer (RFC 8391 4.1.9).
+/// M' of a message that this secret signs (RFC 8391 4.1.9): `message_digest` with the leaf's own randomizer.
 pub fn digest_to_sign(secret: &XmssSecret, root: &[u8; 32], leaf: u32, message: &[u8]) -> [u8; 32]
     ensures { result ≡ digest_in secret.now root.now leaf message.now }
 {
@@ -59,7 +57,7 @@ pub(crate) fn before_message(randomizer: &[u8; 32], root: &[u8; 32], leaf: u32) 
     bytes
 }
 
-// r || root || toByte(idx, 32), the key of the digest.
+// H_msg's key: r || root || toByte(idx, 32).
 fn digest_key(randomizer: &[u8; 32], root: &[u8; 32], leaf: u32) -> [u8; 96]
     ensures { result ≡ randomizer.now ++ root.now ++ spec.index_bytes leaf }
 {

@@ -18,8 +18,7 @@ pub struct XmssPublic {
 impl XmssPublic {
     ghost use Rattle.xmss.specs.Key.{public_key};
 
-    /// The key that the bytes spell, 68 bytes and no more: its type, the root and SEED. Otherwise their first fault
-    /// (1, 2 or 5).
+    /// Decodes a key, of exactly 68 bytes: type, root, SEED. Else the first fault (1, 2 or 5).
     #[tactic(auto, using(crate::proofs::Fields::fields), unfolding(crate::specs::Key::public_key))]
     pub fn read(bytes: &[u8]) -> Result<Self, ReadFault>
         ensures reads { Reads public_key (λ key. key) bytes.now result }

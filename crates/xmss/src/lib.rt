@@ -1,13 +1,13 @@
 //! XMSS keys, signatures, verification and signing (RFC 8391 4.1), for SHA-256 with n = 32 and w = 16.
 //!
-//! Its model is `specs/Key.antt` and `specs/Signature.antt`, how keys and signatures are spelled, and
-//! `specs/Verification.antt`, which signatures are valid. Its contract for the crates above: `verify` is Ok
-//! exactly on the spellings of valid signatures, and else reports the first refusal, a message that can't be
-//! read aside; `verify_bytes_by` and `verify_digest_by` do so of a message in memory and of one's digest, by
-//! either way to climb chains, of which one takes little stack; what `write_signature` writes is the textbook
-//! signature of `specs/Writing.antt`, which is valid. That keys and signatures are spelled in one way, and
-//! that `verify` has one answer, an unread message aside, stands on `spelling_laws` and `verdict_laws`. No call takes
-//! memory.
+//! `verify` is Ok exactly for valid signatures, and else reports the first refusal; a message that can't be read is the
+//! exception. `verify_bytes_by` verifies a message in memory, `verify_digest_by` a digest; both take the way to climb
+//! chains, and one way needs little stack. `write_signature` writes the textbook signature, which is valid.
+//! `spelling_laws` says that keys and signatures have one spelling, `verdict_laws` that `verify` has one answer. No
+//! call allocates.
+//!
+//! The model is `specs/Key.antt` and `specs/Signature.antt`, the layouts; `specs/Verification.antt`, validity; and
+//! `specs/Writing.antt`, the textbook signature.
 //!
 //! ```rust
 //! use typecodes::Refusal;

@@ -6,7 +6,7 @@ ghost use Rattle.xmss.specs.Nodes.{join_of};
 use merkle::NodeHash;
 use wots_plus::{Address, Prf, rand_hash};
 
-/// What the nodes of a tree are made with: PRF under its SEED.
+/// PRF under a tree's SEED, with which its nodes are made.
 #[derive(Clone, Copy)]
 pub struct Nodes<'seed> {
     pub seed: &'seed Prf,

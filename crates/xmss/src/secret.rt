@@ -9,14 +9,12 @@ use typecodes::{Count, XmssSecret};
 use winternitz::lanes::LANES;
 use wots_plus::{Prf, Wots};
 
-/// The tree of a secret (RFC 8391 4.1.6), each leaf made of the ends of its one-time key's chains. As the
-/// secret it has no `Debug`.
+/// A secret's tree (RFC 8391 4.1.6), whose leaves are public hashes. It has no `Debug`, as it contains the secret.
 #[derive(Drop)]
 pub struct XmssTree {
     secret: XmssSecret,
-    // PRF under the secret's SEED.
     seed: Prf,
-    // How many leaves were made, for contracts alone.
+    // Leaves made so far, for contracts alone.
     made: Count,
     ghost seeded: { seed.key ≡ secret.public_seed },
 }
@@ -24,7 +22,7 @@ pub struct XmssTree {
 impl XmssTree {
     ghost use Rattle.xmss.specs.Secret.{leaves_made, secret_of};
 
-    /// The tree of a secret, of which no leaf was made yet.
+    /// A secret's tree, before any leaf is made.
     pub fn new(secret: XmssSecret) -> Self
         ensures secret { secret_of result ≡ secret }
         ensures made { leaves_made result ≡ 0 }
@@ -70,7 +68,7 @@ impl TreeHash for XmssTree {
     }
 }
 
-// A leaf more is made in each lane.
+// Counts a leaf for each lane.
 fn count_lanes(made: &mut Count)
     ensures { made.new ≡ made.old + lanes }
 {
@@ -79,7 +77,7 @@ fn count_lanes(made: &mut Count)
     }
 }
 
-// The numbers of leaves in a row, one for each lane.
+// Leaf numbers from `first` on, one for each lane.
 fn leaves_from(first: u32) -> [u32; LANES]
     requires { first + lanes ≤ 2 ^ 32 }
     ensures { (j : ℕ) → j < lanes → slice_index result j ≡ first + j }

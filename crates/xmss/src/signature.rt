@@ -12,7 +12,7 @@ ghost use Rattle.xmss.specs.Signature.{chains_in, signature, signature_with};
 
 use typecodes::{Cause, Cursor, ReadFault, WOTS_CHAINS, XmssType};
 
-/// A signature of one tree (RFC 8391 4.1.8), as a view of the bytes that spell it.
+/// A signature of one tree (RFC 8391 4.1.8), as a view of its bytes.
 #[derive(Clone, Copy, Debug)]
 pub struct XmssSigView<'a> {
     pub(crate) tree: XmssType,
@@ -36,9 +36,8 @@ pub struct XmssSigView<'a> {
 impl<'a> XmssSigView<'a> {
     ghost use Rattle.xmss.specs.View.{bytes_of, lent_of, signature_of, tree_of};
 
-    /// The signature of a type that the bytes spell, and no more: 2500, 2692 or 2820 bytes. Otherwise
-    /// their first fault (1, 4 or 5). An index that is no leaf of the tree is a fault before what
-    /// follows it is read.
+    /// Decodes a signature of a type, of exactly 2500, 2692 or 2820 bytes. Else the first fault (1, 4 or 5). A leaf's
+    /// index out of range is refused before the following fields are read.
     #[tactic(auto, using(crate::proofs::Fields::fields), unfolding(crate::specs::Signature::signature))]
     pub fn read(tree: XmssType, bytes: &'a [u8]) -> Result<Self, ReadFault>
         ensures reads { Reads (signature tree) signature_of bytes.entry.now result }
@@ -61,7 +60,7 @@ impl<'a> XmssSigView<'a> {
         })
     }
 
-    /// idx, its leaf.
+    /// idx, the leaf's number.
     pub fn index(&self) -> u32
         ensures value { result ≡ (signature_of self.now).index }
         ensures range { result ≡ big_number 4 (take 4 (bytes_of self.now)) }
@@ -70,7 +69,7 @@ impl<'a> XmssSigView<'a> {
         self.index
     }
 
-    /// r, the randomizer, 32 bytes from byte 4 on.
+    /// r, the randomizer: bytes 4 to 35.
     pub fn r(&self) -> &'a [u8; 32]
         ensures value { result.now ≡ (signature_of self.now).randomizer }
         ensures range { result.now ≡ take 32 (drop 4 (bytes_of self.now)) }
@@ -78,7 +77,7 @@ impl<'a> XmssSigView<'a> {
         self.randomizer
     }
 
-    /// The value of chain i, 32 bytes. The caller keeps i below the number of chains.
+    /// The value of chain i, 32 bytes. The caller keeps i below 67, the number of chains.
     pub fn chain(&self, i: u16) -> &'a [u8; 32]
         requires { i < wots_chains }
         ensures value { result.now ≡ slice_index_or (signature_of self.now).chains i [] }
@@ -87,7 +86,7 @@ impl<'a> XmssSigView<'a> {
         &self.chains[usize::from(i)]
     }
 
-    /// Node k of the path, that of height k, 32 bytes. The caller keeps k below the tree's height.
+    /// Node k of the authentication path, at height k, 32 bytes. The caller keeps k below the tree's height.
     pub fn node(&self, k: u8) -> &'a [u8; 32]
         requires { k < xmss_height_of (tree_of self.now) }
         ensures value { result.now ≡ slice_index_or (signature_of self.now).path k [] }
@@ -96,7 +95,7 @@ impl<'a> XmssSigView<'a> {
         &self.path[usize::from(k)]
     }
 
-    /// The bytes that spell the signature, and no others.
+    /// All bytes of the signature.
     pub fn bytes(&self) -> &'a [u8]
         ensures whole { result ≡ lent_of self.now }
         ensures spells { Spells (signature (tree_of self.now)) (signature_of self.now) result.now }
@@ -106,8 +105,7 @@ impl<'a> XmssSigView<'a> {
     }
 }
 
-// The index of a leaf of a tree at a cursor, a field of 4 bytes. Any other index is a fault. A fault leaves
-// the cursor where it is.
+// Reads idx, 4 bytes. An index that is no leaf's is a fault, and a fault leaves the cursor where it was.
 #[tactic(auto, using(crate::proofs::Fields::fields), unfolding(crate::specs::Signature::leaf_index))]
 fn leaf_index(cursor: &mut Cursor<'_>, tree: XmssType) -> Result<u32, ReadFault>
     requires { cursor.old.place + 4 < 2 ^ 32 }

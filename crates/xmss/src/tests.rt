@@ -60,7 +60,7 @@ fn keys_have_known_types(rt: HostRuntime) {
     }
 }
 
-// What the bytes are refused with, under a key of zeros.
+// The refusal of these bytes under a key of zeros.
 fn refusal(rt: &impl Abort, tree: XmssType, signature: &[u8]) -> Refusal {
     let key = XmssPublic {
         tree,
@@ -97,7 +97,7 @@ fn signatures_are_refused(rt: HostRuntime) {
     }
 }
 
-// The index 1024 is reported once it was read: alone, with what follows, and with a byte too many.
+// Index 1024 is refused as soon as it is read: alone, with what follows, and with a byte too many.
 #[test]
 fn indices_are_refused_at_once(rt: HostRuntime) {
     let mut bytes = [0; 2501];
@@ -113,8 +113,7 @@ fn indices_are_refused_at_once(rt: HostRuntime) {
     }
 }
 
-// Zeros of a type's length are a signature, and with one byte less they are none. Its last leaf is
-// read, and the one after it is none.
+// Zeros of a type's length are a signature, one byte less is none. The last leaf's index is read, the next one refused.
 fn assert_read(rt: &impl Abort, tree: XmssType, last: u32, zeros: &mut [u8]) -> Result<(), Fail> {
     let len = zeros.len();
     assert!(rt; 2500 <= len);
@@ -178,8 +177,8 @@ fn messages_have_digests(rt: HostRuntime) {
     assert_eq!(rt; digest, expected);
 }
 
-// A signature is verified, and refused of another message or with a changed byte of the index, r, a
-// chain's value or a node.
+// The signature verifies. It is refused for another message, and with a byte of the index, r, a value or a node
+// changed.
 fn assert_verified(
     rt: &impl Abort,
     public: &[u8; 68],
@@ -235,7 +234,7 @@ fn each_beginning_is_cut_in_a_field(rt: HostRuntime) -> Result<(), Fail> {
     Ok(())
 }
 
-// Under a changed root or SEED, and under the type of a higher tree.
+// A changed root, a changed SEED, and the type of a higher tree.
 #[test]
 fn other_keys_refuse(rt: HostRuntime) -> Result<(), Fail> {
     for (byte, code, refused) in [
@@ -256,7 +255,7 @@ fn other_keys_refuse(rt: HostRuntime) -> Result<(), Fail> {
     Ok(())
 }
 
-// Gives its bytes in pieces of this size. Its first read may be interrupted, after which it goes on.
+// A message in pieces of this size. Its first read may be interrupted.
 #[derive(Drop)]
 struct Pieces<'a> {
     left: &'a [u8],
@@ -305,7 +304,7 @@ fn pieces_lead_to_the_verdict_on_the_whole(rt: HostRuntime) -> Result<(), Fail> 
     Ok(())
 }
 
-// Long texts, too: 2^14 bytes are read at a time.
+// Long messages, too: reads ask for 2^14 bytes.
 #[test]
 fn pieces_have_the_digest_of_the_whole(rt: HostRuntime) {
     let mut text = [0; 33_000];
@@ -323,7 +322,7 @@ fn pieces_have_the_digest_of_the_whole(rt: HostRuntime) {
     }
 }
 
-// A message that gives nothing for ever is empty, and one that is interrupted can't be read.
+// A reader that never gives a byte is an empty message. One that is always interrupted can't be read.
 #[test]
 fn messages_without_bytes(rt: HostRuntime) -> Result<(), Fail> {
     let key = XmssPublic::read(&CASTLE_PUBLIC)?;
@@ -340,7 +339,7 @@ fn messages_without_bytes(rt: HostRuntime) -> Result<(), Fail> {
     Ok(())
 }
 
-// Gives so many zeros, and then fails.
+// Gives this many zeros, and then fails.
 #[derive(Drop)]
 struct Failing {
     left: usize,
@@ -358,7 +357,7 @@ impl Read for Failing {
     }
 }
 
-// A message that fails is reported before the root, and is as it was where the signature can't be read.
+// A failing message is reported before the root. Where the signature doesn't decode, the message isn't touched.
 #[test]
 fn failing_messages_are_reported(rt: HostRuntime) -> Result<(), Fail> {
     let public = XmssPublic::read(&CASTLE_PUBLIC)?;
@@ -379,7 +378,7 @@ fn failing_messages_are_reported(rt: HostRuntime) -> Result<(), Fail> {
     Ok(())
 }
 
-// Leaves of a tree from each of two on, one by one and in lanes.
+// The leaves from each of two on, one by one and in lanes.
 #[test]
 fn leaves_are_made_one_by_one_and_in_lanes(rt: HostRuntime) {
     let mut tree = XmssTree::new(XmssSecret {

@@ -14,11 +14,13 @@ use typecodes::{Message, Refusal};
 use winternitz::InLanes;
 use wots_plus::{Climbing, Wots};
 
-/// Verifies that the bytes of a signature sign the message under the key (RFC 8391 4.1.10).
+/// Verifies the signature of a message (RFC 8391 4.1.10). The first of these refusals is reported:
 ///
-/// The first refusal comes of: a fault of the signature's bytes, read as one of the key's type (1, 4
-/// or 5); a message that can't be read (14); another root than the key's (12, level 0). The message is any reader. It
-/// is read to its end, in pieces that aren't kept, where no fault comes first, and else left as it is.
+/// - 1, 4 or 5: the bytes don't decode as a signature of the key's type.
+/// - 14: the message can't be read.
+/// - 12, level 0: the root isn't the key's.
+///
+/// The message is read to its end, in pieces that aren't kept. It isn't touched where the signature doesn't decode.
 pub fn verify<M: Message>(
     public: &XmssPublic,
     message: &mut M,
@@ -34,7 +36,7 @@ pub fn verify<M: Message>(
     }
 }
 
-/// The same of a message in memory, whose reading can't fail, by a way to climb chains.
+/// `verify` of a message in memory, which can't fail to be read, with a way to climb chains.
 pub fn verify_bytes_by<C: Climbing>(
     climbing: &C,
     public: &XmssPublic,
@@ -52,8 +54,8 @@ pub fn verify_bytes_by<C: Climbing>(
     view.verify_digest(climbing, public, &digest)
 }
 
-/// The same of a message of which the digest is given: that of the bytes of `message_prefix` and the message after
-/// them (RFC 8391 4.1.9).
+/// `verify` of a message by its digest: the SHA-256 of the bytes of `message_prefix` and then of the message (RFC 8391
+/// 4.1.9).
 pub fn verify_digest_by<C: Climbing>(
     climbing: &C,
     public: &XmssPublic,
@@ -71,8 +73,8 @@ pub fn verify_digest_by<C: Climbing>(
     view.verify_digest(climbing, public, digest)
 }
 
-/// The 128 bytes that are hashed before the message: toByte(2, 32), r, the root and toByte(idx, 32) (RFC 8391 4.1.9).
-/// Refused is a fault of the signature's bytes (1, 4 or 5), as verification refuses any message.
+/// The 128 bytes that are hashed before the message: toByte(2, 32), r, the root and toByte(idx, 32) (RFC 8391 4.1.9). A
+/// signature that doesn't decode is refused (1, 4 or 5), as with any message.
 pub fn message_prefix(public: &XmssPublic, signature: &[u8]) -> Result<[u8; 128], Refusal>
     ensures ok { IfOk result (HasPrefix public.now signature.now) }
     ensures err { IfErr result (λ refusal. (message : List ℕ)
@@ -89,7 +91,7 @@ pub fn message_prefix(public: &XmssPublic, signature: &[u8]) -> Result<[u8; 128]
 }
 
 impl XmssSigView<'_> {
-    // Whether the signature of a digest leads to the key's root (RFC 8391 4.1.10).
+    // Whether the signature of this digest leads to the key's root.
     fn verify_digest<C: Climbing>(
         &self,
         climbing: &C,
@@ -107,7 +109,7 @@ impl XmssSigView<'_> {
     }
 }
 
-// The root to which a signature of a digest leads, and no other (RFC 8391 4.1.10, algorithm 13).
+// The one root that a digest's signature leads to (RFC 8391 4.1.10, algorithm 13).
 fn candidate<C: Climbing>(
     climbing: &C,
     public: &XmssPublic,

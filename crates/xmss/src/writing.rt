@@ -17,7 +17,7 @@ use wots_plus::{Prf, Wots};
 pub fn write_public(public: &XmssPublic, into: &mut [u8])
     requires { length into.old ≡ 68 }
     ensures bytes { into.new ≡ public_bytes public.now }
-    // They spell the key.
+    // The bytes spell the key.
     ensures spells { Spells public_key public.now into.new }
 {
     let offset = put(into, 0, &public.tree.code().to_be_bytes());
@@ -25,9 +25,8 @@ pub fn write_public(public: &XmssPublic, into: &mut [u8])
     put(into, offset, &public.seed);
 }
 
-/// Writes the signature of the digest M' by a leaf, with the leaf's randomizer and its authentication
-/// path (RFC 8391 4.1.9): 2500, 2692 or 2820 bytes by the type. The caller keeps the leaf below `2^h`,
-/// and gives h nodes and as many bytes as the signature has.
+/// Writes a leaf's signature of the digest M' (RFC 8391 4.1.9): 2500, 2692 or 2820 bytes by the type. The caller keeps
+/// the leaf below `2^h`, and gives the leaf's randomizer, its path of h nodes, and just that room.
 pub fn write_signature(
     secret: &XmssSecret,
     leaf: u32,
@@ -41,12 +40,12 @@ pub fn write_signature(
     requires path { length path.now ≡ xmss_height_of secret.now.tree }
     requires room { length into.old ≡ xmss_signature_len_of secret.now.tree }
     ensures bytes { into.new ≡ signature_bytes (signed secret.now leaf digest.now path.now) }
-    // They spell the signature.
+    // The bytes spell the signature.
     ensures spells { Spells (signature secret.now.tree) (signed secret.now leaf digest.now path.now) into.new }
-    // Where the path is the leaf's, it is the textbook signature.
+    // With the leaf's own path it is the textbook signature.
     ensures textbook { path.now ≡ path_in secret.now leaf →
         into.new ≡ signature_bytes (textbook secret.now leaf digest.now) }
-    // Where the digest is a message's and the path is the leaf's, the signature is valid.
+    // With the leaf's own path and the digest of a message, it is valid for the message.
     ensures valid { (message : List ℕ) →
         digest.now ≡ digest_in secret.now (root_in secret.now) leaf message →
         path.now ≡ path_in secret.now leaf →

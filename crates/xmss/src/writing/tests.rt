@@ -1,5 +1,4 @@
-//! The key of a secret and its leaf 700's signature are those that Python's hashlib gives, byte for
-//! byte, and the signature is verified.
+//! A secret's key and its leaf 700's signature are byte for byte those of Python's hashlib, and the signature verifies.
 
 use crate::{
     XmssPublic, XmssTree, digest_to_sign, randomizer, verify, write_public, write_signature,
@@ -53,8 +52,7 @@ const SIGNATURE: [u8; 32] = [
     0x97, 0x95, 0xa2, 0x86, 0x86, 0xc5, 0xf8, 0x88, 0x20, 0x20, 0x2b, 0xcf, 0x49, 0x40, 0x7b, 0x3b,
 ];
 
-// The root, by a path and by all leaves, the randomizer and the digest are those expected, and the bytes of the key and
-// of the signature have the expected digests.
+// Root (by a path and by all leaves), randomizer and digest are as expected. So are the SHA-256 of key and signature.
 #[test]
 fn rising_bytes(rt: HostRuntime) {
     let mut tree = XmssTree::new(SECRET);

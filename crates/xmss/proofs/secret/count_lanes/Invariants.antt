@@ -1,4 +1,4 @@
--- The leaves of the lanes so far are counted.
+-- The lanes so far are counted.
 use Rattle.std.proofs.Common.{◌≡◌, ◌+◌}
 use Rattle.xmss.proofs.secret.count_lanes.Given as goal
 

@@ -1,4 +1,4 @@
--- The numbers of the lanes so far.
+-- The lanes so far have their numbers.
 use Rattle.std.proofs.Common.{◌≡◌, ℕ, ◌<◌, ◌+◌, length, slice_index}
 use Rattle.winternitz.specs.Lanes.{lanes}
 use Rattle.xmss.proofs.secret.leaves_from.Given as goal

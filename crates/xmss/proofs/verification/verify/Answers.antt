@@ -6,7 +6,7 @@ use Rattle.xmss.proofs.Verdicts.{leaves_of_digest, verdict_of_digest}
 use Rattle.xmss.proofs.Verifying.{is_read}
 use Rattle.xmss.proofs.verification.verify.Goals as goal
 
--- the tree of the signature that was read is the key's
+-- the view has the key's type
 pub verify_digest-requires : goal.verify_digest-requires
 verify_digest-requires g c =
     let read = is_read _ c.args.public.now _ c.read.result _ _ c.read.ensures.reads c.read.ensures.tree c.in_ok-view.ensures.cases (λ _ never. never) in
@@ -30,7 +30,7 @@ returns-in-Ok g c =
       leaves_of_digest _ _ _ _ _ _ _ _ c.verify_digest.result c.verify_digest.ensures whole,
     )
 
--- it can't be read
+-- the message can't be read
 pub returns-in-Err : goal.returns-in-Err
 returns-in-Err g c =
     let read = is_read _ c.args.public.now _ c.read.result _ _ c.read.ensures.reads c.read.ensures.tree c.in_ok-view.ensures.cases (λ _ never. never) in

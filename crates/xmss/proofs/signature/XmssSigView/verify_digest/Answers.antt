@@ -6,7 +6,7 @@ use Rattle.xmss.specs.Verification.{LeadsTo}
 use Rattle.xmss.specs.View.{signature_of}
 use Rattle.xmss.proofs.signature.XmssSigView.verify_digest.Goals as goal
 
--- the root is the key's: the signature is valid
+-- the root is the key's, so the signature is valid
 pub returns-then-eq : goal.returns-then-eq
 returns-then-eq g c =
     let view = c.args.self.now in
@@ -19,7 +19,7 @@ returns-then-eq g c =
       leads = subst (LeadsTo key c.args.digest.now (signature_of view)) (decides.0 c.if-eq.true) c.candidate.ensures.leads;
     }
 
--- it is another: a valid signature would lead to the key's
+-- it is another, and a valid signature leads to the key's alone
 pub returns-else-eq : goal.returns-else-eq
 returns-else-eq g c =
     let decides = slice_eq-Decides Decides-eqb _ _ _ c.eq.ensures in
