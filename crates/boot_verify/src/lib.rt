@@ -20,6 +20,7 @@ use crate::key::Key;
 
 /// 0 where the signature is valid for the message under the public key (RFC 8554 5.4.2 and 6.3, RFC 8391 4.1.10). The
 /// key's length names its scheme. Else the first refusal, the key's before the signature's:
+///
 /// - of the key: 6 with its length; 1, 2, 3 or 5 with a place.
 /// - of the signature: 1 to 5 with a place; 10 with a level; 11; 12 with a level.
 #[unsafe(no_mangle)]
