@@ -1,4 +1,4 @@
--- What the ends of an audit come to.
+-- What an audit answers at each of its ends.
 use Rattle.std.proofs.Common.{◌≡◌, ℕ, ◌-◌, ◌<◌, ◌⊎◌, inl, inr, Bool, false, List, [], ◌∷◌, length, Some, None, Ok, Err, Option, Result}
 use Rattle.std.proofs.Common.{refl, sym, ap, ◌∙◌, subst, arith, IsTrue, true≢false}
 use Rattle.std.proofs.lemmas.Option.{slice_get_within}
@@ -28,7 +28,7 @@ some_legal records legal = slice_get_within records 0 (KeyRecord legal.key) lega
 
 -- ---- tags
 
--- tags of one kind are tags of another
+-- tags in one sense are tags in another
 tagged_along : (A B : ℕ → List ℕ → Type 0) (records : List Record) (anchor : Option Anchor)
     → ((k : ℕ) (tag : List ℕ) → k < length records → A k tag → B k tag) → IsWithin anchor records → IsTagged A anchor → IsTagged B anchor
 tagged_along A B records None along within are = tt
@@ -50,7 +50,7 @@ tags_along A B honest records anchor (Err DeviceFailed) along back judges are = 
 tags_along A B honest records anchor (Err OutOfMemory) along back judges are = tt
 tags_along A B honest records anchor (Err AnchorCount) along back judges are = tt
 
--- where an answer says something of tags, there are records
+-- an answer that says something of tags has records
 some_or_nothing : (honest : Bool) (records : List Record) (anchor : Option Anchor) (answer : Result Report AuditFault) → Judges honest records anchor answer
     → ((0 < length records) × (is_fault is_stopped answer ≡ false)) ⊎ ((A : ℕ → List ℕ → Type 0) → AreTags A anchor answer)
 some_or_nothing honest records anchor (Ok report) judges = inl (some_legal records judges.0, refl)
@@ -70,7 +70,7 @@ spells_some (entry ∷ entries) content some stands = stands
 
 -- ---- judgements
 
--- without an anchor nothing is refused for one
+-- a refusal without an anchor is one with any
 judged_alike : (honest : Bool) (records : List Record) (anchor : Option Anchor) (fault : AuditFault) → Judges honest records None (Err fault)
     → Judges honest records anchor (Err fault) × ((A : ℕ → List ℕ → Type 0) → AreTags A anchor (Err fault))
 judged_alike honest records anchor Stopped judges = (tt, λ A. tt)
@@ -82,7 +82,7 @@ judged_alike honest records anchor OutOfMemory judges = (judges, λ A. tt)
 judged_alike honest records anchor AnchorCount judges = absurd judges.1
 judged_alike honest records anchor AnchorTag judges = absurd (true≢false (sym judges.1))
 
--- as many records
+-- equal lengths fit an anchor alike
 within_alike : (a b : List Record) (anchor : Option Anchor) → length a ≡ length b → IsWithin anchor a → IsWithin anchor b
 within_alike a b None same within = tt
 within_alike a b (Some anchor) same within = (within.0, omega (arith, within.1, same))
@@ -92,7 +92,7 @@ beyond_alike a b None same beyond = beyond
 beyond_alike a b (Some anchor) same (inl none) = inl none
 beyond_alike a b (Some anchor) same (inr few) = inr (omega (arith, few, same))
 
--- an anchor that isn't fitted
+-- an anchor that doesn't fit
 judged_anchor : (A : ℕ → List ℕ → Type 0) (honest kept : Bool) (list records : List Record) (anchor : Option Anchor) (fault : AuditFault) → IsLegal records
     → length list ≡ length records → FitsAnchor A kept list anchor (Err fault)
     → Judges honest records anchor (Err fault)
@@ -122,7 +122,7 @@ judged_tag A honest kept records anchor k (Illegal place) gives = absurd gives
 judged_tag A honest kept records anchor k OutOfMemory gives = absurd gives
 
 module _ {D : Type 0} (d : disk.Ghosts D) where
-  -- that an honest disk gives bytes
+  -- an honest disk gives bytes
   abbrev pub GivesBytes : Type 0
   GivesBytes = (on : D) → IsTrue (d.honest on) → AreBytes (d.state on).content
 
@@ -164,7 +164,7 @@ module _ {D : Type 0} (d : disk.Ghosts D) where
     ];
   }
 
-  -- a refusal, whatever an Ok would give
+  -- a refusal doesn't depend on what Ok would give
   pub refused_alike : {A B : Type 0} (old new : FileStore D d) (fault : AuditFault) → ReadsStore {A = A} d old new (Err fault)
       → ReadsStore {A = B} d old new (Err fault)
   refused_alike old new fault reads = record {
@@ -177,7 +177,7 @@ module _ {D : Type 0} (d : disk.Ghosts D) where
     unreadable = reads.unreadable;
   }
 
-  -- tags of slots that stay
+  -- slots of an unchanged store keep their tags
   same_tags : (old mid : FileStore D d) → IsUnchanged d old mid → has_stopped old ≡ false → IsTrue (d.honest (disk_of old)) → (k : ℕ) (tag : List ℕ)
       → IsSlotTag d (disk_of old) k tag → IsSlotTag d (disk_of mid) k tag
   same_tags old mid kept running honest k tag is = is ∙ ap (λ (s : DiskState). tag_at s.content k) (sym (kept.reads honest running).stays)
@@ -186,7 +186,7 @@ module _ {D : Type 0} (d : disk.Ghosts D) where
       (tag : List ℕ) → IsSlotTag d (disk_of mid) k tag → IsSlotTag d (disk_of old) k tag
   same_tags_back old mid kept running honest k tag is = is ∙ ap (λ (s : DiskState). tag_at s.content k) (kept.reads honest running).stays
 
-  -- the records weren't loaded, or aren't those of a key
+  -- the records weren't loaded, or aren't a key's
   pub no_ledger : {A : Type 0} → GivesBytes → (old new : FileStore D d) (anchor : Option Anchor) (fault : AuditFault) → ReadsStore {A = A} d old new (Err fault)
       → IsNoLedger (d.honest (disk_of old)) (records_of old) fault → Audits d old new anchor (Err fault)
   no_ledger gives_bytes old new anchor fault reads (loaded, are, judges) =

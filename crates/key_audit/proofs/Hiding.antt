@@ -1,4 +1,4 @@
--- What is secret in records has no part in what they show.
+-- What records show doesn't depend on their secrets.
 use Rattle.std.proofs.Common.{◌≡◌, ◌∙◌, ℕ, zero, suc, ◌+◌, ◌-◌, Bool, List, [], ◌∷◌, Option, Some, None, refl, ap, ap₂, sym, map, take}
 use Rattle.std.specs.Prelude.{option_map, fold, max, if◌then◌else◌, is_some}
 use Rattle.std.specs.List.{range_with_len}

@@ -30,7 +30,7 @@ never-fails : (outcomes : List ReadOutcome) (kind : ErrorKind) (old new : InMemo
 never-fails [] kind old new (next, (bytes, is, split), end) = err-never kind bytes is
 never-fails (first ∷ later) kind old new (next, step, rest) = never-fails later kind next new rest
 
--- they give no more than there is
+-- reads give no more than there is
 gives : (outcomes : List ReadOutcome) (text : List ℕ) (old new : InMemory) → Transitions GivesNext outcomes old new → Gave outcomes text
     → length text ≤ length old.rest.now
 gives [] text old new end gave = omega (arith, ap length gave)
@@ -42,14 +42,14 @@ gives (Ok read ∷ later) text old new (next, (bytes, is, split), rest) (some, (
     omega (arith, sum, all, fewer, ap length same)
 gives (Err kind ∷ later) text old new steps never = absurd never
 
--- it can't be read only where it is as long
+-- only a message of 2^60 bytes or more can't be read
 cant : (old new : InMemory) → CantBeRead GivesNext old new → 2 ^ 60 ≤ length old.rest.now
 cant old new (inl (kind, text, (outcomes, steps, gave))) = absurd (never-fails outcomes kind old new steps)
 cant old new (inr (text, (outcomes, steps, gave), much)) = let fewer = gives outcomes text old new steps gave in omega (arith, much, fewer)
 
 -- ---- what it was answered
 
--- A message that can't be read was left so.
+-- A message that can't be read was so before.
 left-unread : (A : Type 0) (public : AnyPublic) (text : List ℕ) (old new : InMemory) → KeyLeavesMessage {A = A} GivesNext rest_of public text old new (Err MessageRead)
     → CantBeRead GivesNext old new
 left-unread A (Lms key) text old new leaves = leaves
@@ -67,7 +67,7 @@ same-answer (Lms key) text bytes x verdict = verdict
 same-answer (Hss key) text bytes x verdict = verdict
 same-answer (Xmss key) text bytes x verdict = verdict
 
--- a valid signature is refused by nothing else
+-- a valid signature is refused for no other reason
 only-unread : (public : AnyPublic) (text bytes : List ℕ) (result : Result (Unit {0}) Refusal) → KeyVerdict public text bytes result
     → result ≢ Err MessageRead → IsValidUnder public text bytes → IsOk result
 only-unread (Lms key) text bytes result verdict read (s, spelled, valid) = lms_accepted key text bytes result verdict read s spelled valid

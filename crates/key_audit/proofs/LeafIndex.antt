@@ -1,4 +1,4 @@
--- What is kept of leaves, once one more use is added, and the least place of another digest.
+-- What is kept of leaves after one more use, and the least place with another digest.
 use Rattle.std.proofs.Common.{◌≡◌, ◌⊎◌, ◌∙◌, inl, inr, ℕ, ◌+◌, ◌<◌, ◌≤◌, Bool, true, false, List, [], ◌∷◌, ◌++◌, length, take, get_or, Option, Some, None}
 use Rattle.std.proofs.Common.{refl, sym, ap, subst, arith, true≢false}
 use Rattle.std.specs.Prelude.{◌≢◌, Contains, map, min}
@@ -63,12 +63,12 @@ pub record AreAddedTo (place : ℕ) (before after : List UseAt) (entries : ByTex
   pub up_to : AreUpTo place (Contains after)
   pub kept : AreKept (Contains after) entries
 
--- To whatever was kept these uses at a place were added.
+-- The uses of one signature were added to whatever was kept.
 abbrev pub AreAdded : (place : ℕ) → List LeafUse → (old new : ByText FirstUse) → Type 0
 AreAdded place uses old new = (before : List UseAt) → AreUpTo place (Contains before) → AreKept (Contains before) old
     → AreAddedTo place before (before ++ map (use_at place) uses) new
 
--- what one more use of a leaf leaves of it
+-- what one more use changes for its leaf
 push_here : (before : List UseAt) (place : ℕ) (used : LeafUse) (o : Option FirstUse) → AreUpTo place (Contains before)
     → IsKept (Contains before) used.leaf o
     → IsFirstUse (Contains (before ++ use_at place used ∷ [])) used.leaf (with_use o place used.digest)
@@ -116,7 +116,7 @@ push_here before place used (Some first) low kept = record {
     λ same. true≢false (sym ((bytes_decides first.digest used.digest).1 (sym same)) ∙ differs),
   )
 
--- and of another leaf
+-- for another leaf, nothing
 push_elsewhere : (before : List UseAt) (place : ℕ) (used : LeafUse) (leaf : List ℕ) (o : Option FirstUse) → leaf ≢ used.leaf
     → IsKept (Contains before) leaf o → IsKept (Contains (before ++ use_at place used ∷ [])) leaf o
 push_elsewhere before place used leaf None apart kept = λ x has same. elim (Contains-push_cases before (use_at place used) x has) [

@@ -1,4 +1,4 @@
--- The uses of a signature, level by level.
+-- A signature's uses, level by level.
 use Rattle.std.proofs.Common.{◌≡◌, ◌∙◌, ℕ, ◌+◌, ◌≤◌, List, [], ◌∷◌, ◌++◌, length, refl, sym, ap, subst, arith}
 use Rattle.std.specs.Prelude.{map}
 use Rattle.std.specs.List.{range_with_len}
@@ -19,13 +19,13 @@ use Rattle.sign_core.specs.Uses.{LeafUse as Use, lms_use}
 use Rattle.key_audit.specs.declared.uses.LeafUse.{LeafUse}
 use Rattle.key_audit.specs.inner.Uses.{AreUsesOf, hss_use_at, kept_use, xmss_use}
 
--- The uses of the levels above one, and the key of this one.
+-- The uses of the levels above `level`, and its key.
 pub record AreAbove (top : LmsPublic) (message : List ℕ) (s : Signature) (level : ℕ) (uses : List LeafUse) (key : LmsPublic) : Type 0 where
   pub items : uses ≡ map (hss_use_at top message s) (range_with_len 0 level)
   pub key_is : key ≡ key_at top s level
   pub within : level ≤ length s.signed
 
--- the use of a level, by what stands there
+-- a level's use, by its key, its message and its signature
 pub level_use : (top : LmsPublic) (message : List ℕ) (s : Signature) (level : ℕ) (key : LmsPublic) (bytes : List ℕ) (own : LmsSignature)
     → key ≡ key_at top s level → bytes ≡ message_at message s level → own ≡ signature_at s level
     → kept_use (lms_use key bytes own) ≡ hss_use_at top message s level

@@ -1,4 +1,4 @@
--- Records that are listed, and names that are counted, one after the other.
+-- Records listed, and names counted, one after the other.
 use Rattle.std.proofs.Common.{◌≡◌, ◌∙◌, ◌+◌, ◌<◌, ◌≤◌, ℕ, List, [], ◌∷◌, ◌++◌, length, map, take, get_or, ap, sym, subst, arith, refl}
 use Rattle.std.proofs.lemmas.List.{map_more, take_more}
 use Rattle.state_file.specs.declared.record.Record.{Record}

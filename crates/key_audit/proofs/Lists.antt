@@ -1,4 +1,4 @@
--- What the ends of a listing come to.
+-- What a listing answers at each of its ends.
 use Rattle.std.proofs.Common.{◌≡◌, ℕ, Bool, false, List, [], ◌∷◌, length, Some, None, Ok, Err, Option, Result, refl, sym, ap, ◌∙◌, map}
 use Rattle.std.specs.Prelude.{option_map}
 use Rattle.state_file.specs.declared.disk.Disk as disk
@@ -41,7 +41,7 @@ pub shown_so : (records : List Record) (key : Key) (listing : Listing) → key_i
 shown_so records key listing is spec version left entries =
     ap (option_map (shown_of records)) is ∙ rw (spec, version, left, entries) refl
 
--- why records weren't loaded is why they are refused
+-- records that weren't loaded are refused for the same reason
 stops_judged : (honest : Bool) (list : List Record) (fault : AuditFault) → StopsLoading honest list fault → Judges honest list None (Err fault)
 stops_judged honest list Stopped stops = tt
 stops_judged honest list (Damaged k) stops = stops
@@ -52,7 +52,7 @@ stops_judged honest list (Illegal k) stops = absurd stops
 stops_judged honest list AnchorCount stops = absurd stops
 stops_judged honest list AnchorTag stops = absurd stops
 
--- what is answered to records that were loaded is no failure of the disk
+-- The answer to loaded records is no failure of the disk.
 record IsNoFailure (answer : Result Listing AuditFault) : Type 0 where
   pub not_stopped : is_fault is_stopped answer ≡ false
   pub not_failed : is_fault is_device_failed answer ≡ false

@@ -1,4 +1,4 @@
--- What calls that read a store come to, one after the other.
+-- What several reads of a store do, one after the other.
 use Rattle.std.proofs.Common.{◌≡◌, ℕ, suc, ◌+◌, ◌<◌, ◌≤◌, Bool, true, false, List, [], ◌∷◌, ◌++◌, length, Some, Ok, Result, refl, sym}
 use Rattle.std.proofs.Common.{ap, ◌∙◌, subst, arith, IsTrue, true≢false, take, ◌||◌}
 use Rattle.std.proofs.lemmas.List.{take_all}
@@ -17,7 +17,7 @@ use Rattle.key_audit.specs.declared.report.AuditFault.{AuditFault}
 use Rattle.key_audit.specs.Audit.{ReadsStore, is_device_failed, is_fault, is_stopped, unreadable_slot}
 use Rattle.key_audit.specs.inner.Loading.{AreLoaded, LoadsSlot}
 
--- Calls that didn't fail left all of a store as it was.
+-- Calls that didn't fail left the whole store as it was.
 pub record IsUnchanged {D : Type 0} (d : disk.Ghosts D) (old now : FileStore D d) : Type 0 where
   pub records : records_of now ≡ records_of old
   pub reads : WhileStoreRuns d old (OnlyReads d.state d.moment d.left_since (disk_of old) (disk_of now))
@@ -29,7 +29,7 @@ pub record IsUnchanged {D : Type 0} (d : disk.Ghosts D) (old now : FileStore D d
   pub unreadable : unreadable_of now ≡ unreadable_of old
 
 module _ {D : Type 0} (d : disk.Ghosts D) where
-  -- that since this moment there is no other
+  -- since this moment nothing else may be left
   abbrev pub OnlyNow : FileStore D d → Type 0
   OnlyNow store = (c : List ℕ) → IsTrue (d.honest (disk_of store)) → d.left_since (disk_of store) (d.moment (disk_of store)) c
       → MayLeave (d.state (disk_of store)) c
@@ -49,7 +49,7 @@ module _ {D : Type 0} (d : disk.Ghosts D) where
     unreadable = refl;
   }
 
-  -- what is left of the same state
+  -- so two reads leave what one leaves
   only_more : (old mid new : D) → OnlyReads d.state d.moment d.left_since old mid → OnlyReads d.state d.moment d.left_since mid new
       → OnlyReads d.state d.moment d.left_since old new
   only_more old mid new first second = record {
@@ -110,7 +110,7 @@ module _ {D : Type 0} (d : disk.Ghosts D) where
 
   -- ---- the records of a store
 
-  -- Its first k records were loaded, and nothing failed.
+  -- The first k records were loaded, and nothing failed.
   pub record HasLoaded (old now : FileStore D d) (records : List Record) (k : ℕ) : Type 0 where
     pub kept : IsUnchanged d old now
     pub long : length records ≡ k
@@ -145,7 +145,7 @@ module _ {D : Type 0} (d : disk.Ghosts D) where
     running = λ some. sym is.kept.stopped ∙ loads.store.was_stopped;
   }
 
-  -- the end
+  -- all were loaded
   pub all_loaded : (old now : FileStore D d) (records : List Record) (k : ℕ) → HasLoaded old now records k → length (records_of old) ≤ k
       → AreLoaded (d.honest (disk_of old)) (records_of old) records
   all_loaded old now records k is end = record {

@@ -1,4 +1,4 @@
--- The tags of a content's slots are those of its records.
+-- The tags of a content's slots are its records'.
 use Rattle.std.proofs.Common.{◌≡◌, ℕ, zero, suc, ◌+◌, ◌*◌, ◌<◌, List, [], ◌∷◌, ◌++◌, length, take, drop, refl, sym, ap₂, subst, ◌∙◌, arith}
 use Rattle.std.proofs.lemmas.Option.{same_Some}
 use Rattle.typecodes.specs.Layout.{AreBytes, Spells}
@@ -44,7 +44,7 @@ tag_before content records (suc k) are spells inside =
       holds.tagged,
     )
 
--- a list that goes on has the same version
+-- a longer list has the same version
 spelled_on : (records more : List Record) (k : ℕ) (entry : Record) (fields : List ℕ) → slice_get records k ≡ Some entry → Spells (slot_record (version_in records)) entry fields
     → Spells (slot_record (version_in (records ++ more))) entry fields
 spelled_on [] more k entry fields at spelled = absurd cc

@@ -1,4 +1,4 @@
--- Given signatures that use one leaf twice, by what is kept of the leaves that those before used.
+-- Given signatures that use one leaf twice, by what the index keeps of those before.
 use Rattle.std.proofs.Common.{◌≡◌, ◌⊎◌, ◌∙◌, inl, inr, ℕ, zero, suc, ◌+◌, ◌^◌, ◌<◌, ◌≤◌, Bool, true, false, cond, ◌&&◌, List, [], ◌∷◌, ◌++◌, length, take, get_or, drop, Option, Some, None, Result, Ok, Err, is_err}
 use Rattle.std.proofs.Common.{refl, sym, ap, ap₂, subst, arith, true≢false}
 use Rattle.std.specs.Prelude.{◌≢◌, Contains, OnOk, map, slice_get}
@@ -50,7 +50,7 @@ Contains-only x y has = elim (Contains-push_cases [] x y has) [
 Contains-map : {X Y : Type 0} (f : X → Y) (xs : List X) (x : X) → Contains xs x → Contains (map f xs) (f x)
 Contains-map f xs x (k, below, is) = (k, omega (arith, below, length-map xs f), get_or-map f xs k x (f x) below ∙ ap f is)
 
--- what stands in a list made of another was made of an item of it
+-- an item of a mapped list was made from an item
 Contains-made : {X Y : Type 0} (f : X → Y) (xs : List X) (y : Y) → Contains (map f xs) y → (x : X) × Contains xs x × (f x ≡ y)
 Contains-made f [] y has = absurd (Contains-none y has)
 Contains-made f (x ∷ xs) y (zero, below, is) = (x, (0, omega arith, refl), is)
@@ -101,7 +101,7 @@ xmss_most xmss.H10 = omega arith
 xmss_most xmss.H16 = omega arith
 xmss_most xmss.H20 = omega arith
 
--- a leaf that a valid signature uses has a number of 4 bytes
+-- a valid signature's leaf has a number of 4 bytes
 small_use : (public : AnyPublic) (given : Given) (u : Use) → IsValidGiven public given → Uses public given u → u.leaf < 2 ^ 32
 small_use (Lms key) given u valid (uses, (s, spelled, are), has) =
     let (t, t_spelled, ok) = valid.verifies in
@@ -131,7 +131,7 @@ small_use (Xmss key) given u valid (uses, (s, spelled, are), has) =
 number_back : (u : Use) → u.leaf < 2 ^ 32 → big_number 4 (take 4 (leaf_bytes u)) ≡ u.leaf
 number_back u small = big_number-reads_back 4 u.leaf [] small
 
--- leaves that are named by the same bytes are one
+-- the same bytes name the same leaf
 one_leaf : (public : AnyPublic) (a b : Given) (u v : Use) → IsValidGiven public a → IsValidGiven public b → Uses public a u → Uses public b v
     → leaf_bytes u ≡ leaf_bytes v → IsOneLeaf u v
 one_leaf public a b u v a_valid b_valid by_a by_b same = record {
@@ -155,7 +155,7 @@ pub record IsUsedBefore (public : AnyPublic) (given : List Given) (n : ℕ) (x :
   pub leaf : x.leaf ≡ leaf_bytes used
   pub digest : x.digest ≡ used.digest
 
--- What is kept of leaves is right for those that the signatures before place n use, and none of them use one twice.
+-- The index is right for the signatures before place n, none of which share a leaf for different digests.
 pub record Indexed (public : AnyPublic) (given : List Given) (n : ℕ) (entries : ByText FirstUse) : Type 0 where
   pub log : List UseAt
   pub sound : (x : UseAt) → Contains log x → IsUsedBefore public given n x
@@ -172,7 +172,7 @@ index_empty public given entries kept = record {
   none = λ i j apart below other twice. absurd (omega (arith, below));
 }
 
--- the use of one that stands at a place, as it is kept
+-- the use of the signature at a place, as it is kept
 use_of : ℕ → Use → UseAt
 use_of i u = record { place = i; leaf = leaf_bytes u; digest = u.digest }
 
@@ -197,7 +197,7 @@ swapped public given i j two = record {
   };
 }
 
--- two uses of one leaf for different digests come from one signature
+-- two uses of one leaf for different digests are of one signature
 same_place : (public : AnyPublic) (given : List Given) (n : ℕ) (x y : UseAt) → AreValid public given → NoneTwice public given n
     → IsUsedBefore public given n x → IsUsedBefore public given n y → x.leaf ≡ y.leaf → x.digest ≢ y.digest → x.place ≡ y.place
 same_place public given n x y valid none of_x of_y leaf differs = elim (cases_eq x.place y.place) [
@@ -232,7 +232,7 @@ seen P leaf digest (Some first) x kept has same differs = by (first.is_only && a
       absurd (differs (kept.alike only x has same ∙ (bytes_decides first.digest digest).0 alike))
   by false is = (first.place, ap (λ b. cond b None (Some first.place)) is, kept.least x has same)
 
--- and what is seen is one
+-- A use for another digest, as it is seen.
 pub record IsOther (P : UseAt → Type 0) (leaf digest : List ℕ) (i : ℕ) : Type 0 where
   pub x : UseAt
   pub has : P x
@@ -271,7 +271,7 @@ is_other P leaf digest (Some first) i kept one at = by (first.is_only && are_sam
 
 -- ---- the signature at place n
 
--- a use of it is among those that are kept of it
+-- a signature's use is among its kept ones
 kept_among : (public : AnyPublic) (each : Given) (uses : List LeafUse) (u : Use) → AreUsesOf public each.message.items each.signature.items uses
     → Uses public each u → Contains uses (kept_use u)
 kept_among public each uses u (us, makes, are) (vs, makes_too, has) =
@@ -283,7 +283,7 @@ among_kept : (public : AnyPublic) (each : Given) (uses : List LeafUse) (k : Leaf
 among_kept public each uses k (us, makes, are) has =
     let (u, in_us, is) = Contains-made kept_use us k (subst (λ l. Contains l k) are has) in (u, (us, makes, in_us), is)
 
--- an earlier one that uses a leaf of it for another digest is seen
+-- an earlier signature that shares a leaf is seen
 twice_seen : (public : AnyPublic) (given : List Given) (n i : ℕ) (each : Given) (uses : List LeafUse) (entries : ByText FirstUse)
     → Indexed public given n entries → slice_get given n ≡ Some each → AreUsesOf public each.message.items each.signature.items uses
     → i < n → IsTwice public given i n

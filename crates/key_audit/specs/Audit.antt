@@ -1,5 +1,4 @@
--- What an audit of a state file answers: what its records say of the key, and whether they fit an anchor, which is how
--- many records there once were and the tag of the last of them.
+-- What an audit of a state file answers: what its records say of the key, and whether they fit an anchor.
 use Rattle.std.specs.Prelude.{◌≡◌, ◌⊎◌, ℕ, ◌-◌, ◌<◌, ◌≤◌, Bool, true, false, ◌||◌, IsTrue, List, [], ◌∷◌, ◌++◌}
 use Rattle.std.specs.Prelude.{length, take, Option, Some, None, IsSome, Result, Ok, Err, if◌then◌else◌}
 use Rattle.state_file.specs.declared.disk.Disk as disk
@@ -21,7 +20,6 @@ use Rattle.key_audit.specs.declared.report.AuditFault.TheVariants.{OutOfMemory, 
 use Rattle.key_audit.specs.declared.report.Report.{Report}
 use Rattle.key_audit.specs.Tags.{IsTag}
 
--- the number that reports a fault
 abbrev pub audit_number : AuditFault → ℕ
 audit_number Stopped = 26
 audit_number NoKey = 40
@@ -42,15 +40,14 @@ abbrev pub is_device_failed : AuditFault → Bool
 is_device_failed DeviceFailed = true
 is_device_failed _ = false
 
--- the slot that an answer 43 names
+-- the slot that answer 43 names
 abbrev pub unreadable_slot : AuditFault → List ℕ
 unreadable_slot (Damaged k) = k ∷ []
 unreadable_slot _ = []
 
--- A store is read, and nothing else. Its records stay, and where its disk is honest so does what a read of it gives, at
--- every moment. Each failure of the disk is counted and answered (45), and the store has stopped from then on. One that
--- had stopped answers so (26), and is as it was. The slots that it has reported as unreadable grow by k where the
--- answer is 43 of k, and by none else.
+-- Only reads: the store's records stay, and where the disk is honest its content, at every moment. Each failure of the
+-- disk is counted and answered by 45, and stops the store. A store that had stopped answers 26, unchanged. The list of
+-- unreadable slots grows by k at answer 43 of k, else it stays.
 pub record ReadsStore {D A : Type 0} (d : disk.Ghosts D) (old new : FileStore D d) (answer : Result A AuditFault)
     : Type 0 where
   pub records : records_of new ≡ records_of old
@@ -63,12 +60,12 @@ pub record ReadsStore {D A : Type 0} (d : disk.Ghosts D) (old new : FileStore D 
 
 -- ---- what the records say
 
--- the version of the file in which the records go on, if they do
+-- the version of the file that carries the records on, if one does
 abbrev pub moved_to : List Record → Option ℕ
 moved_to records = if has_moved records then Some 2 else None
 
--- The report is that of these records: their key's public one, how many there are, how many leaves are free in the
--- current tree of each level, and whether they go on elsewhere.
+-- The report says of these records: the public key, their number, the free leaves of each level's current tree, and
+-- whether they go on elsewhere.
 pub record Reports (records : List Record) (report : Report) : Type 0 where
   pub public_is : public_of_key (key_in records) ≡ Some report.public
   pub count : report.records ≡ length records
@@ -77,29 +74,29 @@ pub record Reports (records : List Record) (report : Report) : Type 0 where
 
 -- ---- anchors
 
--- An anchor, if one is given, counts a record at least, and no more than there are.
+-- The anchor, if given, counts at least one record, and no more than there are.
 abbrev pub IsWithin : Option Anchor → List Record → Type 0
 IsWithin None records = Unit {0}
 IsWithin (Some anchor) records = (0 < anchor.count) × (anchor.count ≤ length records)
 
--- One is given, and counts none, or more than there are.
+-- An anchor is given that counts none, or more than there are.
 abbrev pub IsBeyond : Option Anchor → List Record → Type 0
 IsBeyond None records = ⊥
 IsBeyond (Some anchor) records = (anchor.count ≡ 0) ⊎ (length records < anchor.count)
 
--- The last record that an anchor counts, if one is given, has its tag.
+-- The last record that the anchor counts, if one is given, has its tag.
 abbrev pub IsTagged : (IsTagOf : ℕ → List ℕ → Type 0) → Option Anchor → Type 0
 IsTagged IsTagOf None = Unit {0}
 IsTagged IsTagOf (Some anchor) = IsTagOf (anchor.count - 1) anchor.tag
 
--- the tag of slot k of a disk
+-- the tag of slot k on a disk
 abbrev pub IsSlotTag : {D : Type 0} (d : disk.Ghosts D) → D → ℕ → List ℕ → Type 0
 IsSlotTag d on k tag = tag ≡ tag_at (d.state on).content k
 
 -- ---- the answer
 
--- What is answered to records. That they are legal comes before what the anchor counts, and this before its tag. Memory
--- is wanted for a record at least, and an honest disk has no damaged slot.
+-- The answer about these records, tags aside. Legality comes before the anchor's count, and that before its tag. 46
+-- needs a record, and 43 a disk that isn't honest.
 abbrev pub Judges : (honest : Bool) → List Record → Option Anchor → Result Report AuditFault → Type 0
 Judges honest records anchor (Ok report) = IsLegal records × IsWithin anchor records × Reports records report
 Judges honest records anchor (Err Stopped) = Unit {0}
@@ -111,16 +108,14 @@ Judges honest records anchor (Err OutOfMemory) = 0 < length records
 Judges honest records anchor (Err AnchorCount) = IsLegal records × IsBeyond anchor records
 Judges honest records anchor (Err AnchorTag) = IsLegal records × IsSome anchor × IsWithin anchor records
 
--- What the answer says of tags: those of the report and of the anchor are those of their records, or that of the anchor
--- isn't.
+-- What the answer says of tags: Ok, the report's and the anchor's are right; 48, the anchor's isn't.
 abbrev pub AreTags : (IsTagOf : ℕ → List ℕ → Type 0) → Option Anchor → Result Report AuditFault → Type 0
 AreTags IsTagOf anchor (Ok report) = IsTagOf (report.records - 1) report.tag × IsTagged IsTagOf anchor
 AreTags IsTagOf anchor (Err AnchorTag) = IsTagged IsTagOf anchor → ⊥
 AreTags IsTagOf anchor (Err _) = Unit {0}
 
--- An audit reads the store, and judges the records that it loads: as many as the store has, and where the disk is
--- honest those. There the tags are those of the disk's slots, and so they are those that the records have by
--- themselves.
+-- An audit reads the store and judges what it loads: as many records as the store has, and over an honest disk the same
+-- ones. There the tags are those of the slots (`tags`), and of the records by themselves (`by_records`).
 pub record Audits {D : Type 0} (d : disk.Ghosts D) (old new : FileStore D d) (anchor : Option Anchor)
     (answer : Result Report AuditFault) : Type 0 where
   pub store : ReadsStore d old new answer
@@ -133,11 +128,11 @@ pub record Audits {D : Type 0} (d : disk.Ghosts D) (old new : FileStore D d) (an
 
 -- ---- what holds of audits
 
--- what a report says of a file that is remembered
+-- a report as an anchor
 abbrev pub anchor_of : Report → Anchor
 anchor_of report = record { count = report.records; tag = report.tag }
 
--- The fault says nothing of the records: the store had stopped, its disk failed, or memory was refused.
+-- The fault isn't about records: the store had stopped, its disk failed, or memory was refused.
 abbrev pub IsOutsideRecords : AuditFault → Type 0
 IsOutsideRecords Stopped = Unit {0}
 IsOutsideRecords DeviceFailed = Unit {0}
@@ -145,16 +140,16 @@ IsOutsideRecords OutOfMemory = Unit {0}
 IsOutsideRecords _ = ⊥
 
 pub record AuditLaw : Type 0 where
-  -- records that are legal and fit the anchor are refused for a reason outside of them alone
+  -- legal records that fit the anchor are refused only for reasons outside them
   pub accepts : (records : List Record) (anchor : Option Anchor) (fault : AuditFault) → IsLegal records
       → IsWithin anchor records → IsTagged (IsTag records) anchor → Judges true records anchor (Err fault)
       → AreTags (IsTag records) anchor (Err fault) → IsOutsideRecords fault
-  -- a report makes an anchor that the records fit, whatever records follow
+  -- a report is an anchor that its records fit, whatever records follow
   pub anchors : (honest : Bool) (records more : List Record) (anchor : Option Anchor) (report : Report)
       → Judges honest records anchor (Ok report) → AreTags (IsTag records) anchor (Ok report)
       → IsWithin (Some (anchor_of report)) (records ++ more)
       × IsTagged (IsTag (records ++ more)) (Some (anchor_of report))
-  -- and that fewer records than those don't
+  -- fewer records don't fit it
   pub put_back : (honest : Bool) (records : List Record) (anchor : Option Anchor) (report : Report) (n : ℕ)
       → Judges honest records anchor (Ok report) → n < length records
       → IsBeyond (Some (anchor_of report)) (take n records)

@@ -1,5 +1,5 @@
--- Signatures of one key that were given out, with their messages: which are valid, which two use one leaf for different
--- digests, and what a check of them answers.
+-- Signatures of one key, with their messages: which are valid, which use one leaf for different digests, and what a
+-- check of them answers.
 use Rattle.std.specs.Prelude.{◌≡◌, ◌≢◌, ℕ, ◌<◌, ◌^◌, List, length, slice_get, Some, Result, Ok, Err, Contains}
 use Rattle.sign_core.specs.declared.key.AnyPublic.{AnyPublic}
 use Rattle.sign_core.specs.Once.{IsOneLeaf, IsValidUnder}
@@ -10,7 +10,7 @@ use Rattle.key_audit.specs.declared.given.GivenFault.TheVariants.{NotValid, Leaf
 
 -- ---- one signature
 
--- It signs its message under the key, and the message has fewer than 2^60 bytes, as every one that is signed.
+-- It is valid under the key for its message, which has fewer than 2^60 bytes, as every signed message does.
 pub record IsValidGiven (public : AnyPublic) (given : Given) : Type 0 where
   pub verifies : IsValidUnder public given.message.items given.signature.items
   pub short : length given.message.items < 2 ^ 60
@@ -22,7 +22,7 @@ Uses public given used = (uses : List LeafUse)
 
 -- ---- two of them
 
--- They use one leaf of one tree, each at any of its levels, for different digests.
+-- They use one leaf of one tree for different digests, each at any of its levels.
 pub record UseLeafTwice (public : AnyPublic) (a b : Given) : Type 0 where
   pub first : LeafUse
   pub second : LeafUse
@@ -31,7 +31,7 @@ pub record UseLeafTwice (public : AnyPublic) (a b : Given) : Type 0 where
   pub leaf : IsOneLeaf first second
   pub digests : first.digest ≢ second.digest
 
--- Those at two places do.
+-- Signatures i and j do so.
 pub record IsTwice (public : AnyPublic) (given : List Given) (i j : ℕ) : Type 0 where
   pub a : Given
   pub b : Given
@@ -45,34 +45,32 @@ pub record IsTwice (public : AnyPublic) (given : List Given) (i j : ℕ) : Type 
 abbrev pub AreValid : AnyPublic → List Given → Type 0
 AreValid public given = (k : ℕ) (each : Given) → slice_get given k ≡ Some each → IsValidGiven public each
 
--- No two at different places below n use one leaf for different digests.
+-- Among the first n, no two do so.
 abbrev pub NoneTwice : AnyPublic → List Given → ℕ → Type 0
 NoneTwice public given n = (i j : ℕ) → i ≢ j → i < n → j < n → IsTwice public given i j → ⊥
 
--- That at place i is the first that isn't valid.
+-- Signature i is the first that isn't valid.
 pub record IsFirstNotValid (public : AnyPublic) (given : List Given) (i : ℕ) : Type 0 where
   pub each : Given
   pub stands : slice_get given i ≡ Some each
   pub not_valid : IsValidGiven public each → ⊥
   pub first : (k : ℕ) (other : Given) → k < i → slice_get given k ≡ Some other → IsValidGiven public other
 
--- That at place j is the first that uses a leaf of an earlier one for another digest, and that at place i is the first
--- of these.
+-- Signature j is the first that shares a leaf with an earlier one, for another digest; i is the first of these.
 pub record IsFirstTwice (public : AnyPublic) (given : List Given) (i j : ℕ) : Type 0 where
   pub earlier : i < j
   pub twice : IsTwice public given i j
   pub first : NoneTwice public given j
   pub least : (k : ℕ) → k < i → IsTwice public given k j → ⊥
 
--- What the check answers. Ok: all are valid, and no two at different places use one leaf for different digests. Memory
--- is wanted only where all are valid, and for one at least.
+-- The check's answer. Ok: all are valid, and no two use one leaf for different digests. 46 comes only where all are
+-- valid and there is one.
 abbrev pub Checks : {A : Type 0} → AnyPublic → List Given → Result A GivenFault → Type 0
 Checks public given (Ok _) = AreValid public given × NoneTwice public given (length given)
 Checks public given (Err (NotValid i)) = IsFirstNotValid public given i
 Checks public given (Err (LeafTwice i j)) = AreValid public given × IsFirstTwice public given i j
 Checks public given (Err OutOfMemory) = AreValid public given × (0 < length given)
 
--- the number that reports a fault
 abbrev pub fault_number : GivenFault → ℕ
 fault_number (NotValid i) = 60
 fault_number (LeafTwice i j) = 61

@@ -22,14 +22,13 @@ use Rattle.key_audit.specs.Audit.{Judges, ReadsStore}
 
 -- ---- what records show
 
--- the types of a key
 abbrev pub types_of : Secret → Spec
 types_of (Lms secret) = spec.Lms secret.pair
 types_of (Hss levels identifier seed) = spec.Hss levels
 types_of (Xmss secret) = spec.Xmss secret.tree
 
--- What is listed of a record: of a Key that it is one, of an Extend the level of its tree and the leaf above that signs
--- it, of a Bound its name, leaf and digest.
+-- a record's entry: of a Key nothing; of an Extend its level and the leaf above that signs it; of a Bound its name,
+-- leaf and digest
 abbrev pub entry_of : Record → Entry
 entry_of (entry.Key key) = KeyEntry
 entry_of (entry.Extend extend) = Tree extend.level extend.parent_leaf
@@ -37,7 +36,7 @@ entry_of (entry.Bound bound) = Name bound.name bound.leaf bound.digest
 entry_of (entry.Retire upto) = Retired upto
 entry_of entry.Moved = Moved
 
--- what is shown of the records of a key
+-- what is shown of a key's records
 pub record Shown : Type 0 where
   pub spec : Spec
   pub version : Version
@@ -52,7 +51,7 @@ shown_of records key = record {
   entries = map entry_of records;
 }
 
--- .. where they have one
+-- .. if they have a key
 abbrev pub shown_in : List Record → Option Shown
 shown_in records = option_map (shown_of records) (key_in records)
 
@@ -65,7 +64,7 @@ shown_by listing = record {
   entries = listing.entries.items;
 }
 
--- how many of them are names
+-- how many entries are names
 abbrev pub name_count : Entry → ℕ
 name_count (Name name leaf digest) = 1
 name_count KeyEntry = 0
@@ -79,13 +78,13 @@ names_among (first ∷ rest) = name_count first + names_among rest
 
 -- ---- the answer
 
--- What is answered to records is a listing of what they show, or what an audit without an anchor refuses them for.
+-- Records are answered by a listing of what they show, or refused as by an audit without an anchor.
 abbrev pub AnswersListing : (honest : Bool) → List Record → Result Listing AuditFault → Type 0
 AnswersListing honest records (Ok listing) = IsLegal records × (shown_in records ≡ Some (shown_by listing))
 AnswersListing honest records (Err fault) = Judges honest records None (Err fault)
 
--- A listing reads the store, and shows the records that it loads: as many as the store has, and where the disk is
--- honest those.
+-- A listing reads the store and shows what it loads: as many records as the store has, and over an honest disk the same
+-- ones.
 pub record Lists {D : Type 0} (d : disk.Ghosts D) (old new : FileStore D d) (answer : Result Listing AuditFault)
     : Type 0 where
   pub store : ReadsStore d old new answer
@@ -96,14 +95,14 @@ pub record Lists {D : Type 0} (d : disk.Ghosts D) (old new : FileStore D d) (ans
 
 -- ---- secrets
 
--- a secret without what its values are made from
+-- a secret without its seeds
 abbrev pub without_seeds : Secret → Secret
 without_seeds (Lms secret) = Lms (record { pair = secret.pair; identifier = secret.identifier; seed = [] })
 without_seeds (Hss levels identifier seed) = Hss levels identifier []
 without_seeds (Xmss secret) =
     Xmss (record { tree = secret.tree; secret_seed = []; prf_key = []; public_seed = secret.public_seed })
 
--- a record without what is secret in it: the SEED of an Extend, and those of a Key, with SK_PRF
+-- a record without secrets: the SEED of an Extend; a Key's seeds and SK_PRF
 abbrev pub without_secret : Record → Record
 without_secret (entry.Key key) = entry.Key (record key { secret = without_seeds key.secret })
 without_secret (entry.Extend extend) = entry.Extend (record extend { seed = [] })
@@ -111,6 +110,6 @@ without_secret (entry.Bound bound) = entry.Bound bound
 without_secret (entry.Retire upto) = entry.Retire upto
 without_secret entry.Moved = entry.Moved
 
--- What holds of listings: two lists of records that differ in what is secret alone show the same.
+-- Lists of records that differ only in secrets show the same.
 abbrev pub ListingLaw : Type 0
 ListingLaw = (a b : List Record) → map without_secret a ≡ map without_secret b → shown_in a ≡ shown_in b

@@ -1,4 +1,4 @@
-//! What an audit or a listing of a state file loads, and what it answers.
+//! Audits and listings of a state file.
 
 pub(crate) mod audit;
 pub(crate) mod list;

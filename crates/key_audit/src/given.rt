@@ -1,4 +1,4 @@
-//! Signatures that were given out: whether two of them use one leaf for different digests.
+//! Signatures that were given out: does a leaf sign two digests?
 
 ghost use Rattle.std.specs.Prelude.{◌≡◌, ◌↔◌, true, MatchOption};
 ghost use Rattle.key_audit.specs.Given.{AreValid, Checks, IsFirstNotValid, IsValidGiven, fault_number};
@@ -19,13 +19,13 @@ pub struct Given {
     pub signature: Vec<u8>,
 }
 
-/// Why given signatures aren't those of a key whose leaves sign once.
+/// What is wrong with given signatures.
 #[derive(Clone, Copy, Debug, PartialEq, Eq, Error)]
 pub enum GivenFault {
     /// 60: this one isn't valid, and those before it are.
     #[error("signature {0} isn't valid for its message")]
     NotValid(usize),
-    /// 61: the second one uses a leaf of the first for another digest.
+    /// 61: the second uses a leaf of the first for another digest.
     #[error("signatures {0} and {1} use one leaf for different digests")]
     LeafTwice(usize, usize),
     /// 46: memory was refused.
@@ -34,7 +34,7 @@ pub enum GivenFault {
 }
 
 impl GivenFault {
-    /// The number that reports the fault: 46, 60 or 61.
+    /// The fault's number: 46, 60 or 61.
     pub fn number(self) -> u8
         ensures { result ≡ fault_number self }
     {
@@ -46,18 +46,18 @@ impl GivenFault {
     }
 }
 
-/// Checks the signatures of a key that were given out: whether all are valid, and no leaf of a tree is used by two of
-/// them, at any of their levels, for different digests. A leaf goes by its tree's I, or in XMSS by the public key.
-/// Uses within one signature aren't compared. The faults:
+/// Checks signatures of one key: all are valid, and no two use one leaf for different digests, at any of their levels.
+/// A leaf is named by its number with its tree's I, or in XMSS with the public key. Uses within one signature aren't
+/// compared. The faults:
 ///
-/// - 60 `NotValid(i)`: that at place i is the first that isn't valid for its message, or its message has 2^60 bytes.
-/// - 61 `LeafTwice(i, j)`: all are valid; that at place j is the first that uses a leaf of an earlier one for another
-///   digest, and that at place i is the first of these.
+/// - 60 `NotValid(i)`: signature i is the first that isn't valid for its message, or its message has 2^60 bytes or
+///   more.
+/// - 61 `LeafTwice(i, j)`: all are valid; j is the first that uses a leaf of an earlier one for another digest, and i
+///   the first of those earlier ones.
 /// - 46 `OutOfMemory`: all are valid, and memory was refused for the leaves of one.
 ///
-/// The leaves that were used stand in a map, so that each signature is compared with what is kept of its own leaves
-/// alone, however many were given. The map hashes with a fixed seed, so that this time is a mean, which no clause says.
-/// That 46 comes only where memory was refused is tested.
+/// Used leaves stand in a map, so a signature's time doesn't grow with their number. As the map hashes with a fixed
+/// seed, this is a mean, and no clause says it. That 46 comes only where memory was refused is tested.
 pub fn check_given(alloc: Global, public: &AnyPublic, given: &[Given]) -> Result<(), GivenFault>
     ensures { Checks public.now given.now result }
 {
@@ -67,7 +67,6 @@ pub fn check_given(alloc: Global, public: &AnyPublic, given: &[Given]) -> Result
     check_leaves(alloc, public, given)
 }
 
-// Whether a signature is valid for its message.
 fn is_valid(public: &AnyPublic, given: &Given) -> bool
     ensures { (result ≡ true) ↔ IsValidGiven public.now given.now }
 {
@@ -77,7 +76,7 @@ fn is_valid(public: &AnyPublic, given: &Given) -> bool
     verify_any(public, &mut message, &given.signature).is_ok()
 }
 
-// The place of the first one that isn't valid.
+// The place of the first signature that isn't valid.
 fn first_not_valid(public: &AnyPublic, given: &[Given]) -> Option<usize>
     ensures { MatchOption result (AreValid public.now given.now) (IsFirstNotValid public.now given.now) }
 {
@@ -89,7 +88,7 @@ fn first_not_valid(public: &AnyPublic, given: &[Given]) -> Option<usize>
     None
 }
 
-// Whether two of them, which are valid, use one leaf for different digests.
+// The check of leaves, once all are valid.
 fn check_leaves(alloc: Global, public: &AnyPublic, given: &[Given]) -> Result<(), GivenFault>
     requires { AreValid public.now given.now }
     ensures { Checks public.now given.now result }

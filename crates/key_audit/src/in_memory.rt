@@ -6,7 +6,7 @@ ghost use Rattle.key_audit.specs.InMemory.{GivesNext};
 use std::io;
 use typecodes::Message;
 
-/// A message in memory, of which this part is still to be read.
+/// A message in memory; `rest` is still unread.
 #[derive(Clone, Copy)]
 pub(crate) struct InMemory<'a> {
     pub(crate) rest: &'a [u8],

@@ -7,8 +7,8 @@ use arrayvec::ArrayVec;
 use std::hash::{Hash, Hasher};
 use std::marker::Model;
 
-/// A leaf of a tree, by the bytes that name it: its number in 4 bytes, and then what its tree goes by, an I of 16 bytes
-/// or for XMSS the public key of 68.
+/// The bytes that name a leaf: its number in 4 bytes, then its tree's identifier. That is an I of 16 bytes, or in XMSS
+/// the public key, of 68.
 #[derive(Default, Drop)]
 pub(crate) struct Leaf {
     bytes: ArrayVec<u8, 72>,
@@ -21,7 +21,7 @@ impl Model for Leaf {
 }
 
 impl Leaf {
-    /// Leaf `number` of the tree that goes by an identifier.
+    /// Leaf `number` of the tree with this identifier.
     pub(crate) fn new(identifier: &[u8], number: u32) -> Self
         requires { length identifier.now ≤ 68 }
         ensures { result ≡ u32str number ++ identifier.now }
@@ -32,7 +32,7 @@ impl Leaf {
         Leaf { bytes }
     }
 
-    /// The same leaf once more.
+    /// A clone, which can't fail.
     pub(crate) fn copied(&self) -> Self
         ensures { result ≡ self.now }
     {

@@ -1,4 +1,4 @@
-//! Which leaves the signatures before one have used, and for which digests.
+//! The leaves that earlier signatures used, with their digests.
 
 ghost use Rattle.std.specs.Prelude.{◌≡◌, [], Contains, OnOk};
 ghost use Rattle.key_audit.specs.inner.LeafIndex.{AddsUse, AddsUses, AreKept, IsLeastOther};
@@ -9,8 +9,7 @@ use crate::uses::LeafUse;
 use std::alloc::{AllocError, Global};
 use std::collections::HashMap;
 
-/// What is kept of a leaf: the place of the first signature that uses it, the digest for which it does so first, and
-/// whether all uses have this digest.
+/// What is kept of a leaf: the first signature that uses it, its digest, and whether no use has another digest.
 #[derive(Clone, Copy)]
 pub(crate) struct FirstUse {
     pub(crate) place: usize,
@@ -18,14 +17,14 @@ pub(crate) struct FirstUse {
     pub(crate) is_only: bool,
 }
 
-/// The leaves that were used.
+/// An index of used leaves.
 #[derive(Drop)]
 pub(crate) struct LeafIndex {
     entries: HashMap<Leaf, FirstUse>,
 }
 
 impl LeafIndex {
-    /// None were.
+    /// An empty index.
     pub(crate) fn new(alloc: Global) -> Self
         ensures { AreKept (Contains []) result.entries }
     {
@@ -34,7 +33,7 @@ impl LeafIndex {
         }
     }
 
-    // The place of the first signature that used a leaf for another digest.
+    // The first signature that used the leaf, if any use had another digest.
     fn other_place(&self, used: &LeafUse) -> Option<usize>
         ensures { result ≡ place_of_other self.now.entries used.now }
     {
@@ -46,7 +45,7 @@ impl LeafIndex {
         }
     }
 
-    /// The place of the first signature that used one of these leaves for another digest, if there is one.
+    /// The least `other_place` of these leaves.
     pub(crate) fn least_other(&self, uses: &[LeafUse]) -> Option<usize>
         ensures { IsLeastOther self.now.entries uses.now result }
     {
@@ -57,7 +56,7 @@ impl LeafIndex {
         least
     }
 
-    // Adds a use by the signature at a place. Refused where there is no memory for one more leaf; nothing changes then.
+    // Adds one use. Without memory for it, nothing changes.
     fn add_use(&mut self, used: &LeafUse, place: usize) -> Result<(), AllocError>
         ensures { OnOk result (AddsUse place used.now self.old.entries self.new.entries) }
     {
@@ -78,7 +77,7 @@ impl LeafIndex {
         }
     }
 
-    /// Adds the uses of the signature at a place, which comes after all others. Refused where memory is.
+    /// Adds the uses of a signature, whose place is after all earlier ones. Refused where memory is.
     pub(crate) fn add(&mut self, uses: &[LeafUse], place: usize) -> Result<(), AllocError>
         ensures { OnOk result (AddsUses place uses.now self.old.entries self.new.entries) }
     {

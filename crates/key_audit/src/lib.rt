@@ -1,17 +1,16 @@
 //! Audits of a key, by those who don't trust its state file or its signer.
 //!
-//! `audit` reads a state file: are its records those of a key, what do they say of it, and do they fit an anchor, which
-//! is how many there once were and the tag of the last of them? Its model is `specs/Audit.antt`. The tag of a record is
-//! that of its slot in every file of these records (`tag_laws`, `specs/Tags.antt`), and it stays, whatever records
-//! follow. So a file's last tag, kept elsewhere, tells whether an older copy was put in its place (`audit_laws`).
+//! `audit` reads a state file. Are its records legal, what do they say of the key, and do they fit an anchor? An anchor
+//! is how many records there once were, and the last one's tag. Every file of these records has these tags, and they
+//! stay, whatever records follow (`tag_laws`). So an anchor tells whether an older copy replaced the file
+//! (`audit_laws`). The model is `specs/Audit.antt` and `specs/Tags.antt`.
 //!
-//! `list` reads a state file as `audit` does, and says what it is and what each record is, without anything secret
-//! (`listing_law`, `specs/Listing.antt`).
+//! `list` reads a state file as `audit` does, and shows what each record is, without anything secret (`listing_law`,
+//! `specs/Listing.antt`).
 //!
-//! `check_given` takes signatures that a key has given out, with their messages: are all valid, and has no leaf of a
-//! tree signed two digests? Its model is `specs/Given.antt`, over the leaf uses that `sign_core` reads off the bytes of
-//! signatures. No secret is needed, and no records: two copies of one state file are found wherever both signed with
-//! one leaf.
+//! `check_given` takes signatures with their messages. Are all valid, and did no leaf sign two digests? The model is
+//! `specs/Given.antt`, over the leaf uses of `sign_core`. It needs no secret and no records. It finds two copies of a
+//! state file wherever both signed with one leaf.
 //!
 //! ```rust
 //! use key_audit::{Anchor, AuditFault, Given, GivenFault, audit, check_given};

@@ -10,33 +10,33 @@ use typecodes::{Name, Spec};
 /// What a state file is, and what its key has signed.
 #[derive(Debug, PartialEq, Eq, Drop)]
 pub struct Listing {
-    /// The types of the key, of all its levels.
+    /// The types, of all levels.
     pub spec: Spec,
-    /// The version of the file.
+    /// The file's version.
     pub version: Version,
-    /// How many leaves are free at each level, in its current tree; 0 where it has none.
+    /// Free leaves of each level, in its current tree; 0 where it has none.
     pub left: ArrayVec<u32, 8>,
-    /// What its records are, in their order.
+    /// An entry for each record, in their order.
     pub entries: Vec<Entry>,
 }
 
-/// What a record is, without anything secret.
+/// A record, without anything secret.
 #[derive(Debug, PartialEq, Eq, Drop)]
 pub enum Entry {
     /// The key itself.
     Key,
-    /// A new tree at a level below the top, and the leaf of the tree above that signs its public key.
+    /// A new tree at a level below the top. `leaf`, of the tree above, signs its public key.
     Tree {
         level: u8,
         leaf: u32,
     },
-    /// A name that is bound to a leaf, and the digest that the leaf signs, 32 bytes.
+    /// A name, with the leaf that it is bound to and the 32-byte digest that the leaf signs.
     Name {
         name: Name,
         leaf: u32,
         digest: [u8; 32],
     },
-    /// The leaves of the current bottom tree below `upto` are given up.
+    /// The current bottom tree's leaves below `upto` are given up.
     Retired {
         upto: u32,
     },
@@ -45,7 +45,7 @@ pub enum Entry {
 }
 
 impl Entry {
-    /// What is listed of a record.
+    /// A record's entry.
     pub fn of(source: &Record) -> Self
         ensures { result ≡ entry_of source.now }
     {
@@ -66,7 +66,6 @@ impl Entry {
     }
 }
 
-// 1 for a name, 0 for any other record.
 fn name_count(entry: &Entry) -> usize
     ensures value { result ≡ name_count entry.now }
     ensures few { result ≤ 1 }
@@ -77,7 +76,7 @@ fn name_count(entry: &Entry) -> usize
     }
 }
 
-/// How many of the entries are names.
+/// How many entries are names.
 pub fn count_names(entries: &[Entry]) -> usize
     ensures { result ≡ names_among entries.now }
 {

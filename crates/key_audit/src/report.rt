@@ -1,30 +1,30 @@
-//! What an audit of a state file is given and answers.
+//! What an audit of a state file is given, and what it answers.
 
 use arrayvec::ArrayVec;
 use sign_core::AnyPublic;
 use thiserror::Error;
 
-/// A state file as it once was: how many records it had, and the tag of the last of them.
+/// A state file as it once was.
 #[derive(Clone, Copy, Debug, PartialEq, Eq)]
 pub struct Anchor {
-    /// How many records there were.
+    /// How many records it had.
     pub count: u32,
-    /// The tag of the last of them.
+    /// The last one's tag.
     pub tag: [u8; 32],
 }
 
-/// What the records of a state file say of its key.
+/// What a state file's records say of its key.
 #[derive(Debug, PartialEq, Eq, Drop)]
 pub struct Report {
     /// The public key.
     pub public: AnyPublic,
     /// How many records there are.
     pub records: u32,
-    /// The tag of the last of them. It is an anchor for the file, with their number.
+    /// The last one's tag. With `records` it is an anchor.
     pub tag: [u8; 32],
-    /// How many leaves are free at each level, in its current tree; 0 where it has none.
+    /// Free leaves of each level, in its current tree; 0 where it has none.
     pub left: ArrayVec<u32, 8>,
-    /// The version of the file in which the records go on, if they do.
+    /// The version of the file that carries the records on, if one does.
     pub moved: Option<u16>,
 }
 
@@ -40,7 +40,7 @@ pub enum AuditFault {
     /// 43: slot k spells no record, or its tag is wrong.
     #[error("slot {0} spells no record")]
     Damaged(u32),
-    /// 44: record k isn't legal where it stands; those before it are.
+    /// 44: record k may not follow those before it, which are legal.
     #[error("record {0} isn't legal where it stands")]
     Illegal(u32),
     /// 45: the device failed.
@@ -61,7 +61,7 @@ impl AuditFault {
     ghost use Rattle.std.specs.Prelude.{◌≡◌};
     ghost use Rattle.key_audit.specs.Audit.{audit_number};
 
-    /// The number that reports the fault: 26, 40 or 43 to 48.
+    /// The fault's number: 26, 40 or 43 to 48.
     pub fn number(self) -> u8
         ensures { result ≡ audit_number self }
     {

@@ -1,4 +1,4 @@
-//! Which leaves a signature uses, and for which digests.
+//! The leaves that a signature uses, each for a digest.
 
 ghost use Rattle.std.specs.Prelude.{◌≡◌, ◌∷◌, [], map};
 ghost use Rattle.sign_core.specs.Once.{IsValidUnder};
@@ -18,14 +18,14 @@ use lms::{LmsPublic, LmsSigView};
 use sign_core::AnyPublic;
 use xmss::{XmssPublic, XmssSigView};
 
-/// A leaf that a signature uses, and the digest that it signs with it.
+/// A leaf, and a digest that it signs.
 #[derive(Default, Drop)]
 pub(crate) struct LeafUse {
     pub(crate) leaf: Leaf,
     pub(crate) digest: [u8; 32],
 }
 
-/// The uses that a valid signature makes, one at each level, from the top down.
+/// A valid signature's uses, one for each level from the top down.
 pub(crate) fn uses_of(public: &AnyPublic, message: &[u8], signature: &[u8]) -> ArrayVec<LeafUse, 8>
     requires { IsValidUnder public.now message.now signature.now }
     ensures { AreUsesOf public.now message.now signature.now result.items }
@@ -46,7 +46,7 @@ pub(crate) fn uses_of(public: &AnyPublic, message: &[u8], signature: &[u8]) -> A
     }
 }
 
-// This use alone.
+// A list of one use.
 fn only(used: LeafUse) -> ArrayVec<LeafUse, 8>
     ensures { result.items ≡ used ∷ [] }
 {
@@ -55,7 +55,7 @@ fn only(used: LeafUse) -> ArrayVec<LeafUse, 8>
     uses
 }
 
-// The use that a signature under an LMS key makes.
+// The use of an LMS signature.
 fn lms_use(key: &LmsPublic, signature: &LmsSigView<'_>, message: &[u8]) -> LeafUse
     ensures { result ≡ kept_use (spec.lms_use key.now message.now (lms_signature_of signature.now)) }
 {
@@ -70,7 +70,7 @@ fn lms_use(key: &LmsPublic, signature: &LmsSigView<'_>, message: &[u8]) -> LeafU
     }
 }
 
-// Those that the levels of an HSS signature make, under its key's top tree.
+// The uses of an HSS signature's levels.
 fn hss_uses(top: &LmsPublic, signature: &HssSigView<'_>, message: &[u8]) -> ArrayVec<LeafUse, 8>
     ensures { result.items ≡ map (hss_use_at top.now message.now (hss_signature_of signature.now))
         (range_with_len 0 (level_count (hss_signature_of signature.now))) }
@@ -90,7 +90,7 @@ fn hss_uses(top: &LmsPublic, signature: &HssSigView<'_>, message: &[u8]) -> Arra
     uses
 }
 
-// The use that a signature under an XMSS key makes.
+// The use of an XMSS signature.
 fn xmss_use(key: &XmssPublic, signature: &XmssSigView<'_>, message: &[u8]) -> LeafUse
     ensures { result ≡ kept_use (xmss_use key.now message.now (xmss_signature_of signature.now)) }
 {

@@ -1,4 +1,4 @@
--- What is answered to an anchor, before its record's tag is told to the caller.
+-- What a store answers to an anchor.
 use Rattle.std.specs.Prelude.{ℕ, Bool, IsTrue, List, Option, IsSome, Result, Ok, Err}
 use Rattle.state_file.specs.declared.disk.Disk as disk
 use Rattle.state_file.specs.declared.record.Record.{Record}
@@ -9,7 +9,7 @@ use Rattle.key_audit.specs.declared.report.AuditFault.{AuditFault}
 use Rattle.key_audit.specs.declared.report.AuditFault.TheVariants.{Stopped, DeviceFailed, AnchorCount, AnchorTag}
 use Rattle.key_audit.specs.Audit.{IsBeyond, IsSlotTag, IsTagged, IsWithin, ReadsStore}
 
--- What is answered to an anchor, if one is given, by a store of these records.
+-- The anchor, if given, fits the store's records, or this is why not.
 abbrev pub FitsAnchor : (IsTagOf : ℕ → List ℕ → Type 0) → (honest : Bool) → List Record → Option Anchor
     → Result (Unit {0}) AuditFault → Type 0
 FitsAnchor IsTagOf honest list anchor (Ok _) = IsWithin anchor list × (IsTrue honest → IsTagged IsTagOf anchor)

@@ -6,7 +6,7 @@ use Rattle.sign_core.specs.Records.{are_same}
 use Rattle.key_audit.specs.declared.leaf_index.FirstUse.{FirstUse}
 use Rattle.key_audit.specs.declared.uses.LeafUse.{LeafUse}
 
--- the use of a leaf for a digest, by the signature at a place
+-- a leaf's use for a digest, by the signature at a place
 pub record UseAt : Type 0 where
   pub place : ℕ
   pub leaf : List ℕ
@@ -17,7 +17,7 @@ use_at place used = record { place = place; leaf = used.leaf; digest = used.dige
 
 -- ---- what is kept of one leaf
 
--- Of the uses of a leaf this one is kept: none comes from an earlier place, and it says whether all have its digest.
+-- The kept use of a leaf: none comes earlier, and `is_only` says whether all have its digest.
 pub record IsFirstUse (P : UseAt → Type 0) (leaf : List ℕ) (first : FirstUse) : Type 0 where
   pub used : P (record { place = first.place; leaf = leaf; digest = first.digest })
   pub least : (other : UseAt) → P other → other.leaf ≡ leaf → first.place ≤ other.place
@@ -29,33 +29,33 @@ abbrev pub IsKept : (P : UseAt → Type 0) (leaf : List ℕ) → Option FirstUse
 IsKept P leaf None = (other : UseAt) → P other → other.leaf ≢ leaf
 IsKept P leaf (Some first) = IsFirstUse P leaf first
 
--- What is kept of each leaf is right for the uses that have P.
+-- For the uses that have P, what is kept of each leaf is right.
 abbrev pub AreKept : (P : UseAt → Type 0) → ByText FirstUse → Type 0
 AreKept P entries = (leaf : List ℕ) → IsKept P leaf (of_text entries leaf)
 
--- what is kept of a leaf after one more use of it
+-- what is kept of a leaf after one more use
 abbrev pub with_use : Option FirstUse → (place : ℕ) (digest : List ℕ) → FirstUse
 with_use None place digest = record { place = place; digest = digest; is_only = true }
 with_use (Some first) place digest =
     record { place = first.place; digest = first.digest; is_only = first.is_only && are_same first.digest digest }
 
--- A use of a leaf was added; other leaves keep what was kept of them.
+-- One use was added, and other leaves keep theirs.
 pub record AddsUse (place : ℕ) (used : LeafUse) (old new : ByText FirstUse) : Type 0 where
   pub here : of_text new used.leaf ≡ Some (with_use (of_text old used.leaf) place used.digest)
   pub elsewhere : (leaf : List ℕ) → leaf ≢ used.leaf → of_text new leaf ≡ of_text old leaf
 
--- All come from this place or earlier ones.
+-- All come from this place or before.
 abbrev pub AreUpTo : ℕ → (UseAt → Type 0) → Type 0
 AreUpTo place P = (other : UseAt) → P other → other.place ≤ place
 
--- Uses at a place were added: to whatever uses from there or before were kept.
+-- The uses of one signature were added, to any uses from its place or before.
 abbrev pub AddsUses : (place : ℕ) (uses : List LeafUse) (old new : ByText FirstUse) → Type 0
 AddsUses place uses old new = (before : List UseAt) → AreUpTo place (Contains before) → AreKept (Contains before) old
     → AreKept (Contains (before ++ map (use_at place) uses)) new
 
 -- ---- uses of a leaf for another digest
 
--- the place of the first signature that used a leaf for another digest than this one
+-- the first signature that used a leaf, if any use had another digest than this one
 abbrev pub other_place : Option FirstUse → (digest : List ℕ) → Option ℕ
 other_place None digest = None
 other_place (Some first) digest =
@@ -64,7 +64,7 @@ other_place (Some first) digest =
 abbrev pub place_of_other : ByText FirstUse → LeafUse → Option ℕ
 place_of_other entries used = other_place (of_text entries used.leaf) used.digest
 
--- The least such place for a list of uses, if there is one.
+-- The least such place for a list of uses, or none.
 abbrev pub IsLeastOther : ByText FirstUse → List LeafUse → Option ℕ → Type 0
 IsLeastOther entries uses None = (used : LeafUse) → Contains uses used → place_of_other entries used ≡ None
 IsLeastOther entries uses (Some i) =

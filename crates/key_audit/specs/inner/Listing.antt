@@ -7,7 +7,7 @@ use Rattle.key_audit.specs.declared.report.AuditFault.{AuditFault}
 use Rattle.key_audit.specs.Listing.{shown_by, shown_in}
 use Rattle.key_audit.specs.inner.Loading.{IsRefusedLedger}
 
--- a listing of what they show, or what an audit without an anchor refuses them for
+-- A listing of what they show, or their refusal by an audit without an anchor.
 abbrev pub ListsRecords : List Record → Result Listing AuditFault → Type 0
 ListsRecords records (Ok listing) = IsLegal records × (shown_in records ≡ Some (shown_by listing))
 ListsRecords records (Err fault) = IsRefusedLedger records fault

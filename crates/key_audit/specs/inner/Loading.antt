@@ -12,7 +12,7 @@ use Rattle.key_audit.specs.declared.report.AuditFault.TheVariants.{Stopped, NoKe
 use Rattle.key_audit.specs.declared.report.AuditFault.TheVariants.{OutOfMemory}
 use Rattle.key_audit.specs.Audit.{IsSlotTag, Judges, ReadsStore}
 
--- What the load of record k finds.
+-- What loading record k finds.
 abbrev pub FindsRecord : (honest : Bool) → List Record → (k : ℕ) → Result (Option Record) AuditFault → Type 0
 FindsRecord honest list k (Ok None) = length list ≤ k
 FindsRecord honest list k (Ok (Some entry)) = (k < length list) × IsRecordAt honest list k entry
@@ -26,12 +26,12 @@ pub record LoadsSlot {D : Type 0} (d : disk.Ghosts D) (old new : FileStore D d) 
   pub store : ReadsStore d old new answer
   pub finds : FindsRecord (d.honest (disk_of old)) (records_of old) k answer
 
--- These are as many records as a store has, and where it is honest its own.
+-- As many records as a store has, and over an honest disk its own.
 pub record AreLoaded (honest : Bool) (list records : List Record) : Type 0 where
   pub long : length records ≡ length list
   pub same : IsTrue honest → records ≡ list
 
--- why a store's records weren't loaded
+-- why records weren't loaded
 abbrev pub StopsLoading : (honest : Bool) → List Record → AuditFault → Type 0
 StopsLoading honest list Stopped = Unit {0}
 StopsLoading honest list (Damaged k) = (honest ≡ false) × (k < length list)
@@ -39,21 +39,21 @@ StopsLoading honest list DeviceFailed = Unit {0}
 StopsLoading honest list OutOfMemory = 0 < length list
 StopsLoading honest list _ = ⊥
 
--- why records aren't those of a key
+-- why loaded records aren't a key's
 abbrev pub IsRefusedLedger : List Record → AuditFault → Type 0
 IsRefusedLedger records NoKey = records ≡ []
 IsRefusedLedger records (Illegal k) = first_illegal records ≡ Some k
 IsRefusedLedger records OutOfMemory = 0 < length records
 IsRefusedLedger records _ = ⊥
 
--- why a store's records weren't loaded, or aren't those of a key
+-- either of the two, as an audit without an anchor judges it
 abbrev pub IsNoLedger : (honest : Bool) → List Record → AuditFault → Type 0
 IsNoLedger honest list fault =
     (loaded : List Record) × AreLoaded honest list loaded × Judges honest loaded None (Err fault)
 
 -- ---- tags
 
--- What the read of the tag of slot k gives.
+-- What reading the tag of slot k gives.
 abbrev pub GivesTag : (IsTagOf : ℕ → List ℕ → Type 0) → (honest : Bool) → (k : ℕ) → Result (List ℕ) AuditFault → Type 0
 GivesTag IsTagOf honest k (Ok tag) = IsTrue honest → IsTagOf k tag
 GivesTag IsTagOf honest k (Err Stopped) = Unit {0}

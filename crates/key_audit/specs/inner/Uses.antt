@@ -1,4 +1,4 @@
--- Leaf uses as they are kept: a leaf by the bytes that name it.
+-- Leaf uses as they are kept, with a leaf as bytes.
 use Rattle.std.specs.Prelude.{◌≡◌, ℕ, List, ◌++◌, map}
 use Rattle.lmots.specs.Hashes.{u32str}
 use Rattle.sign_core.specs.declared.key.AnyPublic.{AnyPublic}
@@ -12,7 +12,7 @@ use Rattle.xmss.specs.Signature.{Signature as XmssSignature}
 use Rattle.xmss.specs.Writing.{public_bytes}
 use Rattle.key_audit.specs.declared.uses.LeafUse.{LeafUse}
 
--- the bytes that name a leaf: its number in 4 bytes, and then its tree's identifier
+-- the bytes that name a leaf: its number in 4 bytes, then its tree's identifier
 abbrev pub leaf_bytes : Use → List ℕ
 leaf_bytes used = u32str used.leaf ++ used.identifier
 
@@ -20,7 +20,7 @@ leaf_bytes used = u32str used.leaf ++ used.identifier
 abbrev pub kept_use : Use → LeafUse
 kept_use used = record { leaf = leaf_bytes used; digest = used.digest }
 
--- These are the uses that a signature makes.
+-- These are a signature's uses.
 abbrev pub AreUsesOf : AnyPublic → (message bytes : List ℕ) → List LeafUse → Type 0
 AreUsesOf public message bytes kept =
     (uses : List Use) × MakesUses public message bytes uses × (kept ≡ map kept_use uses)
@@ -30,7 +30,7 @@ abbrev pub hss_use_at : LmsPublic → (message : List ℕ) → HssSignature → 
 hss_use_at top message s level =
     kept_use (lms_use (key_at top s level) (message_at message s level) (signature_at s level))
 
--- the use that an XMSS signature makes
+-- an XMSS signature's use
 abbrev pub xmss_use : XmssPublic → (message : List ℕ) → XmssSignature → Use
 xmss_use key message s = record {
   identifier = public_bytes key;

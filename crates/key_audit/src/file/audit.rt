@@ -1,4 +1,4 @@
-//! The audit of a state file: what its records say, and whether an older copy was put in its place since an anchor.
+//! The audit of a state file: what its records say, and whether an older copy replaced it since an anchor was taken.
 
 ghost use Rattle.std.specs.Prelude.{◌≡◌, false};
 ghost use Rattle.state_file.specs.FileStore.{has_stopped};
@@ -11,7 +11,7 @@ use sign_core::Ledger;
 use state_file::{Disk, FileStore};
 use std::alloc::Global;
 
-// Compares a store that runs with an anchor, if one is given.
+// Compares a running store with an anchor, if one is given.
 fn check_anchor<D: Disk + Drop>(
     store: &mut FileStore<D>,
     anchor: Option<Anchor>,
@@ -31,7 +31,7 @@ fn check_anchor<D: Disk + Drop>(
     Ok(())
 }
 
-// What the records of a ledger say, the last of which has this tag.
+// What a ledger's records say. `tag` is the last one's.
 fn report_of(ledger: &Ledger, tag: [u8; 32]) -> Report
     ensures reports { Reports ledger.now.records result }
     ensures tag { result.tag ≡ tag }
@@ -45,24 +45,23 @@ fn report_of(ledger: &Ledger, tag: [u8; 32]) -> Report
     }
 }
 
-/// Audits a state file, of which nothing changes: what its records say of the key, and whether they fit an anchor that
-/// was kept elsewhere. They fit it where there are as many at least, and the last that it counts has its tag. The
+/// Audits a state file without changing it: what its records say of the key, and whether they fit an anchor that was
+/// kept elsewhere. Records fit an anchor if there are at least as many, and the last that it counts has its tag. The
 /// faults:
 ///
 /// - 26 `Stopped`: a call on the store failed before.
-/// - 43 `Damaged(k)`, 45 `DeviceFailed`, 46 `OutOfMemory`: record k couldn't be loaded; the disk failed, now or where a
-///   tag was read; memory was refused.
+/// - 43 `Damaged(k)`: slot k doesn't decode, or its tag is wrong. This never comes over an honest disk.
+/// - 45 `DeviceFailed`: the disk failed, at a record or a tag. The store has stopped then.
+/// - 46 `OutOfMemory`: memory was refused. There is at least one record; that memory was refused is tested.
 /// - 40 `NoKey`: there is no record.
-/// - 44 `Illegal(k)`: record k is the first at which the list of records stops being legal.
+/// - 44 `Illegal(k)`: record k is the first that may not follow those before it.
 /// - 47 `AnchorCount`: the records are legal, and fewer than the anchor counts, or it counts none.
-/// - 48 `AnchorTag`: the records are legal and as many, and the last that the anchor counts has another tag.
+/// - 48 `AnchorTag`: the records are legal and enough, and the last that the anchor counts has another tag.
 ///
-/// That roots and digests of the records are what their secrets make isn't part of it: a signer tests them as it signs.
+/// It doesn't test whether secrets make the recorded roots and digests: a signer does as it signs.
 ///
-/// The records of the store stay, over any disk; over an honest one each byte does at every moment, and a stop leaves
-/// what one could leave before. Each failure of the disk is answered by 45, after which the store has stopped. 43 never
-/// comes over an honest disk, and 46 only for a record at least: that memory was refused then is tested. Two lists of
-/// records may have one tag, as far as two texts may have one hash.
+/// Over any disk the store's records stay. Over an honest one every byte stays at every moment, and a crash leaves what
+/// it could leave before. Records whose tags collide as hashes aren't told apart.
 pub fn audit<D: Disk + Drop>(
     alloc: Global,
     store: &mut FileStore<D>,

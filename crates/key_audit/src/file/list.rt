@@ -1,4 +1,4 @@
-//! The listing of a state file: what it is, and what its key has signed.
+//! The listing of a state file: its types, and what its key has signed.
 
 ghost use Rattle.std.specs.Prelude.{◌≡◌, ◌<◌, IfErr, IfOk, length, map, option_map};
 ghost use Rattle.sign_core.specs.Records.{key_in};
@@ -12,7 +12,6 @@ use state_file::{Disk, FileStore, Key, Record, Secret};
 use std::alloc::{AllocError, Global};
 use typecodes::Spec;
 
-// The types of a key.
 fn types_of(secret: &Secret) -> Spec
     ensures { result ≡ types_of secret.now }
 {
@@ -23,7 +22,7 @@ fn types_of(secret: &Secret) -> Spec
     }
 }
 
-// The key with which records begin.
+// The key, with which legal records begin.
 fn key_of(records: &[Record]) -> Option<&Key>
     ensures { option_map (λ key. key.now) result ≡ key_in records.now }
 {
@@ -33,7 +32,7 @@ fn key_of(records: &[Record]) -> Option<&Key>
     }
 }
 
-// What is listed of records, in their order.
+// The records' entries, in their order.
 fn entries_of(alloc: Global, records: &[Record]) -> Result<Vec<Entry>, AllocError>
     ensures listed { IfOk result (λ entries. entries.items ≡ map entry_of records.now) }
     ensures refused { IfErr result (λ _. 0 < length records.now) }
@@ -63,15 +62,14 @@ fn list_records(alloc: Global, records: &[Record]) -> Result<Listing, AuditFault
     }
 }
 
-/// Lists a state file, of which nothing changes: its types and version, how many leaves are free at each level, and
-/// what each record is. What is secret has no part in it (`listing_law`). The faults are those of an audit without an
-/// anchor:
+/// Lists a state file without changing it: types, version, free leaves of each level, and an entry for each record. No
+/// secret has a part in it (`listing_law`). The faults are those of an audit without an anchor:
 ///
 /// - 26 `Stopped`: a call on the store failed before.
 /// - 43 `Damaged(k)`, 45 `DeviceFailed`, 46 `OutOfMemory`: record k couldn't be loaded; the disk failed; memory was
 ///   refused.
 /// - 40 `NoKey`: there is no record.
-/// - 44 `Illegal(k)`: record k is the first at which the list of records stops being legal.
+/// - 44 `Illegal(k)`: record k is the first that may not follow those before it.
 pub fn list<D: Disk + Drop>(alloc: Global, store: &mut FileStore<D>) -> Result<Listing, AuditFault>
     ensures { Lists D.Disk store.old store.new result }
 {

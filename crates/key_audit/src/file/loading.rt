@@ -12,7 +12,7 @@ use sign_core::{Ledger, LedgerFault};
 use state_file::{Disk, FileStore, Record, Store, StoreFault};
 use std::alloc::Global;
 
-// Loads record `slot`, None after the last.
+// Loads record `slot`; None after the last.
 fn load_at<D: Disk + Drop>(
     store: &mut FileStore<D>,
     slot: u32,
@@ -28,7 +28,7 @@ fn load_at<D: Disk + Drop>(
     }
 }
 
-/// Loads all records in their order.
+/// Loads all records, in their order.
 pub(crate) fn load_records<D: Disk + Drop>(
     alloc: Global,
     store: &mut FileStore<D>,
@@ -48,7 +48,7 @@ pub(crate) fn load_records<D: Disk + Drop>(
     Ok(records)
 }
 
-/// Takes up the records of a key.
+/// A ledger of these records.
 pub(crate) fn take_up(alloc: Global, records: &[Record]) -> Result<Ledger, AuditFault>
     ensures records { IfOk result (λ ledger. ledger.records ≡ records.now) }
     ensures legal { OnOk result (IsLegal records.now) }
@@ -61,7 +61,7 @@ pub(crate) fn take_up(alloc: Global, records: &[Record]) -> Result<Ledger, Audit
     })
 }
 
-/// Reads the tag of a slot.
+/// Reads slot `slot`'s tag.
 pub(crate) fn read_tag<D: Disk + Drop>(
     store: &mut FileStore<D>,
     slot: u32,
@@ -77,7 +77,7 @@ pub(crate) fn read_tag<D: Disk + Drop>(
     }
 }
 
-/// Loads all records, and takes them up.
+/// Loads all records into a ledger.
 pub(crate) fn load_ledger<D: Disk + Drop>(
     alloc: Global,
     store: &mut FileStore<D>,
