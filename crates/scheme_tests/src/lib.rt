@@ -1,7 +1,7 @@
-//! Tests of `hss` and of what it stands on, by what these crates show: a module for each crate.
+//! Tests of `hss` and all crates below it, by their public interfaces: a module for each crate.
 //!
-//! A crate that has a test is proved once without its tests and once with them. So a crate that is tested here has no
-//! test of its own, and this one has no code.
+//! A crate with a test of its own is proved twice, without its tests and with them. So these crates have none, and this
+//! one has no code.
 #![tactic(auto)]
 
 #[cfg(test)]

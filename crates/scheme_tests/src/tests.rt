@@ -1,4 +1,4 @@
-//! A module for each crate that is tested, and what two of them share.
+//! A module for each tested crate, and what two of them share.
 
 mod chains;
 mod codes;

@@ -1,5 +1,5 @@
-//! A signature of two levels of H5/W8 by Bouncy Castle is made here again, byte for byte, and refused
-//! with its bytes changed.
+//! Bouncy Castle's signature of two levels of H5/W8 is made here again, byte for byte, and refused with its bytes
+//! changed.
 
 ghost use Rattle.std.specs.Prelude.{◌≡◌, ◌≤◌};
 
@@ -26,7 +26,7 @@ const PAIR: LmsPair = LmsPair {
 
 const MESSAGE: [u8; 1] = [0xd1];
 
-// The values that Bouncy Castle drew: of both trees, and C of both levels, each with its leaf 1.
+// What Bouncy Castle drew: both trees, and C for leaf 1 of each.
 const TOP: LmsSecret = LmsSecret {
     pair: PAIR,
     identifier: [
@@ -63,7 +63,7 @@ const BOTTOM_RANDOMIZER: [u8; 32] = [
     0x66, 0xa6, 0x42, 0x1a, 0x1f, 0x2f, 0xf3, 0x1b, 0x94, 0xba, 0xd9, 0x25, 0x77, 0x64, 0x78, 0x19,
 ];
 
-// The root of a secret's tree, and the path of leaf 1.
+// The root of a secret's tree, and leaf 1's path.
 fn tree_of(secret: LmsSecret) -> ([u8; 32], [[u8; 32]; 5]) {
     let mut tree = LmsTree::new(secret);
     let mut path = [[0; 32]; 5];
@@ -72,7 +72,7 @@ fn tree_of(secret: LmsSecret) -> ([u8; 32], [[u8; 32]; 5]) {
     (root_from_path(&tree, 1, &leaf, &path), path)
 }
 
-// Leaf 1 of a secret's tree, which signs a message.
+// A level whose leaf 1 signs a message.
 fn level<'a>(
     secret: &LmsSecret,
     randomizer: [u8; 32],
@@ -102,7 +102,6 @@ fn level<'a>(
     }
 }
 
-// The count of this number.
 fn level_count(number: u8) -> LevelCount
     requires least { 1 ≤ number }
     requires most { number ≤ 8 }
@@ -113,12 +112,12 @@ fn level_count(number: u8) -> LevelCount
     }
 }
 
-// The signature of the message by both levels, and its key.
+// The key, and the signature of MESSAGE by both levels.
 fn signed() -> (HssPublic, [u8; 2644]) {
     signed_text(&MESSAGE)
 }
 
-// The same of another text.
+// The same for another message.
 fn signed_text(text: &[u8]) -> (HssPublic, [u8; 2644]) {
     let (top_root, top_path) = tree_of(TOP);
     let (bottom_root, bottom_path) = tree_of(BOTTOM);
@@ -168,15 +167,15 @@ const fn fault(place: u32, cause: Cause) -> Refusal {
     Refusal::Unreadable(ReadFault { place, cause })
 }
 
-// What the bytes are refused with as a signature of the message, and how much of it is left.
+// The refusal of these bytes as MESSAGE's signature, and how much of the message is unread.
 fn refusal(rt: &impl Abort, public: &HssPublic, signature: &[u8]) -> (Refusal, usize) {
     let mut message: &[u8] = &MESSAGE;
     let refusal = verify(public, &mut message, signature).expect_err(rt, "a changed signature");
     (refusal, message.len())
 }
 
-// The top tree's signature stands from byte 4 to 1295, the bottom tree's key from 1296 to 1351, and
-// the bottom tree's signature from 1352 on.
+// Bytes 4 to 1295 are the top tree's signature, 1296 to 1351 the bottom tree's key, and the rest the bottom tree's
+// signature.
 #[test]
 fn changes_are_refused(rt: HostRuntime) {
     let (public, signature) = signed();
@@ -205,9 +204,9 @@ fn changes_are_refused(rt: HostRuntime) {
     }
 }
 
-// The fields of a signature of two levels of H5 and W8, by where a run of fields of one size begins, and that size. At
-// each level these are q and the one-time type, C and 34 values, the tree's type, and five nodes (5.4). Before the top
-// one stands the number of levels, and between them a key: two types, I and the root (5.3).
+// The fields of a signature of two levels of H5 and W8, as runs of fields of one size: offset of the run, and the size.
+// A level has q and the one-time type, C and 34 values, the tree's type, and five nodes (5.4). Before the top one
+// stands the number of levels, between them a key: two types, I and the root (5.3).
 const FIELDS: [(u32, u32); 11] = [
     (0, 4),
     (12, 32),
@@ -235,7 +234,7 @@ fn each_beginning_is_cut_in_a_field(rt: HostRuntime) {
     }
 }
 
-// Gives its bytes in pieces of this size. Its first read may be interrupted, after which it goes on.
+// A message in pieces of this size. Its first read may be interrupted.
 #[derive(Drop)]
 struct Pieces<'a> {
     left: &'a [u8],
@@ -281,7 +280,7 @@ fn pieces_lead_to_the_verdict_on_the_whole(rt: HostRuntime) {
         );
         assert!(rt; message.left.is_empty());
     }
-    // one that gives nothing for ever is empty, and one that is interrupted can't be read
+    // a reader that never gives a byte is an empty message; one that is always interrupted can't be read
     let mut empty = in_pieces(&text, 0);
     let mut interrupted = in_pieces(&text, 63);
     interrupted.is_interrupted = true;
@@ -293,14 +292,14 @@ fn pieces_lead_to_the_verdict_on_the_whole(rt: HostRuntime) {
     );
 }
 
-// What comes of a signature whose message fails after so many bytes, and how many are left then.
+// The verdict where the message fails after this many bytes, and how many are then unread.
 fn of_failing(public: &HssPublic, signature: &[u8], count: usize) -> (Result<(), Refusal>, usize) {
     let mut message = Failing { left: count };
     let verdict = verify(public, &mut message, signature);
     (verdict, message.left)
 }
 
-// A message that fails is reported in its turn, and is as it was where another refusal comes before it.
+// A failing message is reported in its turn. It isn't touched where another refusal comes first.
 #[test]
 fn failing_messages_are_reported(rt: HostRuntime) {
     let (public, signature) = signed();
@@ -350,7 +349,7 @@ fn levels_are_compared(rt: HostRuntime) {
     assert!(rt; refusal(&rt, &public, &other) == (Refusal::TypeMismatch(1), 1));
 }
 
-// The signature with zeros of the types H5 and W4 at the bottom, whose key is of other types.
+// The signature, with zeros of the types H5 and W4 at the bottom, which aren't its key's.
 fn with_other_bottom(signature: &[u8; 2644]) -> [u8; 3700] {
     let mut bytes = [0; 3700];
     bytes[..1352].copy_from_slice(&signature[..1352]);
@@ -359,7 +358,7 @@ fn with_other_bottom(signature: &[u8; 2644]) -> [u8; 3700] {
     bytes
 }
 
-// A key of so many levels, of zeros.
+// A key of this many levels, of zeros.
 fn zero_key(levels: u8) -> [u8; 60] {
     let mut bytes = [0; 60];
     bytes[3] = levels;
@@ -406,12 +405,12 @@ fn keys_are_read(rt: HostRuntime) {
     assert!(rt; HssPublic::read(&bytes) == Err(unknown));
 }
 
-// Whether the signature of level i has these bytes.
+// Whether level i's signature is these bytes.
 fn has_level(view: &HssSigView<'_>, i: u8, bytes: &[u8]) -> bool {
     i < view.levels() && view.level(i).bytes() == bytes
 }
 
-// Whether the signature of level i has these bytes, and signs the key of these.
+// Whether level i's signature is these bytes, and signs the key of these.
 fn signs_key(view: &HssSigView<'_>, i: u8, bytes: &[u8], key: &[u8]) -> bool {
     match view.signed_key(i) {
         Some(next) => {
@@ -436,7 +435,7 @@ fn parts_are_shown(rt: HostRuntime) {
     assert!(rt; view.signed_key(1).is_none());
 }
 
-// The signature of the top level with the key that it signs, as a part of its own.
+// The top level's signature and the key that it signs, written as a whole signature has them.
 #[test]
 fn a_signed_key_is_written(rt: HostRuntime) {
     let (_, signature) = signed();
@@ -461,7 +460,7 @@ const GREATEST: LmsPair = LmsPair {
     ots: OtsType::W1,
 };
 
-// Levels, and how many bytes their signatures have.
+// Levels, and the length of their signatures in bytes.
 const LENGTHS: [(&[LmsPair], u32); 5] = [
     (&[PAIR], 1296),
     (&[PAIR; 2], 2644),
@@ -470,7 +469,7 @@ const LENGTHS: [(&[LmsPair], u32); 5] = [
     (&[GREATEST; 8], 74_988),
 ];
 
-// The bytes of signatures of these levels, if they are 1 to 8.
+// The signature length of these levels, if they are 1 to 8.
 fn len_of(pairs: &[LmsPair]) -> Option<u32> {
     match Levels::new(pairs) {
         Some(levels) => Some(signature_len(&levels)),
@@ -485,7 +484,7 @@ fn signatures_have_lengths(rt: HostRuntime) {
     }
 }
 
-// Whether level i has its place as its leaf, and signs a key that begins with it, above the bottom of eight levels.
+// Whether level i signs with leaf i, and above the bottom of eight levels signs a key that begins with i.
 fn is_numbered(view: &HssSigView<'_>, i: u8) -> bool {
     if i >= view.levels() || view.level(i).q() != u32::from(i) {
         return false;
@@ -496,7 +495,7 @@ fn is_numbered(view: &HssSigView<'_>, i: u8) -> bool {
     }
 }
 
-// Eight levels of H5/W8, each with its place in the list as its leaf.
+// Eight levels of H5/W8, level i with leaf i.
 #[test]
 fn eight_levels_are_read(rt: HostRuntime) {
     let mut bytes = [0; 10732];

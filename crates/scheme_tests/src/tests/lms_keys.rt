@@ -1,5 +1,4 @@
-//! Refusals in the order of the checks, and a signature that is made here by the standard's formulas,
-//! over SHA-256 alone.
+//! Refusals in the order of the checks, and a signature made by the standard's formulas over SHA-256 alone.
 
 mod made_by_others;
 
@@ -28,7 +27,7 @@ const ZERO_KEY: LmsPublic = LmsPublic {
     root: [0; 32],
 };
 
-// Its bytes: the two types, and zeros.
+// The two types, and zeros.
 fn zero_key() -> [u8; 56] {
     let mut bytes = [0; 56];
     bytes[3] = 5;
@@ -71,7 +70,7 @@ fn keys_are_read(rt: HostRuntime) {
     assert!(rt; LmsPublic::read(&bytes) == Err(fault(0, Cause::UnknownType)));
 }
 
-// What the bytes are refused with, under the key of zeros.
+// The refusal of these bytes under the key of zeros.
 fn refusal(rt: &impl Abort, signature: &[u8]) -> Refusal {
     let mut message: &[u8] = b"message";
     verify(&ZERO_KEY, &mut message, signature).expect_err(rt, "a signature of zeros")
@@ -106,7 +105,6 @@ fn signatures_are_refused(rt: HostRuntime) {
     }
 }
 
-// The leaf of a signature.
 fn leaf_of(signature: &[u8]) -> Result<u32, ReadFault> {
     Ok(LmsSigView::read(signature)?.q())
 }
@@ -119,7 +117,7 @@ fn the_last_leaf_is_read(rt: HostRuntime) {
     assert!(rt; refusal(&rt, &signature) == Refusal::RootMismatch(0));
 }
 
-// A signature that was read is refused as that of its level: the types come first, and leave the message.
+// A signature that decoded is refused with its level's number. Types come first, and leave the message untouched.
 #[test]
 fn levels_are_reported(rt: HostRuntime) {
     let zeros = zero_signature();
@@ -138,7 +136,7 @@ fn levels_are_reported(rt: HostRuntime) {
     assert!(rt; message.is_empty());
 }
 
-// Whether zeros with the codes of a pair, the tree's at its offset, are a signature, and none with one byte less.
+// Whether zeros with a pair's codes, the tree's at `offset`, are a signature, and one byte less is none.
 fn has_len(pair: LmsPair, codes: [u8; 2], offset: usize, zeros: &mut [u8]) -> bool {
     let len = zeros.len();
     if len < 32 || len > 9324 || offset >= len || pair.signature_len() != len as u32 {
@@ -178,7 +176,7 @@ fn higher_signature() -> [u8; 1452] {
     bytes
 }
 
-// Other types than the key's come before the root: another one-time type, and another tree's.
+// Another one-time type, or another tree's, is refused before the root.
 #[test]
 fn types_are_compared(rt: HostRuntime) {
     let mut longer = [0; 2348];
@@ -200,12 +198,12 @@ fn leaves_of_a_higher_tree(rt: HostRuntime) {
     assert!(rt; leaf_of(&bytes) == Err(fault(0, Cause::LeafOutOfRange)));
 }
 
-// Whether chain i of a signature of H5 and W8 holds one byte in all places.
+// Whether all bytes of chain i are this one, in a signature of H5 and W8.
 fn has_chain(view: &LmsSigView<'_>, i: u16, byte: u8) -> bool {
     view.types() == PAIR && i < 34 && *view.chain(i) == [byte; 32]
 }
 
-// Whether node k of its path does.
+// The same for node k of the path.
 fn has_node(view: &LmsSigView<'_>, k: u8, byte: u8) -> bool {
     view.types() == PAIR && k < 5 && *view.node(k) == [byte; 32]
 }
@@ -242,7 +240,7 @@ fn hasher(number: u32, kind: u16) -> Sha256 {
     hasher
 }
 
-// The value of a chain before step `to`, from its private value (4.3 and Appendix A).
+// A chain's value before step `to`, from its private value (4.3 and Appendix A).
 fn chain_value(q: u8, chain: u16, to: u8) -> [u8; 32] {
     let mut private = hasher(u32::from(q), chain);
     private.update([0xff]);
@@ -259,7 +257,7 @@ fn chain_value(q: u8, chain: u16, to: u8) -> [u8; 32] {
     value
 }
 
-// The leaf of q, which is T[32 + q] (5.3).
+// Leaf q, T[32 + q] (5.3).
 fn leaf(q: u8) -> [u8; 32] {
     let mut key = hasher(u32::from(q), 0x8080);
     for chain in 0..34 {
@@ -286,7 +284,7 @@ fn tree() -> [[u8; 32]; 64] {
     nodes
 }
 
-// The leaves of that tree, one by one and in lanes from each leaf on.
+// The leaves of that tree, one by one, and in lanes from each leaf on.
 #[test]
 fn leaves_are_made_one_by_one_and_in_lanes(rt: HostRuntime) {
     let nodes = tree();
@@ -308,7 +306,7 @@ fn leaves_are_made_one_by_one_and_in_lanes(rt: HostRuntime) {
     }
 }
 
-// The digits of a digest with those of its checksum, a byte each (4.4 and 4.5).
+// The digits of a digest and of its checksum, a byte each (4.4 and 4.5).
 fn digits(digest: &[u8; 32]) -> [u8; 34] {
     let mut digits = [0; 34];
     digits[..32].copy_from_slice(digest);
@@ -320,7 +318,7 @@ fn digits(digest: &[u8; 32]) -> [u8; 34] {
     digits
 }
 
-// The signature of a message by leaf q, with C = a5, .., a5 (4.5 and 5.4.1).
+// Leaf q's signature of a message, with C = a5, .., a5 (4.5 and 5.4.1).
 fn sign(nodes: &[[u8; 32]; 64], q: u8, message: &[u8]) -> [u8; 1292] {
     let randomizer = [0xa5; 32];
     let mut digest = hasher(u32::from(q), 0x8181);
@@ -341,8 +339,8 @@ fn sign(nodes: &[[u8; 32]; 64], q: u8, message: &[u8]) -> [u8; 1292] {
     bytes
 }
 
-// A valid signature of "message" is refused with a changed byte of q, of C, of a chain's value
-// or of a node; and under the code of a higher tree, whose path is longer.
+// The signature of "message" is refused with a byte of q, C, a value or a node changed. So it is under the code of a
+// higher tree, whose path is longer.
 fn assert_changes_refused(rt: &impl Abort, key: &LmsPublic, signature: &[u8; 1292]) {
     for offset in [3, 8, 40, 1127, 1132, 1291] {
         let mut changed = *signature;
@@ -391,8 +389,8 @@ fn signatures_are_verified(rt: HostRuntime) {
     }
 }
 
-// The fields of a signature of H5 and W8, by where a run of fields of one size begins, and that size: q and the
-// one-time type, C and 34 values, the tree's type, and five nodes (5.4).
+// The fields of a signature of H5 and W8, as runs of fields of one size: offset of the run, and the size. These are q
+// and the one-time type, C and 34 values, the tree's type, and five nodes (5.4).
 const FIELDS: [(u32, u32); 4] = [(0, 4), (8, 32), (1128, 4), (1132, 32)];
 
 #[test]
@@ -404,7 +402,7 @@ fn each_beginning_is_cut_in_a_field(rt: HostRuntime) {
     }
 }
 
-// Gives its bytes in pieces of 1 to 64, whose sizes are those of a linear congruential generator.
+// A message in pieces of 1 to 64 bytes, sized by a linear congruential generator.
 #[derive(Drop)]
 struct Pieces<'a> {
     left: &'a [u8],
@@ -426,7 +424,7 @@ impl Read for Pieces<'_> {
     }
 }
 
-// The verdict on a message in pieces, whose sizes the seed begins, and that on the whole message.
+// The verdict on a message in pieces, by a seed for their sizes, and the one on the whole message.
 fn verdicts(
     key: &LmsPublic,
     signature: &[u8; 1292],
@@ -443,7 +441,7 @@ fn verdicts(
     )
 }
 
-// Messages of 0 to 300 bytes, in pieces of sizes that no seed shares with another.
+// Messages of 0 to 300 bytes. No two seeds give the same sizes.
 #[test]
 fn random_pieces_lead_to_the_verdict_on_the_whole(rt: HostRuntime) {
     let nodes = tree();
@@ -472,8 +470,8 @@ fn random_pieces_lead_to_the_verdict_on_the_whole(rt: HostRuntime) {
     }
 }
 
-// A message that fails is reported before the root. Other types come before it, as does what can't be read, and
-// the message is then as it was.
+// A failing message is reported before the root. Other types and bytes that don't decode come first, and leave it
+// untouched.
 #[test]
 fn failing_messages_are_reported(rt: HostRuntime) {
     let zeros = zero_signature();

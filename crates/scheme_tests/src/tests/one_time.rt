@@ -1,5 +1,5 @@
-//! Expected values were computed with Python's hashlib by the formulas of RFC 8554, and where a test
-//! says so they are another program's.
+//! Expected values are from Python's hashlib, by the formulas of RFC 8554, or from another program where a test says
+//! so.
 
 use lmots::LmOts;
 use sha2::{Digest, Sha256};
@@ -23,7 +23,7 @@ const KEY: LmOts = LmOts {
     leaf: 5,
 };
 
-// FIPS 180-4's hash of the empty text, on which all formulas rest.
+// FIPS 180-4's hash of the empty text, which all formulas rest on.
 #[test]
 fn hash_of_nothing(rt: HostRuntime) {
     let expected = [
@@ -52,7 +52,7 @@ fn step_hashes_its_place(rt: HostRuntime) {
     assert!(rt; KEY.step(0x0102, 254, &RISING) == high);
 }
 
-// Each digit in each chain, with the same in all others, which then climb together to their ends, and with other ones.
+// Each digit in each chain: with the same in all others, which then climb together, and with other ones.
 #[test]
 fn each_length_climbs_in_each_lane(rt: HostRuntime) {
     for steps in 0..=255u8 {
@@ -65,8 +65,7 @@ fn each_length_climbs_in_each_lane(rt: HostRuntime) {
     }
 }
 
-// Of chains that climb together, each ends where it ends by itself, on the way to its digit of the digest and from
-// there on.
+// Chains that climb together end where each does by itself, on the way to the digest's digits and from there on.
 fn expect_signed(rt: &impl Abort, digest: &[u8; 32]) {
     let mut bytes = [0; 32 * 34];
     KEY.sign_digest(OtsType::W8, &RISING, digest, &mut bytes);
@@ -98,7 +97,7 @@ fn digest_takes_the_randomizer(rt: HostRuntime) {
     assert!(rt; KEY.message_digest(&RISING, b"abc") == expected);
 }
 
-// A reader's text has the digest of its bytes, around the length of one piece and of two.
+// A reader's digest is its bytes', for lengths around one piece and two.
 #[test]
 fn digest_of_a_reader(rt: HostRuntime) {
     let text = [7; 32769];
@@ -110,8 +109,8 @@ fn digest_of_a_reader(rt: HostRuntime) {
     }
 }
 
-// By a type and a digest, H(I || 00000005 || 8080 || y[0] || .. || y[p-1]), where y[i] is value i of a made up
-// signature after the steps digit i, .., 2^w - 2. Every digit of the last digest stands at its end.
+// A type, a digest, and H(I || 00000005 || 8080 || y[0] || .. || y[p-1]). y[i] is value i of a made-up signature after
+// the steps digit i, .., 2^w - 2. The last digest's digits all stand at the end.
 const MADE_UP: [(OtsType, [u8; 32], [u8; 32]); 5] = [
     (
         OtsType::W1,
@@ -160,7 +159,7 @@ const MADE_UP: [(OtsType, [u8; 32], [u8; 32]); 5] = [
     ),
 ];
 
-// The public hash of a made up signature: byte k of its values is k modulo 251.
+// The public hash of a made-up signature: byte k of its values is k modulo 251.
 fn hash_of_made_up(ots: OtsType, digest: &[u8; 32]) -> [u8; 32] {
     let mut bytes = [0u8; 32 * 265];
     for (k, byte) in bytes.iter_mut().enumerate() {
@@ -188,9 +187,10 @@ fn private_values_come_from_the_seed(rt: HostRuntime) {
     assert!(rt; KEY.private_value(&RISING, 3) == expected);
 }
 
-// By a type, the public hash of leaf 5's key, H(I || 00000005 || 8080 || y[0] || .. || y[p-1]), where y[i] is private
-// value i after all steps; that of leaf 77; and the digest of the values of leaf 5's signature of REAL_HASH, H(value 0
-// || .. || value p-1), where value i is private value i after the steps 0, .., digit i - 1.
+// A type, and three hashes from private values:
+// - The public hash of leaf 5, H(I || 00000005 || 8080 || y[0] || .. || y[p-1]), where y[i] is value i after all steps.
+// - The public hash of leaf 77.
+// - H(value 0 || .. || value p-1) of leaf 5's signature of REAL_HASH. Value i has taken the steps 0, .., digit i - 1.
 const MADE: [(OtsType, [u8; 32], [u8; 32], [u8; 32]); 3] = [
     (
         OtsType::W1,
@@ -256,8 +256,8 @@ fn public_hash_ends_every_chain(rt: HostRuntime) {
     }
 }
 
-// A key in each lane, with leaf 77 of its tree in all others: each lane has the public hash of its leaf, of which the
-// second one is leaf 77's.
+// The key is in one lane, leaf 77 of its tree in all others. Each lane has its leaf's public hash; `beside` is leaf
+// 77's.
 fn expect_lanes(
     rt: &impl Abort,
     key: &LmOts,
@@ -275,8 +275,8 @@ fn expect_lanes(
     }
 }
 
-// A key and a signature of type LMOTS_SHA256_N32_W8 that Bouncy Castle made. The hash below leads
-// along the signature's path to the root of the public key.
+// A key and a signature of type LMOTS_SHA256_N32_W8 that Bouncy Castle made. The hash below leads along the signature's
+// path to the public key's root.
 const REAL_KEY: LmOts = LmOts {
     identifier: [
         0x1e, 0x8c, 0x9c, 0x36, 0xf8, 0xe4, 0x64, 0xca, 0xf0, 0xa4, 0x12, 0xa0, 0xea, 0x48, 0x86,
@@ -290,7 +290,7 @@ const REAL_HASH: [u8; 32] = [
     0xa4, 0x8e, 0xf8, 0x5d, 0x58, 0x14, 0x62, 0xdd, 0xfb, 0x85, 0x08, 0xd8, 0xf5, 0x1e, 0xe7, 0x80,
 ];
 
-// That of leaf 77 of the same tree, by the formulas.
+// The public hash of leaf 77 of the same tree, by the formulas.
 const REAL_BESIDE: [u8; 32] = [
     0xed, 0xf6, 0x75, 0xfb, 0x2b, 0x89, 0x11, 0x73, 0xd6, 0x97, 0xe3, 0x13, 0xbd, 0x78, 0xcd, 0xbf,
     0x08, 0xd1, 0x5f, 0x18, 0x42, 0xcf, 0x35, 0x4c, 0xaf, 0x5e, 0x4a, 0xf5, 0xe6, 0x4f, 0xd6, 0x4f,
@@ -331,7 +331,7 @@ fn a_real_signature_leads_to_the_public_hash(rt: HostRuntime) {
     );
 }
 
-// The digest of the values of the signature of REAL_HASH by the key of leaf 5.
+// SHA-256 of the values of leaf 5's signature of REAL_HASH.
 fn digest_of_signed(ots: OtsType) -> [u8; 32] {
     let mut bytes = [0; 32 * 265];
     let values = &mut bytes[..32 * usize::from(ots.chains())];

@@ -3,7 +3,7 @@
 use std::io;
 use std::io::Read;
 
-/// Gives so many zeros, and then fails.
+/// Gives this many zeros, and then fails.
 #[derive(Drop)]
 pub(crate) struct Failing {
     pub(crate) left: usize,
@@ -21,8 +21,8 @@ impl Read for Failing {
     }
 }
 
-/// Where the field begins that is cut by an end at this offset, by where a run of fields of one size begins, and that
-/// size.
+/// The offset of the field that is cut where bytes end at `end`. `fields` are runs of fields of one size: offset of the
+/// run, and the size.
 pub(crate) fn cut_field(fields: &[(u32, u32)], end: u32) -> u32 {
     let mut place = 0;
     for (start, size) in fields {

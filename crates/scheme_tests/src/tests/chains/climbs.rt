@@ -7,7 +7,7 @@ use std::process::Abort;
 use winternitz::lanes::LANES;
 use winternitz::{Step, added, climb, climb_from, climb_to, climb_whole};
 
-// A step that counts itself in the first byte, and leaves its number and its chain in the next ones.
+// Counts steps in byte 0, and writes its own number and its chain to the bytes after it.
 struct Counting;
 
 impl Step for Counting {
@@ -40,14 +40,14 @@ fn climbs_take_a_step_for_each_number(rt: HostRuntime) {
     assert!(rt; climb(&Counting, 264, 0, 255, &start)[2] == 8);
 }
 
-// A chain in each lane, the least and the greatest number among them, and a value for each.
+// For each lane a chain, the least and the greatest number among them, and a value.
 const CHAINS: [u16; LANES] = [0, 264, 7, 65535, 255, 256, 1, 32768];
 
 const VALUES: [[u8; 32]; LANES] = [
     [1; 32], [2; 32], [3; 32], [4; 32], [255; 32], [6; 32], [0; 32], [8; 32],
 ];
 
-// Where chains begin and end: each of 0, 1, 2, 15 and 255 steps, in some lanes.
+// The places where chains begin and end: 0, 1, 2, 15 and 255 steps, each in some lanes.
 const WAYS: [([u8; LANES], [u8; LANES]); 7] = [
     (
         [0, 0, 0, 0, 0, 0, 0, 0],
@@ -78,7 +78,7 @@ fn chains_climb_from_any_place_and_to_any_other(rt: HostRuntime) {
     }
 }
 
-// Each number of steps, from the first place and to the last one.
+// Each number of steps, from place 0 on, and up to place 255.
 #[test]
 fn each_length_climbs_in_lanes(rt: HostRuntime) {
     for steps in 0..=255u8 {
@@ -87,7 +87,7 @@ fn each_length_climbs_in_lanes(rt: HostRuntime) {
     }
 }
 
-// Chains that climb together end where each ends by itself.
+// Chains that climb together end where each does by itself.
 fn expect_lanes(rt: &impl Abort, from: &[u8; LANES], steps: u8)
     requires { (j : ℕ) → j < lanes → slice_index from.now j + steps < 256 }
 {
@@ -99,7 +99,7 @@ fn expect_lanes(rt: &impl Abort, from: &[u8; LANES], steps: u8)
     }
 }
 
-// Each number of steps in each lane, with the same in the lanes beside it, and with other ones.
+// Each number of steps in each lane, with equal and with other numbers beside it.
 #[test]
 fn each_length_climbs_in_each_lane(rt: HostRuntime) {
     for steps in 0..=255u8 {
@@ -112,7 +112,7 @@ fn each_length_climbs_in_each_lane(rt: HostRuntime) {
     }
 }
 
-// Each chain's end is that of the chain by itself.
+// Each chain ends where it does by itself.
 fn expect_climbs(rt: &impl Abort, digits: &[u8], values: &[[u8; 32]])
     requires few { length values.now ≤ 265 }
     requires digits { length values.now ≤ length digits.now }
@@ -131,8 +131,8 @@ fn expect_climbs(rt: &impl Abort, digits: &[u8], values: &[[u8; 32]])
     }
 }
 
-// The digits of chains in a row: the first one's, by how much each next one's is greater, modulo 256, and that of
-// chain 2. Among them are chains of all sizes, of one size, and one that has all of the steps.
+// Rows of chains: the first digit, the step to each next digit (modulo 256), and chain 2's digit. They have chains of
+// all sizes, of one size, and one chain with all of the steps.
 const ROWS: [(usize, usize, u8); 8] = [
     (0, 37, 74),
     (0, 1, 2),
@@ -144,8 +144,8 @@ const ROWS: [(usize, usize, u8); 8] = [
     (128, 128, 7),
 ];
 
-// Numbers of chains that the lanes divide and that they don't: each lane takes a part of the row, in which chains begin
-// and end anywhere.
+// Numbers of chains that the lanes divide, and others. Each lane takes a part of the row, and chains begin and end
+// anywhere in it.
 #[test]
 fn all_chains_climb_as_each_by_itself(rt: HostRuntime) {
     for (first, more, third) in ROWS {

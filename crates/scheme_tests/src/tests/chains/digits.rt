@@ -5,7 +5,7 @@ ghost use Rattle.typecodes.specs.Types.{IsWidth};
 use std::process::Abort;
 use winternitz::digits;
 
-// The checksum's digits, as the end of the list, and the first digit.
+// The list begins with `first` and ends with `last`, the checksum's digits.
 fn expect_row(rt: &impl Abort, width: u8, digest: &[u8; 32], count: usize, first: u8, last: &[u8])
     requires { IsWidth width }
 {

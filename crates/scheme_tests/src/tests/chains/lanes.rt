@@ -8,7 +8,7 @@ use winternitz::lanes::{
     sha256_of_96, sha256_of_128,
 };
 
-// Bytes that look random: the high ones of a linear congruence.
+// Pseudorandom bytes: the high ones of a linear congruential generator.
 fn scrambled<const N: usize>(lane: usize, round: u32) -> [u8; N] {
     let mut bytes = [0; N];
     let mut state = round.wrapping_mul(69069).wrapping_add((lane % 256) as u32);
@@ -19,7 +19,7 @@ fn scrambled<const N: usize>(lane: usize, round: u32) -> [u8; N] {
     bytes
 }
 
-// The numbers of a chain and of a step in each lane, the least and the greatest among them.
+// For each lane a chain's and a step's number, the least and the greatest among them.
 const CHAINS: [u16; LANES] = [0, 3, 0x0102, 0xffff, 1, 0xff00, 0x8000, 0x00ff];
 
 const STEPS: [u8; LANES] = [0xff, 0, 7, 254, 0x80, 1, 0xff, 0];
@@ -91,8 +91,8 @@ fn messages_after_a_block_have_their_digests(rt: HostRuntime) {
     }
 }
 
-// 22 bytes and 0 to 265 values of 32, a message whose padding takes all the room, and lengths about those from which on
-// the padding takes a block more (FIPS 180-4 5.1.1).
+// 22 bytes and then 0 to 265 values of 32; a message whose padding fills the room; lengths around those where padding
+// takes one more block (FIPS 180-4 5.1.1).
 #[test]
 fn messages_of_any_length_have_their_digests(rt: HostRuntime) {
     for length in [
@@ -114,7 +114,7 @@ fn messages_of_any_length_have_their_digests(rt: HostRuntime) {
     }
 }
 
-// The digest of the first bytes.
+// SHA-256 of the first `length` bytes.
 fn digest_of(bytes: &[u8; 8576], length: usize) -> [u8; 32]
     requires { length ≤ 8576 }
 {

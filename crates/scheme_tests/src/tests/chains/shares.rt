@@ -6,7 +6,7 @@ use std::cell::Cell;
 use winternitz::lanes::LANES;
 use winternitz::{Step, climb_to};
 
-// A step that leaves a value as it is, and counts how often it is taken: by one chain alone, and in all lanes.
+// A step that changes no value, and counts how often it is taken: by one chain alone, and in lanes.
 #[derive(Drop)]
 struct Still {
     alone: Cell<usize>,
@@ -32,8 +32,7 @@ impl Step for Still {
     }
 }
 
-// How many steps of chains from their first values are taken by one chain alone, since the lanes have left them, and
-// how many are taken more than once.
+// How many steps are taken by one chain alone, because the lanes left them, and how many are taken more than once.
 fn left_by_lanes(digits: &[u8]) -> (usize, usize)
     requires { length digits.now ≤ 265 }
 {
@@ -52,8 +51,8 @@ fn left_by_lanes(digits: &[u8]) -> (usize, usize)
     (left, taken.wrapping_sub(wanted))
 }
 
-// The digit of the first chain, by how much that of each next one is greater, modulo a number, and how many chains
-// there are. None is longer than the part of a lane.
+// The first chain's digit, the step to each next digit, the modulus of both, and the number of chains. No chain is
+// longer than a lane's part.
 const KEYS: [(usize, usize, usize, usize); 7] = [
     (1, 0, 2, 265),
     (0, 1, 2, 265),
@@ -80,7 +79,7 @@ fn lanes_leave_fewer_steps_than_lanes(rt: HostRuntime) {
     }
 }
 
-// Keys with a chain that is longer than the part of a lane.
+// Keys with a chain that is longer than a lane's part.
 const LONG: [[u8; 6]; 6] = [
     [0, 0, 255, 0, 0, 0],
     [255, 0, 0, 0, 0, 1],
@@ -90,7 +89,7 @@ const LONG: [[u8; 6]; 6] = [
     [60, 100, 60, 0, 60, 0],
 ];
 
-// No chain stands in two lanes: each step is taken once, or left.
+// No chain is in two lanes: each step is taken once, or left.
 #[test]
 fn a_chain_climbs_in_one_lane(rt: HostRuntime) {
     for digits in LONG {

@@ -1,4 +1,4 @@
-//! The digits of a string of bytes.
+//! The digits of a byte string.
 
 use typecodes::coef;
 

@@ -2,11 +2,11 @@
 
 use typecodes::{Cause, Cursor, LmsType, OtsType, ReadFault, XmssType};
 
-// A field that is read next with what it gives, what the end says, or where the cursor stands.
+// A read with its expected answer, the end's answer, or where the cursor stands.
 enum Step {
     Number(Result<u32, ReadFault>),
     Block(u32, Result<&'static [u8], ReadFault>),
-    // the next three bytes, and a block of fifteen
+    // 3 and 15 bytes
     Three(Result<&'static [u8; 3], ReadFault>),
     Fifteen(Result<&'static [u8; 15], ReadFault>),
     Values(u32, Result<&'static [[u8; 32]], ReadFault>),
@@ -82,8 +82,7 @@ const AN_ARRAY_THAT_FITS: &[Step] = &[Step::Three(Ok(&[1, 2, 3]))];
 
 const AN_ARRAY_THAT_DOES_NOT: &[Step] = &[Step::Fifteen(Err(CUT_AT_0))];
 
-// A fault is reported at the start of the field that has it, each value being a field, and the cursor stays where it
-// was.
+// A fault is reported at the start of its field, and the cursor stays there. In a row of values each is a field.
 const NINES: &[u8] = &[9; 70];
 
 const CODES_THAT_NAME_NO_TYPE: &[Step] = &[
@@ -109,7 +108,7 @@ const CUT_IN_THE_FIRST_VALUE: &[Step] = &[Step::Values(2, Err(CUT_AT_0))];
 
 const CUT_IN_THE_SECOND_VALUE: &[Step] = &[Step::Values(2, Err(CUT_AT_32))];
 
-// H16, a code that names no type, and one byte.
+// H16, a code without a type, and one byte.
 const XMSS_FIELDS: &[u8] = &[0, 0, 0, 2, 0, 0, 0, 4, 0];
 
 const TYPES_OF_XMSS: &[Step] = &[Step::Xmss(Ok(XmssType::H16)), Step::Xmss(Err(UNKNOWN_AT_4))];
@@ -134,7 +133,7 @@ const RUNS: &[(&[u8], u32, &[Step])] = &[
     (XMSS_FIELDS, 8, A_TYPE_OF_XMSS_THAT_IS_CUT),
 ];
 
-// Takes a step, and says whether all is as it says.
+// Takes a step, and says whether its answer is the expected one.
 fn take(cursor: &mut Cursor<'_>, step: &Step) -> bool {
     if cursor.place > 100 {
         return false;
@@ -153,7 +152,7 @@ fn take(cursor: &mut Cursor<'_>, step: &Step) -> bool {
     }
 }
 
-// How many of the steps are as they say, up to the first that isn't. None where the bytes end before the cursor.
+// How many steps are right before the first wrong one. None where the bytes end before `start`.
 fn right_steps(bytes: &[u8], start: u32, steps: &[Step]) -> Option<usize> {
     let mut cursor = Cursor::new(bytes);
     cursor.block(start).ok()?;

@@ -1,4 +1,4 @@
-//! The levels of HSS keys, and how many there are.
+//! The levels of HSS keys, and their number.
 
 use typecodes::{LevelCount, Levels, LmsPair, LmsType, OtsType};
 
@@ -12,7 +12,7 @@ const BELOW: LmsPair = LmsPair {
     ots: OtsType::W1,
 };
 
-// The count that is made of a number, 0 where there is none.
+// The count of this number, 0 where there is none.
 fn count_of(number: u8) -> u8 {
     match LevelCount::new(number) {
         Some(count) => count.get(),
@@ -40,7 +40,7 @@ fn counts_are_1_to_8(rt: HostRuntime) {
     }
 }
 
-// Whether the pairs are levels, which are copied whole.
+// Whether the pairs are levels, and a copy has all of them.
 fn are_levels(pairs: &[LmsPair]) -> bool {
     match Levels::new(pairs) {
         Some(levels) => {
@@ -61,7 +61,7 @@ fn levels_of_each_count(rt: HostRuntime) {
     }
 }
 
-// None and nine are refused, and levels differ by their count and their order.
+// None and nine are refused. Count and order distinguish levels.
 #[test]
 fn other_levels(rt: HostRuntime) {
     assert!(rt; Levels::new(&[]).is_none());

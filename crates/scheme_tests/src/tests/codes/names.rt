@@ -22,7 +22,7 @@ const OTHER_BYTES: [&[u8]; 7] = [
     b"na\xc3\xafve",
 ];
 
-// Whether the bytes are a name, and its bytes.
+// Whether the bytes are a name, and are given back by it.
 fn is_name(bytes: &[u8]) -> bool {
     match Name::new(bytes) {
         Ok(name) => name.as_bytes() == bytes,
@@ -40,7 +40,6 @@ fn takes_visible_ascii_and_nothing_else(rt: HostRuntime) {
     }
 }
 
-// Whether the one name is the other.
 fn are_equal(name: &[u8], other: &[u8]) -> Result<bool, BadName> {
     Ok(Name::new(name)? == Name::new(other)?)
 }

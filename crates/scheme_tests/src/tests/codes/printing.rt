@@ -1,4 +1,4 @@
-//! What is printed of a name and of a spec that are none. `tests/run` counts the growths of memory of these two.
+//! What is printed for a wrong name and a wrong spec. `tests/run` counts the allocations of these two.
 
 use typecodes::{BadName, BadSpec};
 

@@ -1,4 +1,4 @@
-//! Messages that are read, by readers whose reads follow a plan.
+//! Reading of messages, by readers that follow a plan.
 
 use std::io;
 use std::io::{ErrorKind, Read};
@@ -7,15 +7,15 @@ use typecodes::{Message, PIECE, PieceTaker, ReadError, read_full, read_to_end};
 // What a read does.
 #[derive(Clone, Copy)]
 enum Step {
-    // gives as many bytes as there is room for, but at most so many
+    // gives as many bytes as fit, but at most this many
     Part(usize),
-    // says that it gave as many, and writes none
+    // says that it gave this many, and writes none
     Claimed(usize),
     Interrupted,
     Fails,
 }
 
-// A reader whose reads follow a plan, with nothing to give after it. Its bytes are 1, 2, 3 and so on.
+// A reader that follows a plan, and then ends. Its bytes are 1, 2, 3 and so on.
 #[derive(Drop)]
 struct Planned<'a> {
     plan: &'a [Step],
@@ -45,8 +45,7 @@ impl Read for Planned<'_> {
     }
 }
 
-// A buffer of five bytes is read so: how many bytes came, or by which kind of error it failed. So much of the plan is
-// left.
+// Fills five bytes: how many came or which error; the buffer; how much of the plan is left.
 fn filled_by(plan: &[Step]) -> (Result<usize, ErrorKind>, [u8; 5], usize) {
     let mut message = Planned { plan, given: 0 };
     let mut buffer = [0; 5];
@@ -57,8 +56,8 @@ fn filled_by(plan: &[Step]) -> (Result<usize, ErrorKind>, [u8; 5], usize) {
     (answer, buffer, message.plan.len())
 }
 
-// A read that gave a part goes on, and what follows a full buffer is left. Bytes that a read says it gave count as
-// given, also where it wrote none. Any error is the answer at once, and no end.
+// Reading goes on after a part, and stops once the buffer is full. The number that a read answers counts, even where it
+// wrote nothing. Any error is answered at once, and is no end.
 #[test]
 fn reads_go_on_until_a_failure(rt: HostRuntime) {
     use Step::{Claimed, Fails, Interrupted, Part};
@@ -93,7 +92,7 @@ fn reads_go_on_until_a_failure(rt: HostRuntime) {
     }
 }
 
-// What counts pieces and their bytes, and refuses the piece after so many.
+// Counts pieces and their bytes, and refuses a piece after this many.
 #[derive(Drop)]
 struct Tally {
     pieces: u32,
@@ -124,7 +123,7 @@ impl PieceTaker for Tally {
     ghost takes_more = { λ _ _ _ _ _ _ _. tt };
 }
 
-// How a message was read to its end, where at most so many pieces are taken.
+// How the reading of a whole message ended, where so few pieces are taken.
 #[derive(Drop, PartialEq)]
 enum End {
     Read,
@@ -190,7 +189,7 @@ trait OffsetFile {
     ghost use Rattle.std.specs.Io.{ReadsAtMost};
     ghost use Rattle.typecodes.specs.Message.{ReadOutcome, read_outcome};
 
-    // what a read at an offset of so many bytes does
+    // what a read of up to `room` bytes at an offset does
     ghost reads: { Self → (at room : ℕ) → ReadOutcome → Self → Type 0 };
 
     fn read_at(&mut self, at: u64, into: &mut [u8]) -> io::Result<usize>
@@ -198,7 +197,7 @@ trait OffsetFile {
         ensures reads { reads self.old at (length into.old) (read_outcome result into.new) self.new };
 }
 
-// What is left of a file from an offset on is a message, each of whose reads is one of the file at the next offset.
+// The rest of a file from an offset on, as a message: each read is one of the file at the next offset.
 #[derive(Drop)]
 struct AtOffset<'a, F> {
     file: &'a mut F,

@@ -1,4 +1,4 @@
-//! The specs by which keys are made.
+//! The specs of keys.
 
 use typecodes::{BadSpec, LmsPair, LmsType, OtsType, Spec, XmssType};
 
@@ -74,7 +74,7 @@ const TEXTS_OF_LEVELS: &[(&str, Read)] = &[
     ),
 ];
 
-// Whether the text is that of a key of these levels.
+// Whether the text is a spec with these levels.
 fn is_of_levels(text: &str, pairs: &[LmsPair]) -> bool {
     match Spec::parse(text) {
         Ok(Spec::Hss(levels)) => levels.as_slice() == pairs,
@@ -82,7 +82,6 @@ fn is_of_levels(text: &str, pairs: &[LmsPair]) -> bool {
     }
 }
 
-// Whether the text is read so.
 fn is_read(text: &str, wanted: &Read) -> bool {
     match wanted {
         Read::Lms(pair) => Spec::parse(text) == Ok(Spec::Lms(*pair)),
@@ -165,7 +164,7 @@ const OTHER_HEIGHTS: [&str; 14] = [
     "Xmss:10",
 ];
 
-// Each of these texts is that of no spec.
+// None of these texts is a spec.
 #[test]
 fn refuses_other_texts(rt: HostRuntime) {
     for texts in [OTHER_TEXTS.as_slice(), &OTHER_LEVELS, &OTHER_HEIGHTS] {

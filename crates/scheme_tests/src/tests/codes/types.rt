@@ -30,7 +30,7 @@ fn tree_types(rt: HostRuntime) {
     }
 }
 
-// The codes of the standard's XDR formats, and the lengths of signatures by RFC 8391 4.1.8.
+// Codes of the standard's XDR formats, lengths of signatures by RFC 8391 4.1.8.
 #[test]
 fn xmss_types(rt: HostRuntime) {
     for (xmss, code, height, len) in [
@@ -42,7 +42,7 @@ fn xmss_types(rt: HostRuntime) {
     }
 }
 
-// Each code in each of the three tables.
+// A code in each of the three tables.
 const CODES: [(u32, Option<OtsType>, Option<LmsType>, Option<XmssType>); 13] = [
     (0, None, None, None),
     (1, Some(OtsType::W1), None, Some(XmssType::H10)),

@@ -1,4 +1,4 @@
-//! Bytes that are written, by writers whose writes follow a plan.
+//! Writing of bytes, by writers that follow a plan.
 
 use arrayvec::ArrayVec;
 use std::io;
@@ -8,13 +8,13 @@ use typecodes::{Sink, write_all};
 // What a write does.
 #[derive(Clone, Copy)]
 enum Step {
-    // takes as many bytes as are offered, but at most so many
+    // takes as many bytes as are offered, but at most this many
     Part(usize),
     Interrupted,
     Fails,
 }
 
-// A writer whose writes follow a plan and then take nothing.
+// A writer that follows a plan, and then takes nothing.
 #[derive(Drop)]
 struct Planned<'a> {
     plan: &'a [Step],
@@ -48,8 +48,7 @@ impl Write for Planned<'_> {
     }
 }
 
-// Five bytes are written so: whether all were, or by which kind of error it failed; how many were taken, and whether
-// these are the first; and so much of the plan is left.
+// Writes five bytes: the answer; how many were taken; whether these are the first ones; how much of the plan is left.
 fn written_by(plan: &[Step]) -> (Result<(), ErrorKind>, usize, bool, usize) {
     let mut sink = Planned {
         plan,
@@ -108,7 +107,7 @@ trait OffsetFile {
         ensures writes { writes self.old at bytes.now (read_outcome result bytes.now) self.new };
 }
 
-// A file takes bytes from an offset on, where each write is one of the file at the next offset.
+// A file from an offset on, as a sink: each write is one of the file at the next offset.
 #[derive(Drop)]
 struct AtOffset<'a, F> {
     file: &'a mut F,

@@ -1,5 +1,5 @@
-//! Keys and signatures of leaf 3 that others made are made again, byte for byte: one by Python's
-//! hashlib, and one by Bouncy Castle. The roots of the standard's own trees are made.
+//! Keys and signatures of leaf 3 by Python's hashlib and by Bouncy Castle, made again byte for byte. The roots of the
+//! standard's own trees.
 
 use lmots::LmOts;
 use lms::{LmsPublic, LmsTree, verify, write_public, write_signature};
@@ -13,8 +13,7 @@ const PAIR: LmsPair = LmsPair {
     ots: OtsType::W8,
 };
 
-// A secret's key with its leaf 3's signature of a message have these digests, and are verified. The root by all leaves
-// is that of the key.
+// A secret's key and its leaf 3's signature have these digests, and verify. All leaves give the key's root.
 fn assert_made(
     rt: &impl Abort,
     secret: &LmsSecret,

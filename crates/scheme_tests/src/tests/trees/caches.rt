@@ -17,7 +17,7 @@ struct Counted<'a> {
 }
 
 impl<'a> Counted<'a> {
-    // The cache that keeps the block of a leaf.
+    // The cache that keeps leaf q's block.
     fn for_leaf(alloc: Global, tally: &'a Tally, height: u8, q: u32) -> Result<Self, OutOfMemory>
         requires height { height ≤ 25 }
         requires inside { q < 2 ^ height }
@@ -44,8 +44,7 @@ impl<'a> Counted<'a> {
         })
     }
 
-    // How many leaves the path of a leaf makes, as the cache counts them and as the tree does. The path leads to the
-    // root.
+    // How many leaves q's path makes, if cache and tree count alike and the path leads to the root.
     fn growth(&mut self, q: u32, into: &mut [[u8; 32]]) -> Option<u64> {
         let height = self.height;
         if height > 25 || into.len() != usize::from(height) || q >= 2u32.pow(u32::from(height)) {
@@ -76,15 +75,15 @@ fn paths_in_order_make_each_other_block_once(rt: HostRuntime) -> Result<(), Fail
     Ok(())
 }
 
-// The height of a tree, and leaves with how many leaves their paths make, in turn: two blocks that are made each time,
-// one in a tree of height 3, and none in a tree of one leaf.
+// A tree's height, and leaves in turn, each with how many leaves its path makes: two blocks that take turns, one block
+// in a tree of height 3, no block in a tree of one leaf.
 const IN_TURN: [(u8, &[(u32, u64)]); 3] = [
     (5, &[(0, 0), (4, 4), (0, 4), (4, 4), (7, 0), (0, 4), (3, 0)]),
     (3, &[(5, 2), (4, 0)]),
     (0, &[(0, 0)]),
 ];
 
-// Whether paths in turn are right, and make so many leaves.
+// Whether paths in turn are right, and make this many leaves.
 fn gives_in_turn(alloc: Global, height: u8, steps: &[(u32, u64)]) -> Result<bool, OutOfMemory> {
     if height > 5 {
         return Ok(false);
@@ -112,7 +111,7 @@ fn another_block_is_made_each_time(rt: HostRuntime) -> Result<(), Fail> {
     Ok(())
 }
 
-// The height of a tree, and how many leaves a block has.
+// A tree's height, and the leaves of a block.
 const SIZES: [(u8, u32); 8] = [
     (1, 1),
     (2, 2),
@@ -124,7 +123,7 @@ const SIZES: [(u8, u32); 8] = [
     (25, 4096),
 ];
 
-// Whether a cache of this height makes each leaf once, and for paths the leaves of a block.
+// Whether a cache of this height makes each leaf once, and then a block's leaves for a path.
 fn has_size(alloc: Global, height: u8, block: u32) -> Result<bool, OutOfMemory> {
     if height > 25 {
         return Ok(false);
@@ -156,8 +155,8 @@ fn caches_have_their_sizes(rt: HostRuntime) -> Result<(), Fail> {
     Ok(())
 }
 
-// The height of a tree, the leaf that a cache is made for, another leaf, in another block where there is one, and how
-// many leaves the other one's path makes afterwards.
+// A tree's height, the leaf that a cache is made for, another leaf (in another block if there is one), and how many
+// leaves this one's path then makes.
 const LEAVES: [(u8, u32, u32, u64); 14] = [
     (0, 0, 0, 0),
     (1, 0, 1, 1),
@@ -175,8 +174,8 @@ const LEAVES: [(u8, u32, u32, u64); 14] = [
     (10, 1023, 0, 32),
 ];
 
-// Whether a cache for leaf q has made each leaf once, gives the root and q's path, makes no leaf for them, and so many
-// for the path of the other leaf.
+// Whether a cache for leaf q has made each leaf once, gives the root and q's path without a leaf more, and makes this
+// many for the other leaf's path.
 fn begins_with_block(
     alloc: Global,
     height: u8,
@@ -215,8 +214,8 @@ fn caches_begin_with_the_block_of_a_leaf(rt: HostRuntime) -> Result<(), Fail> {
     Ok(())
 }
 
-// The height of a tree, how many leaves a cache has made after the paths of all leaves in turn, and how often in lanes:
-// when it was new, and by then. The blocks of trees of height 6 and 7 have eight leaves each, those of others fewer.
+// A tree's height; leaves made after the paths of all leaves in turn; how often in lanes, when the cache was new and by
+// then. Blocks have eight leaves at height 6 and 7, and fewer elsewhere.
 const TOGETHER: [(u8, u32, u32, u32); 8] = [
     (0, 1, 0, 0),
     (1, 3, 0, 0),
@@ -228,8 +227,7 @@ const TOGETHER: [(u8, u32, u32, u32); 8] = [
     (7, 248, 16, 31),
 ];
 
-// Whether a cache gives the root and the paths of all leaves in turn, and makes so many leaves for that, in lanes so
-// often.
+// Whether a cache gives the root and the paths of all leaves in turn, from this many leaves, made in lanes this often.
 fn gives_all(
     alloc: Global,
     height: u8,

@@ -1,12 +1,12 @@
-//! A cache that is made at the second try where memory is refused at the first. `tests/run` runs these with each growth
-//! of memory refused in turn: there are two, both in `new`.
+//! Where memory is refused to a cache, a second try makes it. `tests/run` runs these with each allocation refused in
+//! turn: there are two, both in `new`.
 
 use super::sums::{Sums, Tally};
 use merkle::{OutOfMemory, PathCache};
 use std::alloc::Global;
 
-// How many leaves a cache of height 5 makes with the path of its last leaf, which is in another block than the first,
-// and what its root begins with.
+// How many leaves a cache of height 5 makes, with the path of its last leaf, which isn't in the first block; and how
+// its root begins.
 fn made(alloc: Global) -> Result<(u64, [u8; 3]), OutOfMemory> {
     let tally = Tally::new();
     let mut cache = PathCache::new(alloc, Sums::new(&tally), 5)?;
@@ -16,7 +16,7 @@ fn made(alloc: Global) -> Result<(u64, [u8; 3]), OutOfMemory> {
     Ok((cache.leaves_made(), [root[0], root[1], root[2]]))
 }
 
-// The root's first byte is the sum of 1 to 32, modulo 256; it is the only join of nodes of height 4.
+// The root's first byte is the sum of 1 to 32, modulo 256. It is the only join of nodes of height 4.
 const MADE: Result<(u64, [u8; 3]), OutOfMemory> = Ok((36, [16, 4, 0]));
 
 #[test]
@@ -28,7 +28,7 @@ fn a_cache_is_made_at_last(rt: HostRuntime) {
     assert!(rt; made == MADE);
 }
 
-// This fails where memory is refused in `new`, and there alone.
+// This fails where memory is refused in `new`, and only there.
 #[test]
 fn a_cache_is_made_at_first(rt: HostRuntime) {
     assert!(rt; made(rt.alloc()) == MADE);

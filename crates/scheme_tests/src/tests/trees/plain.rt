@@ -7,7 +7,7 @@ use merkle::{NodeHash, TreeHash, path, root};
 use typecodes::Count;
 use winternitz::lanes::LANES;
 
-// The height of a tree, how many leaves it has, and how often its root and one of its paths make leaves in lanes.
+// A tree's height, its number of leaves, and how often its root, and a path of it, make leaves in lanes.
 const TOGETHER: [(u8, u32, u32, u32); 9] = [
     (0, 1, 0, 0),
     (1, 2, 0, 0),
@@ -20,7 +20,7 @@ const TOGETHER: [(u8, u32, u32, u32); 9] = [
     (10, 1024, 128, 127),
 ];
 
-// Whether the root of a tree is right, from so many leaves, made in lanes so often.
+// Whether the root is right, from this many leaves, made in lanes this often.
 fn is_root(height: u8, leaves: u32, together: u32) -> bool {
     if height > 10 {
         return false;
@@ -31,7 +31,7 @@ fn is_root(height: u8, leaves: u32, together: u32) -> bool {
     root == worked_out(height, 0) && tally.get() == (leaves, together)
 }
 
-// Whether a path is right, from all leaves but its own, made in lanes so often, and leads to the root.
+// Whether a path is right and leads to the root. It takes all leaves but its own, made in lanes this often.
 fn is_path_of(height: u8, q: u32, together: u32) -> bool {
     if height > 10 || q >= 2u32.pow(u32::from(height)) {
         return false;

@@ -7,7 +7,7 @@ use std::cell::Cell;
 use typecodes::Count;
 use winternitz::lanes::LANES;
 
-/// How many leaves were made, and how often as many as there are lanes were asked for together.
+/// How many leaves were made, and how often leaves were asked for in lanes.
 #[derive(Drop)]
 pub(crate) struct Tally {
     pub(crate) made: Cell<u32>,
@@ -22,14 +22,13 @@ impl Tally {
         }
     }
 
-    /// Both numbers.
     pub(crate) fn get(&self) -> (u32, u32) {
         (self.made.get(), self.together.get())
     }
 }
 
-/// Byte 0 of leaf i is i + 1; of a node it is the sum of its children's, byte 1 is their height and
-/// byte 2 the node's index. The tally counts leaves as it runs, and `count` for the contract.
+/// Leaf i has i + 1 in byte 0. A node has the sum of its children there, their height in byte 1 and its own index in
+/// byte 2. The tally counts leaves as it runs, `count` for the contract.
 #[derive(Drop)]
 pub(crate) struct Sums<'a> {
     tally: &'a Tally,
@@ -99,8 +98,8 @@ pub(crate) fn node(sum: u8, height: u8, index: u8) -> [u8; 32] {
     node
 }
 
-/// The node at this place in a tree of height 10 or less, by the sum of the n leaves below it, of which the first one
-/// has the index n * `index`: n times that, and the numbers from 1 to n.
+/// The expected node of a tree of height 10 or less. It has n leaves below it, the first of them n * `index`; so its
+/// sum is n times that, and the numbers 1 to n.
 pub(crate) fn worked_out(height: u8, index: u32) -> [u8; 32] {
     if height == 0 || height > 10 {
         return node((index.wrapping_add(1) % 256) as u8, 0, 0);
@@ -142,7 +141,7 @@ pub(crate) fn leads_to(q: u32, nodes: &[[u8; 32]], root: &[u8; 32]) -> bool {
     root_from_path(&tree, q, &leaf, nodes) == *root
 }
 
-// What is worked out is what was worked out by hand, of trees of height 3 and 0.
+// `worked_out` gives what was worked out by hand, for trees of height 3 and 0.
 #[test]
 fn values_are_worked_out(rt: HostRuntime) {
     assert!(rt; worked_out(3, 0) == node(36, 2, 0));

@@ -6,7 +6,7 @@ use std::alloc::Global;
 use std::cell::Cell;
 use std::test::Fail;
 
-// The number that was told last, and how often one was.
+// The number that was told last, and how often one was told.
 #[derive(Drop)]
 struct Numbers {
     last: Cell<u64>,
@@ -26,7 +26,7 @@ impl Numbers {
     }
 }
 
-// What notes them.
+// Notes what it is told.
 #[derive(Drop)]
 struct Heard<'a> {
     last: u64,
@@ -49,10 +49,11 @@ fn noting(numbers: &Numbers) -> Heard<'_> {
     Heard { last: 99, numbers }
 }
 
-// The height of a tree, and what is told of its root: that no leaf was made, and then each leaf, or each eight.
+// A tree's height, the number told last, and how often one was told for its root: 0 leaves, and then each leaf, or each
+// eight.
 const ROOTS: [(u8, u64, u32); 5] = [(0, 1, 2), (1, 2, 3), (2, 4, 5), (3, 8, 2), (5, 32, 5)];
 
-// Whether the root is right, and told of so.
+// Whether the root is right, and was told of like this.
 fn tells_of_root(height: u8, last: u64, often: u32) -> bool {
     if height > 10 {
         return false;
@@ -69,11 +70,11 @@ fn a_root_is_told_of(rt: HostRuntime) {
     }
 }
 
-// The same of caches, whose blocks are half as high: of height 5 three nodes have eight leaves each, and of height 6
+// The same for caches, whose blocks have half the height: at height 5 three nodes have eight leaves each, at height 6
 // each block has eight.
 const CACHES: [(u8, u64, u32); 4] = [(0, 1, 2), (2, 4, 5), (5, 32, 12), (6, 64, 9)];
 
-// Whether the cache has the root, and is told of so.
+// Whether the cache has the root, and was told of like this.
 fn tells_of_cache(alloc: Global, height: u8, last: u64, often: u32) -> Result<bool, OutOfMemory> {
     if height > 10 {
         return Ok(false);
