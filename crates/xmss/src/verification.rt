@@ -91,7 +91,7 @@ pub fn message_prefix(public: &XmssPublic, signature: &[u8]) -> Result<[u8; 128]
 }
 
 impl XmssSigView<'_> {
-    // Whether the signature of this digest leads to the key's root.
+    // Whether the signature of a digest leads to the key's root (RFC 8391 4.1.10).
     fn verify_digest<C: Climbing>(
         &self,
         climbing: &C,
