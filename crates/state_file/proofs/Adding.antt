@@ -8,7 +8,7 @@ use Rattle.state_file.specs.FileStore.{closed_gate}
 use Rattle.state_file.specs.Format.{PreparesPlace}
 use Rattle.state_file.specs.Gates.{AddsSlot, slot_and_gate}
 
--- the first write, and what both change
+-- the first write stays within what both change
 pub first_stays : (k : ℕ) (bytes content c : List ℕ) → length bytes ≡ 256 → ChangesOnly (range_of (256 * k + 1) bytes ∷ []) content c → ChangesOnly (slot_and_gate k ∷ []) content c
 first_stays k bytes content c size first = record {
   kept = λ offset inside outside. first.kept offset inside (⊎_elim (λ (low : offset < 256 * k). inl (omega arith)) (λ (high : 256 * k + 257 ≤ offset). inr (omega (arith, size))) outside.0, tt);
@@ -26,7 +26,7 @@ both_stay k bytes content mid c size first second = record {
   no_longer = omega (arith, size, first.no_longer, second.no_longer);
 }
 
--- a body and a closed gate
+-- a slot without its gate, and a closed gate, are 256 bytes
 pub block_size : (body bytes : List ℕ) → length body ≡ 255 → bytes ≡ body ++ 0 ∷ [] → length bytes ≡ 256
 block_size body bytes body_len is = omega (arith, ap length is, length-append body (0 ∷ []))
 
@@ -50,11 +50,11 @@ slot_added k body bytes content mid new body_len is first put synced second =
       len = omega (arith, size, reaches, first.no_shorter, second.no_shorter, first.no_longer, second.no_longer);
     }
 
--- a place that was prepared is as long as it was, and has a byte
+-- a prepared place keeps its length, but has a byte
 pub prepared_len : (content : List ℕ) (new : DiskState) → PreparesPlace content new → length new.content ≡ max (length content) 1
 prepared_len content new (rest, inl (short, put, changes)) = omega (arith, rest.ends.closed.0, changes.no_shorter, changes.no_longer)
 prepared_len content new (rest, inr (long, closed, same)) = omega (arith, ap length same)
 
--- what a stop leaves of a content of under 257 bytes while it is prepared has no key
+-- a crash while under 257 bytes are prepared leaves no key
 pub prepared_no_key : (content c : List ℕ) → length content < 257 → ChangesOnly (range_of 0 (0 ∷ []) ∷ []) content c → HasNoKey c
 prepared_no_key content c short changes = inl (omega (arith, short, changes.no_longer))

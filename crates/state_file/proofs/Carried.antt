@@ -39,7 +39,7 @@ pub carried_record_at : (honest : Bool) (records : List Record) (k : ℕ) (entry
 carried_record_at true records k entry moved below is = carried_at records k entry moved below is
 carried_record_at false records k entry moved below is = tt
 
--- ---- what is carried over begins with a Key of version 2
+-- ---- it begins with a Key of version 2
 
 pub record IsCarriedList (list : List Record) : Type 0 where
   pub key : Key
@@ -67,7 +67,7 @@ carried_list (Moved ∷ more) moved keyed = absurd (let is : false ≡ true = ke
 front_begins : (list : List Record) (n : ℕ) → IsCarriedList list → (version_in (take (suc n) list) ≡ Two) × (begins_with_key (take (suc n) list) ≡ true)
 front_begins list n carries = subst (λ (l : List Record). (version_in (take (suc n) l) ≡ Two) × (begins_with_key (take (suc n) l) ≡ true)) (sym carries.is) (carries.two, refl)
 
--- one record more of them
+-- one record more
 pub front_more : (list : List Record) (k : ℕ) (entry : Record) → slice_get list k ≡ Some entry → take (k + 1) list ≡ take k list ++ entry ∷ []
 front_more list k entry is = take_more list k entry (slice_get_within list k entry is) ∙ ap (λ (e : Record). take k list ++ e ∷ []) (get_or_from_slice_get list k entry entry is)
 
@@ -79,7 +79,7 @@ pub front_keyed : (list : List Record) (k : ℕ) (entry : Record) → IsCarriedL
 front_keyed list k entry carries is =
     ap begins_with_key (sym (front_more list k entry is) ∙ ap (λ n. take n list) (add-one k)) ∙ (front_begins list k carries).1
 
--- ---- loading them
+-- ---- loading the records
 
 pub loads_carried : (honest : Bool) (records : List Record) (old_stopped : Bool) (k : ℕ) (new_stopped : Bool) (before after : ℕ) (found : Option Record) (entry result : Record) → has_moved records ≡ true → k + 1 < length records → found ≡ Some entry
     → result ≡ in_version Two entry → Loads honest records old_stopped k new_stopped before after (Ok found) → LoadsCarried honest records k new_stopped before after (Ok result)

@@ -1,4 +1,4 @@
--- What opening finds in a content: something, and one thing.
+-- Opening finds something in every content, and one thing only.
 use Rattle.std.proofs.Common.{◌≡◌, ◌⊎◌, inl, inr, ℕ, zero, suc, ◌+◌, ◌*◌, ◌<◌, true, List, [], ◌∷◌, ◌++◌, length, get_or, Option, Some, None, refl, sym, ap, ◌∙◌, subst, arith, true≢false, length-append}
 use Rattle.std.specs.Prelude.{◌==◌, slice_get}
 use Rattle.std.specs.Cmp.Lexicographic.{bytes_decides, pointwise}
@@ -21,7 +21,7 @@ use Rattle.state_file.specs.Shown.{key-begins, key-first, version_first}
 
 -- ---- slots
 
--- a gate is open or closed where the content reaches so far
+-- a gate in the content is open or closed
 pub open_or_closed : (content : List ℕ) (k : ℕ) → 256 * k < length content → IsOpen content k ⊎ IsClosed content k
 open_or_closed content k reaches =
     elim (slice_get_cases content (256 * k)).1 [
@@ -38,11 +38,11 @@ open-reaches content k opened = slice_get_within content (256 * k) open_value op
 pub closed-reaches : (content : List ℕ) (k : ℕ) → IsClosed content k → 256 * k < length content
 closed-reaches content k shut = shut.0
 
--- a slot holds one record
+-- a slot holds at most one record
 one_record_at : (version : Version) (content : List ℕ) (k : ℕ) (entry other : Record) → Holds version content k entry → Holds version content k other → entry ≡ other
 one_record_at version content k entry other first second = one_value (slot_record version) entry other (fields_at content k) first.spelled second.spelled
 
--- a slot holds a record or none
+-- a slot holds a record, or none
 holds_or_not : (version : Version) (content : List ℕ) (k : ℕ) → ((entry : Record) × Holds version content k entry) ⊎ ((entry : Record) → Holds version content k entry → ⊥)
 holds_or_not version content k =
     let fields = fields_at content k in
@@ -55,7 +55,7 @@ holds_or_not version content k =
       | inr (fault, faulty) ↦ inr (λ entry holds. no_value (slot_record version) entry fields 0 fault holds.spelled faulty)
     ]
 
--- an open slot is whole or not
+-- an open slot is whole, or not
 pub whole_or_not : (version : Version) (content : List ℕ) (k : ℕ) → IsOpen content k → IsWhole version content k ⊎ (IsWhole version content k → ⊥)
 whole_or_not version content k opened =
     elim (cases_lt k most_records) [
@@ -80,14 +80,14 @@ begins-none version content may = record {
   holds = λ k entry is. absurd (omega (arith, slice_get_within {A = Record} [] k entry is));
 }
 
--- the last of more records, or one before it
+-- an item of a longer list is the last, or one before it
 snoc_get : {A : Type 0} (xs : List A) (x : A) (k : ℕ) (y : A) → slice_get (xs ++ x ∷ []) k ≡ Some y → (slice_get xs k ≡ Some y) ⊎ ((k ≡ length xs) × (x ≡ y))
 snoc_get [] x zero y is = inr (refl, cc)
 snoc_get [] x (suc k) y is = absurd (cc)
 snoc_get (first ∷ xs) x zero y is = inl is
 snoc_get (first ∷ xs) x (suc k) y is = elim (snoc_get xs x k y is) [ inl there ↦ inl there | inr last ↦ inr (ap suc last.0, last.1) ]
 
--- one slot more, if it is whole
+-- one whole slot more
 pub begins-more : (version : Version) (content : List ℕ) (records : List Record) → Begins version content records → (whole : IsWhole version content (length records)) → Begins version content (records ++ whole.entry ∷ [])
 begins-more version content records begins whole =
     let count : length (records ++ whole.entry ∷ []) ≡ length records + 1 = length-append records (whole.entry ∷ []) in record {
@@ -117,7 +117,7 @@ begins-whole version content records k begins below =
       | inr (past, _) ↦ absurd (omega (arith, past, below))
     ]
 
--- where the first slot is a Key's, its version is that of the records
+-- if the first slot is a Key's, its version is the records'
 begins-version : (version : Version) (content : List ℕ) (records : List Record) (entry : Record) → Begins version content records → begins_key (fields_at content 0) ≡ true → slice_get records 0 ≡ Some entry
     → (key : Key) × (slice_get records 0 ≡ Some (KeyRecord key)) × (version ≡ version_in records)
 begins-version version content records entry begins key is =
@@ -127,7 +127,7 @@ begins-version version content records entry begins key is =
     let own = (key-begins version first (fields_at content 0) (subst (λ e. Spells (slot_record version) e (fields_at content 0)) same spelled)).2 in
     (first, there, sym own ∙ sym (version_first records first there))
 
--- and where the next gate is closed it is all
+-- if the next gate is closed, these are all records
 pub begins-all : (version : Version) (content : List ℕ) (records : List Record) → Begins version content records → MayHaveKey content → begins_key (fields_at content 0) ≡ true → IsClosed content (length records)
     → SpellsRecords content records × (version ≡ version_in records)
 begins-all version content records begins may key closed =
@@ -148,7 +148,7 @@ begins-all version content records begins may key closed =
           absurd (not_both content 0 may.opened (subst (IsClosed content) none closed))
     ]
 
--- records that are spelled begin the content
+-- spelled records begin the content
 pub spelled-begins : (content : List ℕ) (records : List Record) → SpellsRecords content records → Begins (version_in records) content records
 spelled-begins content records is = record {
   few = is.few;
@@ -159,7 +159,7 @@ spelled-begins content records is = record {
 
 -- ---- something is reported
 
--- what the next gate says, where a whole slot leads on
+-- what the next gate means
 judged : (version : Version) (content : List ℕ) (records : List Record) → Begins version content records → MayHaveKey content → begins_key (fields_at content 0) ≡ true
     → version_of (fields_at content 0) ≡ Some version → (IsWhole version content (length records) → (opening : ContentKind) × OpensAs content opening) → (opening : ContentKind) × OpensAs content opening
 judged version content records begins may key known more =
@@ -182,7 +182,7 @@ judged version content records begins may key known more =
       ]
     ]
 
--- so from whole slot to whole slot, up to the most
+-- from whole slot to whole slot, up to the greatest number
 opening_from : (version : Version) (content : List ℕ) (left : ℕ) (records : List Record) → left + length records ≡ most_records → Begins version content records → MayHaveKey content → begins_key (fields_at content 0) ≡ true
     → version_of (fields_at content 0) ≡ Some version → (opening : ContentKind) × OpensAs content opening
 opening_from version content zero records count begins may key known = judged version content records begins may key known (λ whole. absurd (omega (arith, count, whole.few)))
@@ -212,29 +212,29 @@ some_opening content =
       ]
     ]
 
--- ---- and no more
+-- ---- and one thing only
 
--- where no key can stand, none may
+-- `HasNoKey` excludes `MayHaveKey`
 no_key_may : (content : List ℕ) → HasNoKey content → MayHaveKey content → ⊥
 no_key_may content (inl short) may = omega (arith, short, may.long)
 no_key_may content (inr closed) may = not_both content 0 may.opened closed
 
--- where records are spelled, a key may stand
+-- where records are spelled, there may be a key
 spelled-may : (content : List ℕ) (records : List Record) → SpellsRecords content records → MayHaveKey content
 spelled-may content records is =
     let some = slice_get_within records 0 (KeyRecord is.first.0) is.first.1 in
     record { long = omega (arith, some, closed-reaches content (length records) is.closed); opened = is.opened 0 some }
 
--- its first slot is a Key's, of the version of the records
+-- their first slot is a Key's, of their version
 spelled-key : (content : List ℕ) (records : List Record) → SpellsRecords content records → (begins_key (fields_at content 0) ≡ true) × (version_of (fields_at content 0) ≡ Some (version_in records))
 spelled-key content records is =
     let (begins, known, _) = key-begins (version_in records) is.first.0 (fields_at content 0) (is.holds 0 (KeyRecord is.first.0) is.first.1).spelled in (begins, known)
 
--- a version that is known is one
+-- a content shows one version
 same_version : (content : List ℕ) (a b : Version) → version_of (fields_at content 0) ≡ Some a → version_of (fields_at content 0) ≡ Some b → a ≡ b
 same_version content a b first second = same_Some a b (sym first ∙ second)
 
--- lists of records that are spelled have one length
+-- spelled lists have one length
 not_shorter : (content : List ℕ) (xs ys : List Record) → SpellsRecords content xs → SpellsRecords content ys → length xs < length ys → ⊥
 not_shorter content xs ys first second shorter = not_both content (length xs) (second.opened (length xs) shorter) first.closed
 
@@ -256,7 +256,7 @@ one_list content xs ys first second =
     (subst (λ v. Holds v content k (get_or xs k d)) version (first.holds k (get_or xs k d) (slice_get-get_or xs k d below)))
     (second.holds k (get_or ys k d) (slice_get-get_or ys k d (omega (arith, below, count)))))
 
--- where records are spelled, no slot is damaged
+-- with spelled records no slot is damaged
 spelled-whole : (content : List ℕ) (records : List Record) (k : ℕ) → SpellsRecords content records → IsDamagedAt content k → ⊥
 spelled-whole content records k is is_damaged =
     let version = same_version content (version_in records) is_damaged.version (spelled-key content records is).1 is_damaged.known in
@@ -276,7 +276,7 @@ one_damaged content j k first second =
       | inr (inr above) ↦ absurd (second.damaged (subst (λ v. IsWhole v content k) version (first.before k above)))
     ]
 
--- a version is known or not
+-- a version isn't both known and unknown
 known_or_not : (found : Option Version) (version : Version) → found ≡ Some version → found ≡ None → ⊥
 known_or_not found version known unknown = absurd (let clash = sym known ∙ unknown in cc)
 
@@ -315,6 +315,6 @@ standing (entry ∷ entries) content opening spells opens = inr (one_opening con
 no_key_or_spelled : (records : List Record) → no_key ≡ spelled records → ⊥
 no_key_or_spelled records same = cc
 
--- without a key a content can't sign
+-- a content without a key can't sign
 pub no_key_cannot : (content : List ℕ) → HasNoKey content → CanSign content → ⊥
 no_key_cannot content none can = no_key_or_spelled can.records (one_opening content no_key (spelled can.records) none can.spelled)

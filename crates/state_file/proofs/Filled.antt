@@ -1,4 +1,4 @@
--- What a stop leaves in each step by which a place is filled.
+-- What a crash leaves in each step of filling a place.
 use Rattle.std.proofs.Common.{◌≡◌, ◌⊎◌, inl, inr, ⊎_elim, ℕ, ◌+◌, ◌-◌, ◌<◌, ◌≤◌, Bool, List, [], ◌∷◌, sym, ◌∙◌, subst, arith}
 use Rattle.std.specs.Prelude.{IsTrue, IfOk, Result, Ok, Err}
 use Rattle.state_file.specs.Carried.{carried}
@@ -52,7 +52,7 @@ module _ (honest : Bool) (records : List Record) (end : ℕ) (some : 1 ≤ end) 
     kind = λ is. ⊎_elim (λ (none : HasNoKey c). inl none) (λ (same : c ≡ opened content). inr (subst (λ (l : List ℕ). SpellsRecords l (carried records)) (sym same) (spelled is))) left.0;
   }
 
--- the number of records that are carried over
+-- how many records are carried over
 pub counted : {E : Type 0} (all some : ℕ) (result : Result ℕ E) → all - 1 ≡ some → IfOk result (λ n. n + 1 ≡ all) → IfOk result (λ n. n ≡ some)
 counted all some (Ok n) same is = omega (arith, same, is)
 counted all some (Err fault) same is = tt

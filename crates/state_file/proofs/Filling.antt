@@ -1,4 +1,4 @@
--- Files that are written behind a first gate that stays closed.
+-- Files written behind a first gate that stays closed.
 use Rattle.std.proofs.Common.{◌≡◌, ◌⊎◌, inl, inr, ⊎_elim, ℕ, zero, suc, ◌+◌, ◌-◌, ◌<◌, ◌≤◌, List, [], ◌∷◌, ◌++◌, length, take, drop, get_or, slice_index, slice_range, refl, sym, ◌∙◌, ap, subst, arith, append_assoc, length-append, length-drop, take-append-drop, get_or-drop}
 use Rattle.std.specs.Prelude.{Result, Ok, Err, OnOk}
 use Rattle.state_file.specs.Disk.{IsSynced, Syncs, settled}
@@ -12,7 +12,7 @@ use Rattle.state_file.specs.Filling.{AreWithin, IsUnfinished, after_first_gate, 
 use Rattle.state_file.specs.Gates.{IsClosedAfter}
 use Rattle.state_file.proofs.SlotWrites.{Stages, split, join, stage_done}
 
--- ---- what a stop leaves
+-- ---- what a crash leaves
 
 outside_all : (whole : Range) (ranges : List Range) (offset : ℕ) → AreWithin whole ranges → (offset < whole.from) ⊎ (whole.to ≤ offset) → IsOutside offset ranges
 outside_all whole [] offset within aside = tt
@@ -25,7 +25,7 @@ ends_within : (whole : Range) (ranges : List Range) (len : ℕ) → AreWithin wh
 ends_within whole [] len within = omega arith
 ends_within whole (range ∷ ranges) len within = omega (arith, within.1, ends_within whole ranges len within.2)
 
--- a stop changes nothing but what was written after the first gate
+-- a crash changes only what was written after the first gate
 pub unfinished_leaves : (end : ℕ) (base : List ℕ) (state : DiskState) (c : List ℕ) → IsUnfinished end base state → MayLeave state c → ChangesOnly (after_first_gate end ∷ []) base c
 unfinished_leaves end base state c unfinished left = subst (λ (b : List ℕ). ChangesOnly (after_first_gate end ∷ []) b c) unfinished.same_base (record {
   kept = λ offset inside outside. left.kept offset inside (outside_all (after_first_gate end) state.ranges offset unfinished.within outside.0);
@@ -54,7 +54,7 @@ gate_same content c bytes some one changes = same_lists c (slice_index c 0 ∷ d
         get_or_default c (suc j) d 0 inside ∙ changes.kept (suc j) below (inr (omega (arith, one)), tt) ∙ get_or_default content (suc j) 0 d below
         ∙ ap (λ n. get_or content n d) (let e : suc j ≡ 1 + j = omega arith in e) ∙ sym (get_or-drop 1 content j d)
 
--- what a stop leaves while the first gate is opened
+-- what a crash leaves meanwhile
 pub gate_leaves_all : (content c : List ℕ) (bytes : List ℕ) → 0 < length content → length bytes ≡ 1 → bytes ≡ open_value ∷ [] → ChangesOnly (range_of 0 bytes ∷ []) content c → HasNoKey c ⊎ (c ≡ opened content)
 gate_leaves_all content c bytes some one is changes = elim (cases_eq (slice_index c 0) open_value) [
   | inl is_open ↦ inr (gate_same content c bytes some one changes ∙ ap (λ n. n ∷ drop 1 content) is_open)
@@ -93,7 +93,7 @@ sync_leaves end base old new c (Err fault) unfinished shows synced may =
 
 -- ---- slots
 
--- bytes that were written, and what follows them
+-- written bytes, and what follows them
 put_parts : (new bytes : List ℕ) (at : ℕ) → slice_range new at (at + length bytes) ≡ bytes → drop at new ≡ bytes ++ drop (length bytes) (drop at new)
 put_parts new bytes at put =
     let tail = drop at new in
@@ -124,7 +124,7 @@ put_first body content new bytes closed is changes put =
     let staged : Stages [] body new = stage_done [] body 0 refl content new bytes (record { begins = refl; closed = closed }) is changes put in
     join (open_value ∷ body) (opened new) (record { gate = 0; rest = staged.rest; whole = ap opened staged.whole; closed = omega arith })
 
--- with the first gate open, too
+-- the same with the first gate open
 opened_size : (content : List ℕ) → 0 < length content → length (opened content) ≡ length content
 opened_size content some = omega (arith, some, length-drop 1 content)
 
@@ -148,14 +148,14 @@ opened_tail [] at after some = absurd (omega (arith, some))
 opened_tail (x ∷ rest) zero after some = absurd (omega (arith, after))
 opened_tail (x ∷ rest) (suc n) after some = refl
 
--- A later slot was written over its gate, which was closed.
+-- A later slot was written over its closed gate.
 pub put_next : (front body content new bytes : List ℕ) (at : ℕ) → 0 < at → length front ≡ at → IsClosedAfter front (opened content) → 0 < length content → bytes ≡ open_value ∷ (body ++ 0 ∷ []) → ChangesOnly (range_of at bytes ∷ []) content new
     → slice_range new at (at + length bytes) ≡ bytes → IsClosedAfter (front ++ open_value ∷ body) (opened new)
 put_next front body content new bytes at after len holds some is changes put =
     let same : drop at (opened new) ≡ drop at new = opened_tail new at after (omega (arith, some, changes.no_shorter)) in
     over_gate front body (opened content) (opened new) bytes at len holds is (opened_changes content new bytes at some after changes) (ap (λ (l : List ℕ). take (at + length bytes - at) l) same ∙ put)
 
--- ---- all that is changed
+-- ---- all changes
 
 pub widened : (end : ℕ) (base c : List ℕ) → ChangesOnly (after_first_gate end ∷ []) base c → ChangesOnly (offsets_below end ∷ []) base c
 widened end base c changes = record {
@@ -173,11 +173,11 @@ gate_widened end base content c bytes some one first second = record {
   no_longer = omega (arith, one, some, first.no_longer, second.no_longer);
 }
 
--- what a stop leaves before the first gate is opened
+-- what a crash leaves before the first gate is opened
 pub before_gate : (end : ℕ) (base content c : List ℕ) → IsClosed base 0 → ChangesOnly (after_first_gate end ∷ []) base c → (HasNoKey c ⊎ (c ≡ opened content)) × ChangesOnly (offsets_below end ∷ []) base c
 before_gate end base content c closed changes = (inl (inr (still_closed end base c closed changes)), widened end base c changes)
 
--- and while it is
+-- and meanwhile
 pub at_gate : (end : ℕ) (base content mid c bytes : List ℕ) → IsClosed base 0 → 1 ≤ end → bytes ≡ open_value ∷ [] → mid ≡ content → ChangesOnly (after_first_gate end ∷ []) base content → ChangesOnly (range_of 0 bytes ∷ []) mid c
     → (HasNoKey c ⊎ (c ≡ opened content)) × ChangesOnly (offsets_below end ∷ []) base c
 at_gate end base content mid c bytes closed some is same first second =
@@ -187,7 +187,7 @@ at_gate end base content mid c bytes closed some is same first second =
       gate_widened end base content c bytes some one first changes,
     )
 
--- where it was opened
+-- and afterwards
 pub gate_done : (end : ℕ) (base content : List ℕ) (mid new : List ℕ) (bytes : List ℕ) → IsClosed base 0 → bytes ≡ open_value ∷ [] → mid ≡ content → ChangesOnly (after_first_gate end ∷ []) base content → ChangesOnly (range_of 0 bytes ∷ []) mid new
     → slice_range new 0 (0 + length bytes) ≡ bytes → new ≡ opened content
 gate_done end base content mid new bytes closed is same first second put =

@@ -1,4 +1,4 @@
--- Finding the records of a file, slot after slot.
+-- Finding a file's records, slot after slot.
 use Rattle.std.proofs.Common.{◌≡◌, ℕ, ◌+◌, ◌*◌, ◌<◌, Bool, true, false, List, [], ◌∷◌, ◌++◌, length, slice_index, Option, Some, None, Result, Err, refl, sym, ap, ◌∙◌, subst, arith, eqb-true, add-one, true≢false}
 use Rattle.std.specs.Prelude.{◌==◌, IfErr, slice_get}
 use Rattle.std.proofs.lemmas.Option.{slice_get-get_or, slice_get_within}
@@ -44,7 +44,7 @@ module _ {D : Type 0} (state : D → DiskState) (moment : D → ℕ) (left_since
         (weaker moment left_since mid new (MayLeave (state mid)) (MayLeave (state old)) (λ c left. subst (λ (s : DiskState). MayLeave s c) first.stays left) second.leaves);
   }
 
-  -- what is synced is left by a stop before the sync, too
+  -- a crash before the sync could leave what is synced
   pub reads_settled : (old mid new : D) → MayLeave (state old) (state old).content → state mid ≡ settled (state old).content → LeavesOnly moment left_since old mid (MayLeave (state old)) → OnlyReads state moment left_since mid new
       → LeavesOnly moment left_since old new (MayLeave (state old))
   reads_settled old mid new shows settled_now first second =
@@ -65,11 +65,11 @@ gate_closed content k within other = closed_gate content k within (λ is_open. t
 
 -- ---- slots
 
--- a slot that is read is whole
+-- a slot that was read is whole
 pub has_whole : (version : Version) (content : List ℕ) (k : ℕ) (entry : Record) (tag : List ℕ) → IsOpen content k → HasSlot version content k entry tag → IsWhole version content k
 has_whole version content k entry tag opened slot = record { opened = opened; few = slot.few; ends = slot.ends; entry = entry; holds = slot.holds }
 
--- one whose bytes spell a record
+-- its bytes spell a record
 pub slot_found : (version : Version) (content previous fields tag : List ℕ) (k : ℕ) (entry : Record) → k < most_records → 256 * (k + 1) < length content → previous ≡ previous_tag content k → fields ≡ fields_at content k → tag ≡ tag_at content k
     → Spells (slot_record version) entry fields → tag ≡ tag_of previous fields → HasSlot version content k entry tag
 slot_found version content previous fields tag k entry few ends before fields_are tag_is spelled tagged = record {
@@ -82,14 +82,14 @@ slot_found version content previous fields tag k entry few ends before fields_ar
   tagged = tag_is;
 }
 
--- what the record that was read is
+-- the record that was read
 pub holds_entry : (version : Version) (content : List ℕ) (k : ℕ) (found : Option Record) (entry : Record) → HasEntry version content k found → found ≡ Some entry → Holds version content k entry
 holds_entry version content k found entry has is = subst (HasEntry version content k) is has
 
 pub holds_none : (version : Version) (content : List ℕ) (k : ℕ) (found : Option Record) → HasEntry version content k found → found ≡ None → (entry : Record) → Holds version content k entry → ⊥
 holds_none version content k found has is = subst (HasEntry version content k) is has
 
--- one whose bytes spell none isn't whole
+-- a slot whose bytes spell none isn't whole
 pub slot_damaged : (version : Version) (content previous fields tag : List ℕ) (k : ℕ) → previous ≡ previous_tag content k → fields ≡ fields_at content k → tag ≡ tag_at content k
     → ((entry : Record) → Spells (slot_record version) entry fields → tag ≡ tag_of previous fields → ⊥) → IsWhole version content k → ⊥
 slot_damaged version content previous fields tag k before fields_are tag_is none whole =
@@ -98,7 +98,7 @@ slot_damaged version content previous fields tag k before fields_are tag_is none
 
 -- ---- from slot to slot
 
--- The content begins with these records of this version, and this is the last one's tag.
+-- The content begins with these records, in this version, and this is the last one's tag.
 pub record BeginsFound (version : Version) (content : List ℕ) (count : ℕ) (records : List Record) (tag : List ℕ) : Type 0 where
   pub begins : Begins version content records
   pub last : tag ≡ previous_tag content count
@@ -118,7 +118,7 @@ found_more version content count more records after tag next last entry found co
   last = same ∙ slot.tagged ∙ sym (ap (λ n. previous_tag content n) (one_more ∙ add-one count));
 }
 
--- where the next gate is closed, these are all
+-- if the next gate is closed, these are all
 pub found_all : (version own : Version) (content : List ℕ) (count : ℕ) (records : List Record) (tag : List ℕ) → own ≡ version → BeginsFound version content count records tag → count ≡ length records → StartsWithKey version content → IsClosed content count
     → IsFound own content records tag
 found_all version own content count records tag same found counted key closed =
@@ -128,7 +128,7 @@ found_all version own content count records tag same found counted key closed =
       last = found.last ∙ ap (λ n. previous_tag content n) counted;
     }
 
--- where the next slot is open and isn't whole, it is damaged
+-- if the next slot is open and not whole, it is damaged
 pub found_damaged : (version : Version) (content : List ℕ) (count : ℕ) (records : List Record) (tag : List ℕ) (fault : OpenFault) → BeginsFound version content count records tag → count ≡ length records → StartsWithKey version content → IsOpen content count
     → ReportsSlot version content count fault → ReportsContent content fault
 found_damaged version content count records tag NoKey found counted key opened reported = absurd reported
@@ -151,7 +151,7 @@ the_first : (records : List Record) (key : Record) → slice_get records 0 ≡ S
 the_first [] key is = absurd cc
 the_first (entry ∷ rest) key is = (rest, let same : entry ≡ key = cc in ap (λ e. e ∷ rest) same)
 
--- records that are spelled are a file's
+-- spelled records are a file's
 pub spelled_file : (records : List Record) (content : List ℕ) → SpellsRecords content records → IsFileOf records content
 spelled_file records content is =
     let within : 256 * length records < length content = is.closed.0 in
@@ -173,7 +173,7 @@ spelled_file records content is =
     missing [] k below past = omega (arith, below)
     missing (entry ∷ rest) k below past = let clash = sym (slice_get-get_or (entry ∷ rest) k entry below) ∙ past in cc
 
--- what is found is kept
+-- found records are kept
 pub found_kept : (version : Version) (records : List Record) (tag content : List ℕ) (after : DiskState) → after ≡ settled content → IsFound version content records tag → IsSyncedFile records tag after
 found_kept version records tag content after same found = subst (IsSyncedFile records tag) (sym same) (record {
   synced = refl;
@@ -181,12 +181,12 @@ found_kept version records tag content after same found = subst (IsSyncedFile re
   last = found.last;
 })
 
--- ---- a step of the loop, by the states of the disk
+-- ---- a step of the loop, by the disk's states
 
 pub fault_reported : {A : Type 0} (P : OpenFault → Type 0) (result : Result A OpenFault) (fault : OpenFault) → result ≡ Err fault → P fault → IfErr result P
 fault_reported P result fault is reported = subst (λ (r : Result _ OpenFault). IfErr r P) (sym is) reported
 
--- the next gate lies in the content
+-- the next gate is in the content
 pub gate_within : (version : Version) (first now : DiskState) (count : ℕ) (records : List Record) (tag : List ℕ) → now ≡ first → count ≡ length records → BeginsFound version first.content count records tag → 256 * count < length now.content
 gate_within version first now count records tag same counted found = subst (λ (s : DiskState). 256 * count < length s.content) (sym same) (omega (arith, found.begins.ends, counted))
 

@@ -1,4 +1,4 @@
--- Files whose slots stay, and those with one slot more.
+-- Files whose slots stay, and files with one slot more.
 use Rattle.std.proofs.Common.{◌≡◌, ◌⊎◌, inl, inr, ⊎_elim, ℕ, zero, suc, ◌+◌, ◌*◌, ◌<◌, ◌≤◌, true, List, [], ◌∷◌, ◌++◌, length, take, drop, get_or, slice_index, slice_get, Some, Ok, refl, sym, ◌∙◌, ap, subst, arith, append_assoc, length-append, length-take-le, add-one}
 use Rattle.std.proofs.lemmas.List.{append-nil, take-take, drop-take, take_all, take_at, drop_at, get_or-take, get_or_at, length_push, get_or_push, get_or_append_left}
 use Rattle.std.proofs.lemmas.Option.{slice_get-get_or, slice_get_within, get_or_from_slice_get}
@@ -17,12 +17,12 @@ use Rattle.state_file.specs.declared.record.Version.{Version}
 use Rattle.state_file.specs.declared.record.Record.{Record}
 use Rattle.state_file.proofs.Moments.{weaker}
 
--- the version of a list stays, whatever follows
+-- a longer list has the same version
 pub version_stays : (records more : List Record) → 0 < length records → version_in (records ++ more) ≡ version_in records
 version_stays [] more some = absurd (omega (arith, some))
 version_stays (entry ∷ rest) more some = refl
 
--- contents that begin alike have the same parts there
+-- contents with the same beginning have the same parts in it
 same_part : (m n w : ℕ) (c content : List ℕ) → take m c ≡ take m content → n + w ≤ m → take w (drop n c) ≡ take w (drop n content)
 same_part m n w c content same fits =
     sym (drop-take n w c) ∙ ap (λ (l : List ℕ). drop n l) (sym (take-take (n + w) m c fits) ∙ ap (λ (l : List ℕ). take (n + w) l) same ∙ take-take (n + w) m content fits) ∙ drop-take n w content
@@ -44,7 +44,7 @@ file_ends records content file =
       closed = (omega (arith, len, file.closed.0), λ is_open. file.closed.1 (ap (λ m. slice_index content m) (sym len) ∙ is_open));
     }
 
--- what is closed after the same slots is a file of the same records
+-- a content with the same slots, closed after them, is a file of the same records
 pub file_stays : (records : List Record) (content c : List ℕ) → IsFileOf records content → IsClosedAfter (take (256 * length records) content) c → IsFileOf records c
 file_stays records content c file ends =
     let n = 256 * length records in
@@ -91,7 +91,7 @@ module _ (records : List Record) (content c : List ℕ) (entry : Record) (fields
   unfolding whole front
   begins = ap (λ m. take m c) (sym whole_len) ∙ ends.begins
 
-  -- after the new slot all is as in the whole
+  -- up to the new slot's end all is as in the whole
   same_whole : take (n + 256) c ≡ take (n + 256) whole
   same_whole = begins ∙ sym (take_all (n + 256) whole (omega (arith, whole_len)))
 
@@ -140,7 +140,7 @@ module _ (records : List Record) (content c : List ℕ) (entry : Record) (fields
   count : length (records ++ entry ∷ []) ≡ length records + 1
   count = length_push records entry
 
-  -- one of the old slots or the new one
+  -- an old slot, or the new one
   old_or_new : (k : ℕ) → k < length (records ++ entry ∷ []) → (k < length records) ⊎ (k ≡ length records)
   old_or_new k below = elim (cases_lt k (length records)) [ inl old ↦ inl old | inr new ↦ inr (omega (arith, count)) ]
 
@@ -168,7 +168,7 @@ module _ (records : List Record) (content c : List ℕ) (entry : Record) (fields
       last_tag ∙ tagged
       ∙ sym (ap (λ (l : List ℕ). tag_of l (fields_at c (length records))) (old_previous (length records) (omega arith)) ∙ ap (λ (l : List ℕ). tag_of (previous_tag content (length records)) l) last_fields)
 
-  -- the version of the old slots stays
+  -- the old slots keep their version
   old_version : (k : ℕ) → k < length records → version_in records ≡ version_in (records ++ entry ∷ [])
   old_version k old = sym (version_stays records (entry ∷ []) (omega (arith, old)))
 
@@ -202,24 +202,24 @@ module _ (records : List Record) (content c : List ℕ) (entry : Record) (fields
   pub file_last : previous_tag c (length (records ++ entry ∷ [])) ≡ tag
   file_last = ap (λ m. previous_tag c m) (count ∙ add-one (length records)) ∙ last_tag
 
--- a list that begins with a Key goes on so
+-- a list with a Key in front keeps it
 pub follows_key : (records : List Record) (entry : Record) → begins_with_key records ≡ true → CanFollow records entry → begins_with_key (records ++ entry ∷ []) ≡ true
 follows_key [] entry keyed first = first
 follows_key (one ∷ rest) entry keyed first = keyed
 
--- a record's bytes are read as it
+-- a record is read from its own bytes
 pub read_record : (version : Version) (entry : Record) (fields : List ℕ) → length fields ≡ 223 → Spells (slot_record version) entry fields → read (slot_record version) fields 0 ≡ Ok (entry, 223)
 read_record version entry fields len spelled =
     spelled-read (slot_record version) entry fields [] fields 0 (omega arith) (sym (append-nil fields)) spelled ∙ ap (λ (m : ℕ). Ok (entry, m)) (let end : 0 + length fields ≡ 223 = omega arith in end)
 
--- a disk at rest after a file's slots
+-- the disk of a kept file is at rest after its slots
 pub kept_rests : (records : List Record) (tag : List ℕ) (state : DiskState) → IsSyncedFile records tag state → IsAtRest (take (256 * length records) state.content) state
 kept_rests records tag state kept = record { synced = kept.synced; ends = file_ends records state.content kept.file }
 
 pub kept_size : (records : List Record) (tag : List ℕ) (state : DiskState) (count : ℕ) → IsSyncedFile records tag state → count ≡ length records → length (take (256 * length records) state.content) ≡ 256 * count
 kept_size records tag state count kept counted = length-take-le (256 * length records) state.content (omega (arith, kept.file.closed.0)) ∙ ap (λ m. 256 * m) (sym counted)
 
--- a slot is added to what is kept
+-- one slot is added to a kept file
 module _ (records : List Record) (last : List ℕ) (state : DiskState) (count : ℕ) (entry : Record) (fields tag body : List ℕ) (counted : count ≡ length records) (room : count < most_records)
     (key : begins_with_key (records ++ entry ∷ []) ≡ true) (fields_len : length fields ≡ 223) (tag_len : length tag ≡ 32) (body_is : body ≡ fields ++ tag) (spelled : Spells (slot_record (version_in (records ++ entry ∷ []))) entry fields)
     (tagged : tag ≡ tag_of last fields) (kept : IsSyncedFile records last state) where
@@ -261,7 +261,7 @@ appended_leaves moment left_since old new records last state count entry fields 
     (added_leaves records last state count entry fields tag (fields ++ tag) counted room key fields_len tag_len refl spelled tagged kept)
     (leaves (take (256 * length records) state.content) (kept_rests records last state kept) (kept_size records last state count kept counted))
 
--- slot k of what is kept holds record k
+-- slot k of a kept file holds record k
 pub kept_holds : (records : List Record) (tag : List ℕ) (state : DiskState) (k : ℕ) → IsSyncedFile records tag state → k < length records → (entry : Record) × (slice_get records k ≡ Some entry) × Holds (version_in records) state.content k entry
 kept_holds [] tag state k kept below = absurd (omega arith)
 kept_holds (first ∷ rest) tag state k kept below =

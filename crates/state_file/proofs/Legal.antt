@@ -18,7 +18,7 @@ one_last records k level i j a b =
       | inr (inr above) ↦ absurd (b.last i a.extend above a.before a.stands a.of_level)
     ]
 
--- a level has one current tree, if any
+-- a level has at most one current tree
 pub one_current : (records : List Record) (k level a b : ℕ) → IsCurrent records k level a → IsCurrent records k level b → a ≡ b
 one_current records k zero a b first second = first ∙ sym second
 one_current records k (suc level) a b first second = one_last records k (suc level) a b first.0 second.0
@@ -30,7 +30,7 @@ get-front [] ys k below = absurd (omega (arith, below))
 get-front (x ∷ xs) ys zero below = refl
 get-front (x ∷ xs) ys (suc k) below = get-front xs ys k (omega (arith, below))
 
--- what stands in the front stands there in all
+-- an item of the front is one of the whole list
 got : {A : Type 0} (xs ys : List A) (k : ℕ) (x : A) → slice_get xs k ≡ Some x → slice_get (xs ++ ys) k ≡ Some x
 got xs ys k x is = get-front xs ys k (slice_get_within xs k x is) ∙ is
 
@@ -52,7 +52,7 @@ last-all xs ys k level j within front = record {
   last = λ i other after before is. front.last i other after before (sym (get-front xs ys i (omega (arith, before, within))) ∙ is);
 }
 
--- which tree is current depends on the records before it alone
+-- earlier records alone decide which tree is current
 pub current-front : (xs ys : List Record) (k level tree : ℕ) → k ≤ length xs → IsCurrent (xs ++ ys) k level tree → IsCurrent xs k level tree
 current-front xs ys k zero tree within is = is
 current-front xs ys k (suc level) tree within (last, (above, here, there)) =

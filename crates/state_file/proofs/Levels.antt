@@ -1,4 +1,4 @@
--- How many leaves the tree of a level has.
+-- How many leaves a level's tree has.
 use Rattle.std.proofs.Common.{◌≡◌, ℕ, zero, suc, ◌^◌, ◌<◌, List, [], ◌∷◌, length, refl, arith}
 use Rattle.std.specs.Prelude.{slice_index_or}
 use Rattle.typecodes.specs.declared.types.LmsPair.{LmsPair}

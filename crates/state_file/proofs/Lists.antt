@@ -1,4 +1,4 @@
--- From the contents that a stop leaves of a disk to the lists that it leaves of a store over it.
+-- From the contents that a crash leaves of a disk to the lists that it leaves of a store.
 use Rattle.std.proofs.Common.{◌≡◌, ◌⊎◌, inl, inr, ⊎_elim, ℕ, ◌+◌, ◌-◌, Bool, true, false, List, [], ◌∷◌, ◌++◌, length, Some, refl, sym, ap, ◌∙◌, subst, arith, slice_get}
 use Rattle.std.proofs.lemmas.List.{length_push, get_or_push}
 use Rattle.std.proofs.lemmas.Option.{slice_get-get_or}
@@ -40,7 +40,7 @@ pub reads_leave : {D : Type 0} (state : D → DiskState) (moment : D → ℕ) (l
 reads_leave state moment left_since old new records tag kept reads =
     weaker moment left_since old new (MayLeave (state old)) (StandsFor records) (λ c left. kept_leaves records tag (state old) c kept left) reads.leaves
 
--- of what is kept a stop changes nothing
+-- a crash changes nothing of a kept file
 pub kept_alone : (records : List Record) (tag : List ℕ) (state : DiskState) (c : List ℕ) (ranges : List Range) → IsSyncedFile records tag state → MayLeave state c → ChangesOnly ranges state.content c
 kept_alone records tag state c ranges kept left =
     let same : c ≡ state.content = synced_left state.content c (subst (λ (s : DiskState). MayLeave s c) kept.synced left) in
@@ -50,7 +50,7 @@ pub record_at : (honest : Bool) (list : List Record) (k : ℕ) (entry : Record) 
 record_at true list k entry is = is refl
 record_at false list k entry is = tt
 
--- a list that was pushed to ends with what was pushed
+-- the last record of a longer list is the pushed one
 pub pushed_last : (records after : List Record) (entry : Record) → after ≡ records ++ entry ∷ [] → slice_get after (length after - 1) ≡ Some entry
 pushed_last records after entry is =
     let count : length after ≡ length records + 1 = ap length is ∙ length_push records entry in

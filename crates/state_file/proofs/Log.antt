@@ -40,7 +40,7 @@ pub newest_taken : (log : List Entry) (i : ℕ) (entry : Entry) → i < length l
 newest_taken log i entry inside is =
     ap reverse (take_more log i entry inside ∙ ap (λ (e : Entry). take i log ++ e ∷ []) (sym is)) ∙ newest_first (take i log) entry
 
--- the whole range was written
+-- a whole range was written
 pub overlays_range : (at : ℕ) (bytes old new : List ℕ) → Overlays at bytes old new → ChangesOnly (range_of at bytes ∷ []) old new
 overlays_range at [] old new overlaid = record {
   kept = λ offset inside outside. ⊎_elim (overlaid.before offset inside) (overlaid.after offset inside) outside.0;
@@ -78,7 +78,7 @@ widened at n bytes old new changes =
       no_longer = omega (arith, part, changes.no_longer);
     }
 
--- what was written in part, a stop may leave after the entry for it all
+-- a partly done write, once logged in full, is what a crash may leave
 pub left_more : (first : List ℕ) (log log_new : List Entry) (at n : ℕ) (bytes old new : List ℕ) → LeftBy first log old → Overlays at (take n bytes) old new
     → log_new ≡ log ++ Wrote at (at + length bytes) ∷ [] → LeftBy first log_new new
 left_more first log log_new at n bytes old new left overlaid is =
@@ -109,6 +109,6 @@ overlay_is_bytes at bytes old new are were overlaid i =
       ]
     ]
 
--- what is written over bytes in part leaves bytes
+-- also if they are written in part
 pub part_overlay_is_bytes : (at n : ℕ) (bytes old new : List ℕ) → AreBytes bytes → AreBytes old → Overlays at (take n bytes) old new → AreBytes new
 part_overlay_is_bytes at n bytes old new are = overlay_is_bytes at (take n bytes) old new (part_is_bytes n bytes are)

@@ -7,7 +7,7 @@ module _ {D C : Type 0} (moment : D → ℕ) (left_since : D → ℕ → C → T
   pub started : (old : D) (P : C → Type 0) → ((c : C) → left_since old (moment old) c → P c) → LeavesOnly moment left_since old old P
   started old P here = record { later = omega arith; each = here; before = λ t c early left. inl left }
 
-  -- one call more, after which a stop leaves what has P
+  -- one call more, after which a crash leaves what has P
   pub goes_on : (old mid new : D) (P may_leave : C → Type 0) → LeavesOnly moment left_since old mid P → Elapses (moment mid) (moment new) (left_since mid) (left_since new) may_leave
       → ((c : C) → may_leave c → P c) → LeavesOnly moment left_since old new P
   goes_on old mid new P may_leave so_far time here = record {
@@ -16,7 +16,7 @@ module _ {D C : Type 0} (moment : D → ℕ) (left_since : D → ℕ → C → T
     before = λ t c early left. ⊎_elim (so_far.before t c early) (λ now. inr (here c now)) (time.nothing_else t c (omega (arith, early, so_far.later)) left);
   }
 
-  -- the same of a weaker P
+  -- a weaker P
   pub weaker : (old new : D) (P Q : C → Type 0) → ((c : C) → P c → Q c) → LeavesOnly moment left_since old new P → LeavesOnly moment left_since old new Q
   weaker old new P Q implies leaves = record {
     later = leaves.later;

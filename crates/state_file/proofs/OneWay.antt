@@ -1,4 +1,4 @@
--- Records are spelled in one way.
+-- Records have one spelling.
 use Rattle.std.proofs.Common.{◌≡◌, ℕ, zero, suc, ◌-◌, ◌*◌, Bool, true, false, List, [], ◌∷◌, ◌++◌, length, get_or, drop, refl, sym, ap, ap₂, ◌∙◌, arith, eqb-true, nat_le}
 use Rattle.std.specs.Prelude.{◌==◌, ◌&&◌}
 use Rattle.std.specs.List.{list_all}
@@ -174,7 +174,7 @@ tree_in (Lms secret) = X10
 tree_in (Hss levels identifier seed) = X10
 tree_in (Xmss secret) = secret.tree
 
--- the first, second and third block of bytes in a secret
+-- the first, second and third block of a secret's bytes
 first_in : Secret → List ℕ
 first_in (Lms secret) = secret.identifier
 first_in (Hss levels identifier seed) = identifier

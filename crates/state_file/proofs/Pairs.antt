@@ -7,11 +7,11 @@ use Rattle.typecodes.specs.Cursor.{and_then, read, Gives}
 use Rattle.typecodes.proofs.Read.{read-bind}
 use Rattle.state_file.specs.Slot.{pair_field, pairs}
 
--- the other pairs, after those that stand there and one more
+-- the remaining pairs after one
 abbrev rest_of : ℕ → LmsPair → Layout (List LmsPair)
 rest_of n first = pairs n >>= λ rest. done (first ∷ rest)
 
--- what follows a pair that is read
+-- what follows a pair
 pub pairs-next : (n : ℕ) (bytes : List ℕ) (place next : ℕ) (before : List LmsPair) (pair : LmsPair) → read pair_field bytes place ≡ Ok (pair, next)
     → and_then (read (pairs (suc n)) bytes place) (λ rest. Ok (before ++ rest.0, rest.1)) ≡ and_then (read (pairs n) bytes next) (λ rest. Ok ((before ++ pair ∷ []) ++ rest.0, rest.1))
 unfolding pairs
@@ -24,7 +24,7 @@ pairs-next n bytes place next before pair found =
     combined (Ok x) = ap (λ all. Ok (all, x.1)) (sym (append_assoc before (pair ∷ []) x.0))
     combined (Err fault) = refl
 
--- a pair that can't be read is the fault of all
+-- a fault of a pair is the whole's
 pub pairs-fault : (n : ℕ) (bytes : List ℕ) (place : ℕ) (before : List LmsPair) (fault : ReadFault) → read pair_field bytes place ≡ Err fault
     → and_then (read (pairs (suc n)) bytes place) (λ rest. Ok (before ++ rest.0, rest.1)) ≡ Err fault
 unfolding pairs
@@ -32,7 +32,7 @@ pairs-fault n bytes place before fault found =
     ap (λ all. and_then all (λ rest. Ok (before ++ rest.0, rest.1)))
     (read-bind pair_field (rest_of n) bytes place ∙ ap (λ first. and_then first (λ x. read (rest_of n x.0) bytes x.1)) found)
 
--- the same, given as how many pairs stand there already
+-- the same, by how many pairs were read
 pub pairs-next_of : (count i : ℕ) (bytes : List ℕ) (place next : ℕ) (before : List LmsPair) (pair : LmsPair) → i < count → read pair_field bytes place ≡ Ok (pair, next)
     → and_then (read (pairs (count - i)) bytes place) (λ rest. Ok (before ++ rest.0, rest.1)) ≡ and_then (read (pairs (count - (i + 1))) bytes next) (λ rest. Ok ((before ++ pair ∷ []) ++ rest.0, rest.1))
 pairs-next_of count i bytes place next before pair more found =
@@ -45,7 +45,7 @@ pairs-fault_of count i bytes place before fault more found =
     let left : count - i ≡ suc (count - (i + 1)) = omega arith in
     ap (λ n. and_then (read (pairs n) bytes place) (λ rest. Ok (before ++ rest.0, rest.1))) left ∙ pairs-fault (count - (i + 1)) bytes place before fault found
 
--- and where all stand there
+-- all were read
 pub pairs-all_of : (count i : ℕ) (bytes : List ℕ) (place : ℕ) (before : List LmsPair) → count ≤ i
     → and_then (read (pairs (count - i)) bytes place) (λ rest. Ok (before ++ rest.0, rest.1)) ≡ Ok (before, place)
 unfolding pairs

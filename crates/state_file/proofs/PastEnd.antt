@@ -11,7 +11,7 @@ kept_within (Err Failed) end len before after counts past within = counts
 kept_within (Err OutOfMemory) end len before after counts past within = counts
 kept_within (Err PastEnd) end len before after counts past within = absurd (let beyond : len < end = past refl in omega (arith, beyond, within))
 
--- what was only read is as long as it was
+-- reading keeps the length
 pub still_within : (n : ℕ) (old new : DiskState) → new ≡ old → n ≤ length old.content → n ≤ length new.content
 still_within n old new same within = subst (λ (s : DiskState). n ≤ length s.content) (sym same) within
 

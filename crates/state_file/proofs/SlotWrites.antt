@@ -1,4 +1,4 @@
--- What a stop leaves in each of the two writes that add a slot.
+-- What a crash leaves in each of the two writes that add a slot.
 use Rattle.std.proofs.Common.{◌≡◌, ◌≢◌, ◌⊎◌, inl, inr, ⊎_elim, ℕ, ◌+◌, ◌-◌, ◌<◌, ◌≤◌, List, [], ◌∷◌, ◌++◌, length, take, drop, get_or, slice_index, slice_range, refl, sym, ◌∙◌, ap, arith, append_assoc, length-append, take-append-drop}
 use Rattle.std.proofs.lemmas.List.{same_lists, get_or_default, get_or_at, take_at, drop_more, set_at, get_or-set_other, get_or-set_same, length-set}
 use Rattle.std.proofs.Math.ListN.{set}
@@ -8,7 +8,7 @@ use Rattle.state_file.specs.Disk.{ChangesOnly, range_of}
 use Rattle.state_file.specs.File.{open_value}
 use Rattle.state_file.specs.Gates.{IsClosedAfter}
 
--- a content that is closed after front, in its parts
+-- the parts of a content that is closed after front
 pub record Splits (front content : List ℕ) : Type 0 where
   pub gate : ℕ
   pub rest : List ℕ
@@ -35,7 +35,7 @@ join front content parts =
       closed = (omega (arith, long), λ is_open. parts.closed (sym gate ∙ is_open));
     }
 
--- a whole slot after the last, and a closed gate after it; the slot's own gate is closed
+-- a whole slot after the last, its own gate closed, and a closed gate after it
 pub record Stages (front body content : List ℕ) : Type 0 where
   pub gate : ℕ
   pub rest : List ℕ
@@ -43,7 +43,7 @@ pub record Stages (front body content : List ℕ) : Type 0 where
   pub closed : gate ≢ open_value
 
 module _ (front body : List ℕ) (at : ℕ) (len : length front ≡ at) where
-  -- a change after the closed gate leaves it and what is before it
+  -- a change after the closed gate leaves the gate and what is before it
   kept : (content c : List ℕ) (bytes : List ℕ) (holds : Splits front content) → ChangesOnly (range_of (at + 1) bytes ∷ []) content c → c ≡ (front ++ holds.gate ∷ []) ++ drop (at + 1) c
   kept content c bytes holds changes =
       let before = front ++ holds.gate ∷ [] in
@@ -118,7 +118,7 @@ module _ (front body : List ℕ) (at : ℕ) (len : length front ≡ at) where
       ap (λ (l : List ℕ). take 1 l) (sym (drop_more new at 0 (omega (arith, long, len, changes.no_shorter)))) ∙ ap (λ n. take n (drop at new)) (sym width) ∙ put in
       opened content new staged changes cc
 
-  -- what a stop leaves in the first write, and what stands after it
+  -- what the first write leaves in a crash, and afterwards
   pub stage_leaves : (content c bytes : List ℕ) → IsClosedAfter front content → ChangesOnly (range_of (at + 1) bytes ∷ []) content c → IsClosedAfter front c
   stage_leaves content c bytes holds changes = join front c (stage_splits content c bytes (split front content holds) changes)
 
@@ -126,7 +126,7 @@ module _ (front body : List ℕ) (at : ℕ) (len : length front ≡ at) where
       → slice_range new (at + 1) (at + 1 + length bytes) ≡ bytes → Stages front body new
   stage_done content new bytes holds = stage_parts content new bytes (split front content holds)
 
-  -- what a stop leaves in the second write, and what stands after it
+  -- what the second write leaves in a crash, and afterwards
   pub gate_leaves : (content c : List ℕ) → Stages front body content → ChangesOnly (range_of at (open_value ∷ []) ∷ []) content c → IsClosedAfter front c ⊎ IsClosedAfter (front ++ open_value ∷ body) c
   gate_leaves content c staged changes =
       ⊎_elim (λ old. inl (join front c old)) (λ new. inr (join (front ++ open_value ∷ body) c new)) (gate_splits content c staged changes)

@@ -1,4 +1,4 @@
--- Calls of a store that only read, one after the other, and the failures of two disks.
+-- Reads of a store, one after the other, and the failures of two disks.
 use Rattle.std.proofs.Common.{◌≡◌, ℕ, Bool, false, List, Result, Err, refl, sym, ◌∙◌, subst}
 use Rattle.std.specs.Prelude.{IsTrue}
 use Rattle.state_file.specs.Carried.{carried}

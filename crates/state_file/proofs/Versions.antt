@@ -14,7 +14,7 @@ one_code One Two same = absurd (omega (arith, same))
 one_code Two One same = absurd (omega (arith, same))
 one_code Two Two same = refl
 
--- The version in which a file goes on with a record is that of the records and the new one.
+-- The version after a record was added is the longer list's.
 pub goes_on_in : (records : List Record) (entry : Record) (file version : Version) → CanFollow records entry → version_code file ≡ version_code (version_in records) → FitsVersion version entry
     → (FitsVersion file entry → version ≡ file) → version ≡ version_in (records ++ entry ∷ [])
 goes_on_in [] (KeyRecord key) file version follows of_file fits same = sym fits

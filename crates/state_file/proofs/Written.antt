@@ -1,4 +1,4 @@
--- Fields that are written one after the other.
+-- Fields written one after the other.
 use Rattle.std.proofs.Common.{◌≡◌, ℕ, zero, suc, ◌+◌, ◌-◌, ◌<◌, ◌≤◌, Bool, true, List, [], ◌∷◌, ◌++◌, length, replicate, take, Option, Some, refl, sym, ap, ◌∙◌, subst, arith, le-leb, add-one, get_or, append-nil, append_assoc}
 use Rattle.std.specs.List.{list_all}
 use Rattle.std.specs.Prelude.{◌==◌, ◌&&◌, nat_le}
@@ -41,7 +41,7 @@ writes-typed code types t a b is x =
     writes-bind number (λ c. known (named code types c)) (code t) t a b b x
     (let P : Option _ → Type 0 = λ found. AppendsSpelling (known found) t b b in subst P (sym is) (writes-done t b))
 
--- a block that meets its condition
+-- a block that passes its test
 pub spells-only_if : {V : Type 0} (n : ℕ) (test : List ℕ → Bool) (value : List ℕ → V) (bytes : List ℕ) → length bytes ≡ n → test bytes ≡ true
     → Spells (block n >>= λ b. only_if (test b) n (value b)) (value bytes) bytes
 spells-only_if n test value bytes len passes =
@@ -67,7 +67,7 @@ writes-zeros n m old new few is = record {
   spelled = spells-only_if n (λ bytes. list_all (λ b. b == 0) bytes) (λ _. tt) (take n (replicate m 0)) (zeros-length n m few) (zeros-zero n m);
 }
 
--- bytes that are known
+-- expected bytes
 pub writes-exactly : (bytes old new : List ℕ) → new ≡ old ++ bytes → AppendsSpelling (exactly (length bytes) bytes) tt old new
 unfolding exactly
 writes-exactly bytes old new is = record {
@@ -85,7 +85,7 @@ writes-byte n old new is = record {
   spelled = (n ∷ [], [], refl, refl, (omega arith, refl));
 }
 
--- a value that meets its condition, where the field of its bytes was written
+-- a value that passes its test, once its bytes are written
 pub writes-only_if : {V : Type 0} (test : Bool) (n : ℕ) (v : V) (at : List ℕ) → test ≡ true → AppendsSpelling (only_if test n v) v at at
 writes-only_if test n v at passes = let P : Bool → Type 0 = λ t. AppendsSpelling (only_if t n v) v at at in subst P (sym passes) (writes-done v at)
 

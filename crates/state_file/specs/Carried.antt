@@ -7,7 +7,7 @@ use Rattle.state_file.specs.declared.record.Record.TheVariants.{Bound as BoundRe
 use Rattle.state_file.specs.declared.record.Version.{Version}
 use Rattle.state_file.specs.declared.record.Version.TheVariants.{Two}
 
--- the record as it stands in a file of this version: a Key says the version, and no other does
+-- the record in a file of this version: only a Key says the version
 abbrev pub in_version : Version → Record → Record
 in_version version (KeyRecord key) = KeyRecord (record { version = version; secret = key.secret; root = key.root })
 in_version version (ExtendRecord extend) = ExtendRecord extend
@@ -15,11 +15,11 @@ in_version version (BoundRecord bound) = BoundRecord bound
 in_version version (Retire upto) = Retire upto
 in_version version Moved = Moved
 
--- the records with a Moved at their end
+-- the records, ending with a Moved
 abbrev pub with_moved : List Record → List Record
 with_moved records = if has_moved records then records else records ++ Moved ∷ []
 
--- the records without a Moved at their end
+-- the records without a final Moved
 abbrev pub unmoved : List Record → List Record
 unmoved records = if has_moved records then take (length records - 1) records else records
 

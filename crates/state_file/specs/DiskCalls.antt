@@ -3,28 +3,27 @@ use Rattle.std.specs.Prelude.{◌≡◌, ℕ, Bool, IsTrue, List, Result}
 use Rattle.state_file.specs.Disk.{Counts, DiskState, LeavesOnly, MayLeave}
 use Rattle.state_file.specs.declared.disk.Disk as disk
 
--- Each failure of the disk is counted and answered. Over an honest disk none of them is a read past the end. The disk
--- is as honest as it was.
+-- Each failure of the disk is counted and answered. None is a read past the end of an honest disk. Honesty stays.
 pub record CountsFailures {D A E : Type 0} (d : disk.Ghosts D) (is_failed : E → Bool) (old new : D)
     (answer : Result A E) : Type 0 where
   pub failures : Counts is_failed (d.failures old) (d.failures new) answer
   pub past_ends : IsTrue (d.honest old) → d.past_ends new ≡ d.past_ends old
   pub honest : d.honest new ≡ d.honest old
 
--- The same of a call that reads no bytes: no disk, honest or not, counts it as a read past the end.
+-- The same for calls that read no bytes: no disk, honest or not, counts a read past the end.
 pub record CountsFailuresWithoutReads {D A E : Type 0} (d : disk.Ghosts D) (is_failed : E → Bool) (old new : D)
     (answer : Result A E) : Type 0 where
   pub failures : Counts is_failed (d.failures old) (d.failures new) answer
   pub past_ends : d.past_ends new ≡ d.past_ends old
   pub honest : d.honest new ≡ d.honest old
 
--- Calls that only read: a read gives what it gave before, and a stop leaves nothing that it couldn't leave before.
+-- Calls that only read: the state stays, and a crash leaves only what it could leave before.
 pub record OnlyReads {D : Type 0} (state : D → DiskState) (moment : D → ℕ) (left_since : D → ℕ → List ℕ → Type 0)
     (old new : D) : Type 0 where
   pub stays : state new ≡ state old
   pub leaves : LeavesOnly moment left_since old new (MayLeave (state old))
 
--- A function only reads its disk, where that is honest, and counts what failed.
+-- A function only reads its disk, if that is honest, and counts what failed.
 pub record ReadsDisk {D A E : Type 0} (d : disk.Ghosts D) (is_failed : E → Bool) (old new : D) (answer : Result A E)
     : Type 0 where
   pub only : IsTrue (d.honest old) → OnlyReads d.state d.moment d.left_since old new

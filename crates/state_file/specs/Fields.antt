@@ -4,18 +4,18 @@ use Rattle.arrayvec.specs.ArrayVec.{ArrayVec, array_vec_len}
 use Rattle.typecodes.specs.declared.cursor.Cursor.{Cursor}
 use Rattle.typecodes.specs.Layout.{Layout, Spells}
 
--- What a reader of n bytes does to its cursor: it passes them. Of the place after a fault it says nothing.
+-- A reader passes n bytes. After a fault its cursor may stand anywhere.
 pub record Advances {X E : Type 0} (n : ℕ) (result : Result X E) (old new : Cursor) : Type 0 where
   pub len : OnOk result (new.place ≡ old.place + n)
   pub bytes : new.bytes ≡ old.bytes
 
--- a spelling of the value was written after the old bytes
+-- the value's spelling was appended
 pub record AppendsSpelling {V : Type 0} (layout : Layout V) (value : V) (old new : List ℕ) : Type 0 where
   pub part : List ℕ
   pub after : new ≡ old ++ part
   pub spelled : Spells layout value part
 
--- What a writer of a value does: it appends a spelling of it, of n bytes.
+-- A writer appends the value's spelling, n bytes.
 pub record Puts {V : Type 0} (n : ℕ) (layout : Layout V) (value : V) (old new : ArrayVec ℕ) : Type 0 where
   pub writes : AppendsSpelling layout value old.items new.items
   pub len : array_vec_len new ≡ array_vec_len old + n

@@ -1,5 +1,5 @@
--- What a content of a disk, a list of bytes, is as a state file: slots of 256 bytes, slot k from byte
--- 256 * k on, each a gate, a record and a tag.
+-- A disk's content as a state file: slots of 256 bytes, slot k from byte 256 * k on, each with a gate, a record and a
+-- tag.
 use Rattle.std.specs.Prelude.{◌≡◌, ◌≢◌, ◌⊎◌, ℕ, zero, suc, ◌+◌, ◌*◌, ◌^◌, ◌<◌, ◌≤◌, Bool, true, false, ◌==◌, List}
 use Rattle.std.specs.Prelude.{◌∷◌, ◌++◌, length, take, drop, replicate, slice_get, slice_index, Option, Some, None}
 use Rattle.std.specs.Prelude.{[], Ok}
@@ -20,7 +20,7 @@ use Rattle.state_file.specs.Store.{begins_with_key}
 
 -- ---- the parts of a slot
 
--- its gate, byte 0, if the content reaches so far
+-- its gate, byte 0, if the content reaches it
 abbrev pub gate : List ℕ → ℕ → Option ℕ
 gate content k = slice_get content (256 * k)
 
@@ -28,11 +28,11 @@ gate content k = slice_get content (256 * k)
 abbrev pub open_value : ℕ
 open_value = 0xA5
 
--- a gate is open at this value, and closed at every other
+-- any other value closes a gate
 abbrev pub IsOpen : List ℕ → ℕ → Type 0
 IsOpen content k = gate content k ≡ Some open_value
 
--- this offset lies in the content, and a gate there is closed
+-- the content reaches this offset, and a gate there is closed
 abbrev pub IsClosedAt : List ℕ → ℕ → Type 0
 IsClosedAt content offset = (offset < length content) × (slice_index content offset ≢ open_value)
 
@@ -47,32 +47,32 @@ fields_at content k = take 223 (drop (256 * k + 1) content)
 abbrev pub tag_at : List ℕ → ℕ → List ℕ
 tag_at content k = take 32 (drop (256 * k + 224) content)
 
--- what stands for a tag before slot 0
+-- the tag before slot 0
 abbrev pub first_tag : List ℕ
 first_tag = replicate 32 0
 
--- the tag of the slot before it
+-- the tag before slot k
 abbrev pub previous_tag : List ℕ → ℕ → List ℕ
 previous_tag content zero = first_tag
 previous_tag content (suc k) = tag_at content k
 
--- the tag of these bytes after a slot of that tag
+-- a slot's tag, from the tag before it and the slot's fields
 abbrev pub tag_of : List ℕ → List ℕ → List ℕ
 tag_of previous fields = sha256 (previous ++ fields)
 
--- the slot of a file of this version holds the record
+-- the slot holds the record, in this version
 pub record Holds (version : Version) (content : List ℕ) (k : ℕ) (entry : Record) : Type 0 where
   pub spelled : Spells (slot_record version) entry (fields_at content k)
   pub tagged : tag_at content k ≡ tag_of (previous_tag content k) (fields_at content k)
 
 -- ---- contents with a key
 
--- how many records a file has at most
+-- the greatest number of records in a file
 abbrev pub most_records : ℕ
 most_records = 2 ^ 31
 
--- The content spells these records, in the version of their Key: its first slots are open and hold them, and the next
--- gate lies in it and is closed. Whatever follows says nothing.
+-- The content spells these records, in their Key's version. The first slots are open and hold them, and the next gate
+-- is in the content and closed. Bytes after it don't count.
 pub record SpellsRecords (content : List ℕ) (records : List Record) : Type 0 where
   pub few : length records ≤ most_records
   pub opened : (k : ℕ) → k < length records → IsOpen content k
@@ -81,22 +81,22 @@ pub record SpellsRecords (content : List ℕ) (records : List Record) : Type 0 w
   pub holds : (k : ℕ) (entry : Record) → slice_get records k ≡ Some entry
       → Holds (version_in records) content k entry
 
--- ---- contents without one
+-- ---- contents without a key
 
--- The content has no key: it has under 257 bytes, or its first gate is closed.
+-- The content has no key: under 257 bytes, or a closed first gate.
 abbrev pub HasNoKey : List ℕ → Type 0
 HasNoKey content = (length content < 257) ⊎ IsClosed content 0
 
--- otherwise a key may stand there
+-- otherwise there may be a key
 pub record MayHaveKey (content : List ℕ) : Type 0 where
   pub long : 257 ≤ length content
   pub opened : IsOpen content 0
 
--- whether a slot's fields are those of a Key: they begin with its kind and the magic
+-- whether a slot's fields begin as a Key's: its kind and the magic
 abbrev pub begins_key : List ℕ → Bool
 begins_key fields = pointwise (λ a b. a == b) (take 9 fields) (1 ∷ magic)
 
--- the version of a Key's fields, if it is known
+-- the version in a Key's fields, if it is known
 abbrev pub version_of : List ℕ → Option Version
 version_of fields = named version_code versions (big_number 2 (drop 9 fields))
 
@@ -105,14 +105,14 @@ pub record IsNoKeyFile (content : List ℕ) : Type 0 where
   pub may : MayHaveKey content
   pub other : begins_key (fields_at content 0) ≡ false
 
--- The first slot holds a Key of a version that isn't known.
+-- The first slot holds a Key of an unknown version.
 pub record HasUnknownVersion (content : List ℕ) : Type 0 where
   pub may : MayHaveKey content
   pub key : begins_key (fields_at content 0) ≡ true
   pub other : version_of (fields_at content 0) ≡ None
 
--- A slot is whole: it is open, it is one of those that a file may have, it holds a record of this version, and the next
--- gate lies in the content.
+-- A slot is whole: it is open, below the greatest number of records, holds a record of this version, and the next gate
+-- is in the content.
 pub record IsWhole (version : Version) (content : List ℕ) (k : ℕ) : Type 0 where
   pub opened : IsOpen content k
   pub few : k < most_records
@@ -120,14 +120,14 @@ pub record IsWhole (version : Version) (content : List ℕ) (k : ℕ) : Type 0 w
   pub entry : Record
   pub holds : Holds version content k entry
 
--- The content begins with slots that hold these records of this version, and the next gate lies in it.
+-- The content begins with slots that hold these records, in this version, and the next gate is in it.
 pub record Begins (version : Version) (content : List ℕ) (records : List Record) : Type 0 where
   pub few : length records ≤ most_records
   pub ends : 256 * length records < length content
   pub opened : (k : ℕ) → k < length records → IsOpen content k
   pub holds : (k : ℕ) (entry : Record) → slice_get records k ≡ Some entry → Holds version content k entry
 
--- Slot k is the first that is open and isn't whole, after whole ones.
+-- Slot k is the first damaged one: it is open and not whole, and all before it are whole.
 pub record IsDamagedAt (content : List ℕ) (k : ℕ) : Type 0 where
   pub may : MayHaveKey content
   pub key : begins_key (fields_at content 0) ≡ true
@@ -144,8 +144,8 @@ abbrev pub StandsFor : List Record → List ℕ → Type 0
 StandsFor [] content = HasNoKey content
 StandsFor (entry ∷ entries) content = SpellsRecords content (entry ∷ entries)
 
--- The content spells these records after one another, and the gate after them is closed. It says what
--- `StandsFor` says, as a fact that has one proof.
+-- The content spells these records, and the gate after them is closed. This implies `StandsFor`, in a form whose proofs
+-- are all equal.
 pub record IsFileOf (records : List Record) (content : List ℕ) : Type 0 where
   pub few : length records ≤ most_records
   pub first : begins_with_key records ≡ true
@@ -155,12 +155,12 @@ pub record IsFileOf (records : List Record) (content : List ℕ) : Type 0 where
       → read (slot_record (version_in records)) (fields_at content k) 0 ≡ Ok (entry, 223)
   pub tagged : (k : ℕ) → k < length records → tag_at content k ≡ tag_of (previous_tag content k) (fields_at content k)
 
--- The lists that contents left since a moment stand for. A content that stands for none counts as every list.
+-- The lists that the contents left since a moment stand for. A content that stands for none counts as every list.
 abbrev pub LeftLists : (ℕ → List ℕ → Type 0) → ℕ → List Record → Type 0
 LeftLists left_since t list = (content : List ℕ) × left_since t content
     × (StandsFor list content ⊎ ((other : List Record) → StandsFor other content → ⊥))
 
--- all of it is synced, and this is the last slot's tag
+-- all is synced, and this is the last slot's tag
 pub record IsSyncedFile (records : List Record) (tag : List ℕ) (state : DiskState) : Type 0 where
   pub synced : IsSynced state
   pub file : IsFileOf records state.content

@@ -34,30 +34,30 @@ disk_of store = store.disk
 abbrev pub records_of : {D : Type 0} {bound : _} → FileStore D bound → List Record
 records_of store = store.records
 
--- whether a call has failed, so that it answers no more
+-- whether a call has failed, so that no other is answered
 abbrev pub has_stopped : {D : Type 0} {bound : _} → FileStore D bound → Bool
 has_stopped store = store.stopped
 
--- The same of a store over a disk.
+-- `WhileRunning`, for a store over a disk.
 abbrev pub WhileStoreRuns : {D : Type 0} {bound : _} (d : disk.Ghosts D) (store : FileStore D bound) → Type 0 → Type 0
 WhileStoreRuns d store Then = WhileRunning (d.honest (disk_of store)) (has_stopped store) Then
 
--- What a stop at any moment from the old store on leaves stands for lists that have P; one that stands for none counts
--- as every list.
+-- What a crash leaves at any moment from the old store on stands for lists that have P. A content that stands for no
+-- list counts as every list.
 abbrev pub LeavesLists : {D : Type 0} {bound : _} (d : disk.Ghosts D) (old new : FileStore D bound)
     (P : List Record → Type 0) → Type 0
 LeavesLists d old new P =
     LeavesOnly (λ store. d.moment (disk_of store)) (λ store. LeftLists (d.left_since (disk_of store))) old new P
 
--- the slots that load has reported as unreadable, the last one first
+-- slots that load reported as unreadable, the last one first
 abbrev pub unreadable_of : {D : Type 0} {bound : _} → FileStore D bound → List ℕ
 unreadable_of store = store.unreadable
 
--- the slots that load was asked for, the last one first
+-- slots that load was asked for, the last one first
 abbrev pub loads_of : {D : Type 0} {bound : _} → FileStore D bound → List ℕ
 loads_of store = store.loads
 
--- the records that load gave, in the order in which it gave them
+-- records that load gave, the first one first
 abbrev pub given_of : {D : Type 0} {bound : _} → FileStore D bound → List Record
 given_of store = store.given
 
@@ -71,8 +71,8 @@ abbrev pub outcome_of : {A T F : Type 0} → Result A (Refused T F) → Result A
 outcome_of (Ok a) = Ok a
 outcome_of (Err refused) = Err refused.fault
 
--- The records of a disk were found, or it was reported why there are none. The disk is synced, and its content is what
--- it was; all that a stop may leave meanwhile is what one might have left before.
+-- A disk's records were found, or why there are none. The disk is synced, its content stays, and meanwhile a crash
+-- leaves only what it could leave before.
 pub record FindsRecords {D : Type 0} {bound : _} (d : disk.Ghosts D) (given : D)
     (result : Result (FileStore D bound) (Refused D OpenFault)) : Type 0 where
   pub records : IsTrue (d.honest given)
@@ -87,8 +87,8 @@ pub record FindsRecords {D : Type 0} {bound : _} (d : disk.Ghosts D) (given : D)
       → Settles (d.state given).content (d.state (disk_after result)) (outcome_of result)
   pub failures : CountsFailures d is_failed_opening given (disk_after result) (outcome_of result)
 
--- A disk was prepared for a key, or it was refused. Where the disk is honest it then holds no slot and a closed gate,
--- and what a stop leaves meanwhile is what one might have left before, or it has no key.
+-- A disk was prepared for a key, or refused. An honest one then has no slot, and a closed gate. Meanwhile a crash
+-- leaves what it could leave before, or no key.
 pub record PreparesDisk {D : Type 0} {bound : _} (d : disk.Ghosts D) (given : D)
     (result : Result (FileStore D bound) (Refused D FormatFault)) : Type 0 where
   pub records : IfOk result (λ prepared. records_of prepared ≡ [])
@@ -108,11 +108,11 @@ pub fields_length : (content : List ℕ) (k : ℕ) → 256 * (k + 1) ≤ length 
 fields_length content k fits =
     length-take-le 223 (drop (256 * k + 1) content) (omega (arith, length-drop (256 * k + 1) content))
 
--- the byte of an open gate
+-- an open gate has the open value
 pub open_byte : (content : List ℕ) (k : ℕ) → IsOpen content k → slice_index content (256 * k) ≡ open_value
 open_byte content k is_open = get_or_from_slice_get content (256 * k) open_value 0 is_open
 
--- a gate that has this byte is open
+-- and a gate with this value is open
 pub open_by_byte : (content : List ℕ) (k : ℕ) → 256 * k < length content → slice_index content (256 * k) ≡ open_value
     → IsOpen content k
 open_by_byte content k within is = slice_get-get_or content (256 * k) 0 within ∙ ap Some is
@@ -150,11 +150,11 @@ pub kept_stands : (records : List Record) (tag : List ℕ) (state : DiskState) �
     → StandsFor records state.content
 kept_stands records tag state kept = file_stands records state.content kept.file
 
--- a gate is open or closed, not both
+-- no gate is both open and closed
 pub not_both : (content : List ℕ) (k : ℕ) → IsOpen content k → IsClosed content k → ⊥
 not_both content k is_open shut = shut.1 (open_byte content k is_open)
 
--- a content's version is that of its first slot
+-- a content's version is its first slot's
 spells_version : (a b : List Record) (content : List ℕ) → SpellsRecords content a → SpellsRecords content b
     → version_in a ≡ version_in b
 spells_version a b content first second =
@@ -190,7 +190,7 @@ stands_one [] (b ∷ bs) content first second = absurd (no_key_spells content b 
 stands_one (a ∷ rest) [] content first second = absurd (no_key_spells content a rest second first)
 stands_one (a ∷ rest) (b ∷ bs) content first second = spells_one (a ∷ rest) (b ∷ bs) content first second
 
--- of the contents that stand for one of two lists, these two lists are left
+-- a content that stands for one of two lists counts as no third one
 pub one_of_two : (a b list : List Record) (content : List ℕ) → StandsFor a content ⊎ StandsFor b content
     → StandsFor list content ⊎ ((other : List Record) → StandsFor other content → ⊥) → (list ≡ a) ⊎ (list ≡ b)
 one_of_two a b list content (inl stands) (inl one) = inl (stands_one list a content one stands)
@@ -198,14 +198,14 @@ one_of_two a b list content (inr stands) (inl one) = inr (stands_one list b cont
 one_of_two a b list content (inl stands) (inr none) = absurd (none a stands)
 one_of_two a b list content (inr stands) (inr none) = absurd (none b stands)
 
--- what is synced is left by a stop
+-- a crash leaves synced content
 pub synced_left : (content c : List ℕ) → MayLeave (settled content) c → c ≡ content
 synced_left content c changes =
     same_lists c content (omega (arith, changes.no_shorter, changes.no_longer)) (λ k d inside.
     get_or_default c k d 0 inside ∙ changes.kept k (omega (arith, changes.no_shorter, changes.no_longer)) tt
     ∙ get_or_default content k 0 d (omega (arith, changes.no_shorter, changes.no_longer)))
 
--- what a stop leaves of what is kept
+-- so it leaves the kept records
 pub kept_leaves : (records : List Record) (tag : List ℕ) (state : DiskState) (c : List ℕ)
     → IsSyncedFile records tag state → MayLeave state c → StandsFor records c
 kept_leaves records tag state c kept left =

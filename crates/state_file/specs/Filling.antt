@@ -1,4 +1,4 @@
--- Filling a place: slots are written after a first gate that stays closed, and then this gate is opened.
+-- Filling a place: slots are written behind a closed first gate, which is opened at the end.
 use Rattle.std.specs.Prelude.{◌≡◌, ◌⊎◌, ℕ, ◌+◌, ◌<◌, ◌≤◌, Bool, false, IsTrue, List, [], ◌∷◌, drop, take}
 use Rattle.std.specs.Prelude.{Result, Ok, Err}
 use Rattle.state_file.specs.Carried.{carried}
@@ -15,7 +15,7 @@ use Rattle.state_file.specs.declared.record.Record.{Record}
 abbrev pub offsets_below : ℕ → Range
 offsets_below end = record { from = 0; to = end }
 
--- of these all but that of the first gate
+-- the same without the first gate's
 abbrev pub after_first_gate : ℕ → Range
 after_first_gate end = record { from = 1; to = end }
 
@@ -24,8 +24,7 @@ abbrev pub AreWithin : Range → List Range → Type 0
 AreWithin whole [] = Unit {0}
 AreWithin whole (range ∷ ranges) = (whole.from ≤ range.from) × (range.to ≤ whole.to) × AreWithin whole ranges
 
--- Slots are being written: since this content was synced, all that was written lies after the first gate and below an
--- offset.
+-- Slots are being written: since this base was synced, all writes were after the first gate and below `end`.
 pub record IsUnfinished (end : ℕ) (base : List ℕ) (state : DiskState) : Type 0 where
   pub same_base : state.base ≡ base
   pub within : AreWithin (after_first_gate end) state.ranges
@@ -34,21 +33,21 @@ pub record IsUnfinished (end : ℕ) (base : List ℕ) (state : DiskState) : Type
 abbrev pub opened : List ℕ → List ℕ
 opened content = open_value ∷ drop 1 content
 
--- The first k records stand in the slots, and this is the last one's tag: with its first gate open the content is a
--- file of them. While there is none, that gate is closed.
+-- The first k records are in the slots, and this is the last one's tag. If its first gate were open, the content would
+-- be a file of them. For k = 0 that gate is closed.
 pub record IsCopied (list : List Record) (k : ℕ) (tag content : List ℕ) : Type 0 where
   pub none : k ≡ 0 → IsClosed content 0 × (tag ≡ first_tag)
   pub some : 0 < k → IsFileOf (take k list) (opened content) × (tag ≡ previous_tag (opened content) k)
 
--- What a stop leaves while a place is filled, of whose content bytes below an offset may change: it has no key, or it
--- spells what is carried over, where the old disk is honest.
+-- What a crash leaves while a place is filled. Bytes from `end` on stay. If the old disk is honest, the place has no
+-- key, or spells all that is carried over.
 pub record LeftByFill (old_honest : Bool) (records : List Record) (end : ℕ) (content c : List ℕ) : Type 0 where
   pub changes : ChangesOnly (offsets_below end ∷ []) content c
   pub kind : IsTrue old_honest → HasNoKey c ⊎ SpellsRecords c (carried records)
 
--- ---- what is answered
+-- ---- the answers
 
--- A record of the old file is loaded, as it stands in version 2.
+-- A record of the old file is loaded, as version 2 has it.
 abbrev pub LoadsCarried : (honest : Bool) (records : List Record) (k : ℕ) (new_stopped : Bool)
     (failures_before failures_after : ℕ) → Result Record MigrateFault → Type 0
 LoadsCarried honest records k new_stopped before after (Ok entry) =
@@ -58,8 +57,7 @@ LoadsCarried honest records k new_stopped before after (Err (Damaged slot)) = (h
     × (after ≡ before)
 LoadsCarried honest records k new_stopped before after (Err _) = ⊥
 
--- A 45 counts as one failure, of the old disk or of the new one. No other refusal comes, unless the old disk isn't
--- honest and shows a slot that is damaged.
+-- A 45 is one failure, of the old disk or of the new one. Otherwise only 43 refuses, where the old disk isn't honest.
 abbrev pub CountsEither : {A : Type 0} (old_honest : Bool) (old_before old_after new_before new_after : ℕ)
     → Result A MigrateFault → Type 0
 CountsEither old_honest old_before old_after new_before new_after (Ok _) =

@@ -7,7 +7,7 @@ use Rattle.state_file.specs.Gates.{IsAtRest}
 use Rattle.state_file.specs.declared.file.format.FormatFault.{FormatFault}
 use Rattle.state_file.specs.declared.file.format.FormatFault.TheVariants.{NotKeyFile, DeviceFailed, KeyThere}
 
--- What preparing leaves: of under 257 bytes the first is zero and no other has changed, and of 257 none has.
+-- What preparing leaves: of under 257 bytes the first is zero and the others stay; 257 bytes all stay.
 abbrev pub PreparesPlace : (content : List ℕ) (new : DiskState) → Type 0
 PreparesPlace content new =
     IsAtRest [] new
@@ -15,7 +15,7 @@ PreparesPlace content new =
     × ChangesOnly (range_of 0 (0 ∷ []) ∷ []) content new.content)
     ⊎ ((length content ≡ 257) × IsClosed content 0 × (new.content ≡ content)))
 
--- when each refusal comes, by what a read gave, and what it leaves
+-- when each refusal comes, by the content, and what it leaves
 abbrev pub RefusesFormat : (content : List ℕ) (new : DiskState) → FormatFault → Type 0
 RefusesFormat content new KeyThere = (257 ≤ length content) × IsOpen content 0
     × (new ≡ settled content)
@@ -26,13 +26,13 @@ abbrev pub Formats : {A : Type 0} (content : List ℕ) (new : DiskState) → Res
 Formats content new (Ok _) = PreparesPlace content new
 Formats content new (Err fault) = RefusesFormat content new fault
 
--- What a stop in it may leave: what it might leave before, or, of a content of under 257 bytes, this one with any first
--- byte. So of 257 bytes or more none is written.
+-- What a crash may leave meanwhile: what it could leave before, or the content with any first byte, where that has
+-- under 257 bytes. So from 257 bytes up nothing is written.
 abbrev pub LeftByFormat : DiskState → List ℕ → Type 0
 LeftByFormat old c = MayLeave old c
     ⊎ ((length old.content < 257) × ChangesOnly (range_of 0 (0 ∷ []) ∷ []) old.content c)
 
--- A 45 counts as a failure, and no other refusal does.
+-- Only 45 counts as a failure.
 abbrev pub is_failed_format : FormatFault → Bool
 is_failed_format KeyThere = false
 is_failed_format NotKeyFile = false

@@ -1,5 +1,5 @@
--- Which lists of records a signer may stand on. A tree goes by the place of the record that makes it: the
--- Key makes tree 0, an Extend at place k makes tree k.
+-- Which lists of records a signer may stand on. A tree is named by the place of the record that makes it: the Key makes
+-- tree 0, an Extend at place k tree k.
 use Rattle.std.specs.Prelude.{◌≡◌, ◌≢◌, ℕ, zero, suc, ◌+◌, ◌-◌, ◌^◌, ◌<◌, ◌≤◌, List, [], ◌∷◌, length, replicate}
 use Rattle.std.specs.Prelude.{slice_get, Bool, true, false, Option, Some, None}
 use Rattle.typecodes.specs.declared.types.LmsPair.{LmsPair}
@@ -17,7 +17,7 @@ use Rattle.state_file.specs.declared.record.Version.TheVariants.{One}
 
 -- ---- keys
 
--- how many levels a key has; HSS alone may have more than one
+-- the number of levels; only HSS may have more than one
 abbrev pub levels_of : Secret → ℕ
 levels_of (Lms secret) = 1
 levels_of (Hss levels identifier seed) = length levels
@@ -27,13 +27,13 @@ levels_of (Xmss secret) = 1
 abbrev pub bottom_of : Secret → ℕ
 bottom_of secret = levels_of secret - 1
 
--- how many leaves a tree of an HSS level has
+-- the leaves of a tree of an HSS level
 abbrev pub leaves_in : List LmsPair → ℕ → ℕ
 leaves_in [] level = 0
 leaves_in (pair ∷ rest) zero = 2 ^ height_of pair.tree
 leaves_in (pair ∷ rest) (suc level) = leaves_in rest level
 
--- how many leaves a tree of a level has
+-- the leaves of a tree of a level
 abbrev pub leaves_at : Secret → ℕ → ℕ
 leaves_at (Lms secret) level = 2 ^ height_of secret.pair.tree
 leaves_at (Hss levels identifier seed) level = leaves_in levels level
@@ -45,7 +45,7 @@ identifier_in (Lms secret) = Some secret.identifier
 identifier_in (Hss levels identifier seed) = Some identifier
 identifier_in (Xmss secret) = None
 
--- the I of the tree that a record makes, if it makes one with an I
+-- the I that a record brings, if any
 abbrev pub identifier_of : Record → Option (List ℕ)
 identifier_of (KeyRecord key) = identifier_in key.secret
 identifier_of (ExtendRecord extend) = Some extend.identifier
@@ -53,7 +53,7 @@ identifier_of (BoundRecord bound) = None
 identifier_of (Retire upto) = None
 identifier_of Moved = None
 
--- C stands in the records of bindings, but for XMSS, where it is zero
+-- Bindings record C; for XMSS these bytes are zero.
 abbrev pub HasRandomizer : Secret → List ℕ → Type 0
 HasRandomizer (Lms secret) randomizer = Unit {0}
 HasRandomizer (Hss levels identifier seed) randomizer = Unit {0}
@@ -61,7 +61,7 @@ HasRandomizer (Xmss secret) randomizer = randomizer ≡ replicate 32 0
 
 -- ---- trees
 
--- The last Extend of a level before place k stands at place j.
+-- The last Extend of a level before place k is at place j.
 pub record IsLastExtend (records : List Record) (k level j : ℕ) : Type 0 where
   pub extend : Extend
   pub stands : slice_get records j ≡ Some (ExtendRecord extend)
@@ -70,17 +70,15 @@ pub record IsLastExtend (records : List Record) (k level j : ℕ) : Type 0 where
   pub last : (i : ℕ) (other : Extend) → j < i → i < k → slice_get records i ≡ Some (ExtendRecord other)
       → other.level ≢ level
 
--- The current tree of a level before place k. That of level 0 is the Key's. That of a lower level is the tree
--- of the last Extend of that level, if its parent is the current tree of the level above; and the parent
--- is the tree that was current there before this Extend.
+-- The current tree of a level before place k. At level 0 it is the Key's. Below, it is the tree of the level's last
+-- Extend, if the tree that was current above at that Extend still is.
 abbrev pub IsCurrent : List Record → ℕ → ℕ → ℕ → Type 0
 IsCurrent records k zero tree = tree ≡ 0
 IsCurrent records k (suc level) tree =
     IsLastExtend records k (suc level) tree
     × ((above : ℕ) × IsCurrent records k level above × IsCurrent records tree level above)
 
--- The record at place k names a leaf of a tree: an Extend its parent leaf, a Bound its leaf in the current
--- bottom tree.
+-- The record at place k names a leaf of a tree: an Extend its parent leaf, a Bound its leaf in the current bottom tree.
 abbrev pub Names : Secret → List Record → ℕ → Record → (tree leaf : ℕ) → Type 0
 Names secret records k (KeyRecord key) tree leaf = ⊥
 Names secret records k (ExtendRecord extend) tree leaf = (level : ℕ) × (extend.level ≡ level + 1)
@@ -91,8 +89,8 @@ Names secret records k Moved tree leaf = ⊥
 
 -- ---- legal lists
 
--- What a record at place k needs for itself: the trees that it speaks of are current, and its numbers are in range. A
--- Moved stands last, under a Key of version 1.
+-- What a record at place k needs by itself: current trees, and numbers in range. A Moved is the last record, under a
+-- Key of version 1.
 abbrev pub Fits : Key → List Record → ℕ → Record → Type 0
 Fits key records k (KeyRecord other) = k ≡ 0
 Fits key records k (ExtendRecord extend) =
@@ -111,32 +109,32 @@ pub record IsLegal (records : List Record) : Type 0 where
   -- it begins with a Key
   pub key : Key
   pub first : slice_get records 0 ≡ Some (KeyRecord key)
-  -- each record fits; so there is no other Key, and nothing follows a Moved
+  -- each record fits; so there is no other Key, and nothing after a Moved
   pub fits : (k : ℕ) (entry : Record) → slice_get records k ≡ Some entry → Fits key records k entry
-  -- no two trees have one I
+  -- no two trees have the same I
   pub identifiers : (j k : ℕ) (a b : Record) (identifier : List ℕ) → j < k → slice_get records j ≡ Some a
       → slice_get records k ≡ Some b
       → identifier_of a ≡ Some identifier → identifier_of b ≢ Some identifier
-  -- no two bindings have one name
+  -- no two bindings have the same name
   pub names : (j k : ℕ) (a b : Bound) → j < k → slice_get records j ≡ Some (BoundRecord a)
       → slice_get records k ≡ Some (BoundRecord b) → a.name ≢ b.name
-  -- of two records that name leaves of one tree the later one names the greater leaf
+  -- of two records that name leaves of one tree, the later names the greater leaf
   pub rising : (j k : ℕ) (a b : Record) (tree leaf later : ℕ) → j < k → slice_get records j ≡ Some a
       → slice_get records k ≡ Some b
       → Names key.secret records j a tree leaf → Names key.secret records k b tree later → leaf < later
-  -- a record after a Retire of its tree names no leaf that was retired
+  -- no record names a leaf that was retired before
   pub retired : (j k : ℕ) (upto : ℕ) (b : Record) (tree leaf : ℕ) → j < k → slice_get records j ≡ Some (Retire upto)
       → slice_get records k ≡ Some b
       → IsCurrent records j (bottom_of key.secret) tree → Names key.secret records k b tree leaf → upto ≤ leaf
 
 -- ---- files that were moved
 
--- whether the record is a Moved, after which none follows
+-- whether the record is a Moved
 abbrev pub is_moved : Option Record → Bool
 is_moved (Some Moved) = true
 is_moved _ = false
 
--- whether the last record is one
+-- whether the last record is a Moved
 abbrev pub has_moved : List Record → Bool
 has_moved records = is_moved (slice_get records (length records - 1))
 

@@ -1,4 +1,4 @@
--- The log of a disk in memory, and what a stop leaves after it. Its moments are the beginnings of the log.
+-- The log of a disk in memory, and what a crash leaves after it. A moment is a number of entries.
 use Rattle.std.specs.Prelude.{◌≡◌, ℕ, ◌+◌, ◌<◌, ◌≤◌, ◌==◌, if◌then◌else◌, max, List, [], ◌∷◌, length, take}
 use Rattle.std.specs.Prelude.{reverse, slice_index}
 use Rattle.state_file.specs.Disk.{Range, IsOutside, greatest_end, ChangesOnly, DiskState}
@@ -7,7 +7,7 @@ use Rattle.state_file.specs.declared.disk.log.Entry.TheVariants.{Wrote, Synced}
 use Rattle.std.proofs.Common.{sym, subst, arith}
 use Rattle.std.proofs.lemmas.List.{take_all}
 
--- the content at the last sync, from what there was first and a log whose newest entry comes first
+-- the content at the last sync, or the first content; the log has its newest entry first
 abbrev pub base_of : List ℕ → List Entry → List ℕ
 base_of first [] = first
 base_of first (Wrote from to ∷ earlier) = base_of first earlier
@@ -19,16 +19,16 @@ ranges_of [] = []
 ranges_of (Wrote from to ∷ earlier) = record { from = from; to = to } ∷ ranges_of earlier
 ranges_of (Synced content ∷ earlier) = []
 
--- the disk with this content after this log, whose oldest entry comes first
+-- the disk's state after this log, which has its oldest entry first
 abbrev pub state_of : (content first : List ℕ) (log : List Entry) → DiskState
 state_of content first log =
     record { content = content; base = base_of first (reverse log); ranges = ranges_of (reverse log) }
 
--- what a stop right after this log may leave
+-- what a crash right after this log may leave
 abbrev pub LeftBy : (first : List ℕ) (log : List Entry) → List ℕ → Type 0
 LeftBy first log = ChangesOnly (ranges_of (reverse log)) (base_of first (reverse log))
 
--- what a stop may have left at some moment, from the one after t entries on
+-- what a crash may have left at any moment from t entries on
 abbrev pub LeftSince : (first : List ℕ) (log : List Entry) → ℕ → List ℕ → Type 0
 LeftSince first log t c = (k : ℕ) × (t ≤ k) × (k ≤ length log) × LeftBy first (take k log) c
 
@@ -40,7 +40,7 @@ pub record Overlays (at : ℕ) (bytes old new : List ℕ) : Type 0 where
   pub after : (i : ℕ) → i < length old → at + length bytes ≤ i → slice_index new i ≡ slice_index old i
   pub gap : (i : ℕ) → length old ≤ i → i < at → i < length new → slice_index new i ≡ 0
 
--- the longest content that a stop may leave, with this byte wherever it may leave any
+-- The longest content that a crash may leave, with this byte wherever it may leave any.
 pub record IsLongestLeft (byte : ℕ) (base : List ℕ) (ranges : List Range) (c : List ℕ) : Type 0 where
   pub longest : length c ≡ greatest_end (length base) ranges
   pub kept : (offset : ℕ) → offset < length base → IsOutside offset ranges

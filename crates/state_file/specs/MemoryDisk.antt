@@ -11,12 +11,12 @@ use Rattle.state_file.specs.declared.disk.memory_disk.Pick.TheVariants.{Old, New
 use Rattle.state_file.specs.Log.{LeftSince, state_of, IsLongestLeft, Overlays}
 use Rattle.state_file.specs.declared.disk.memory_disk.MemoryDisk.{MemoryDisk}
 
--- the n-th call from now, given as how many calls come before it; of the 0th, none
+-- the n-th call from now, as the number of calls before it; for 0 there is none
 abbrev pub calls_before : ℕ → Option ℕ
 calls_before zero = None
 calls_before (suc before) = Some before
 
--- how the next call fares, by how many calls come before the stop and before the one that fails
+-- what happens to the next call, by the calls before the stop and before the failure
 abbrev pub fate_of : (stop fail : Option ℕ) → Fate
 fate_of (Some zero) fail = Stopped
 fate_of (Some (suc before)) (Some zero) = Fails
@@ -26,25 +26,25 @@ fate_of None (Some zero) = Fails
 fate_of None (Some (suc later)) = Runs
 fate_of None None = Runs
 
--- A call comes: the stop is a call nearer and then lasts.
+-- A call came: the stop is one call nearer, and then lasts.
 abbrev pub stop_after : Option ℕ → Option ℕ
 stop_after None = None
 stop_after (Some before) = Some (before - 1)
 
--- A call comes: the failure is a call nearer, or has come.
+-- A call came: the failure is one call nearer, or over.
 abbrev pub fail_after : Option ℕ → Option ℕ
 fail_after None = None
 fail_after (Some zero) = None
 fail_after (Some (suc before)) = Some before
 
--- what a call that only reads answers, from its answer where it runs
+-- the answer of a call that only reads, from its answer where it runs
 abbrev pub answer_of : {A : Type 0} → Fate → Result A DiskFault → Result A DiskFault
 answer_of Runs answer = answer
 answer_of Fails answer = Err Failed
 answer_of Stopped answer = Err Failed
 
--- What a write does, by how it fares and its answer. Where memory is refused it does nothing. One that fails
--- writes the first half of its bytes, rounded down, and counts with its whole range.
+-- What a write does. Without memory it does nothing. One that fails writes the first half of its bytes, rounded down;
+-- its whole range then counts as written.
 abbrev pub WritesInMemory : {A : Type 0} (at : ℕ) (bytes : List ℕ) (old new : DiskState) → Fate → Result A DiskFault
     → Type 0
 WritesInMemory at bytes old new Runs (Ok _) = Overlays at bytes old.content new.content
@@ -57,7 +57,7 @@ WritesInMemory at bytes old new Fails (Err OutOfMemory) = new ≡ old
 WritesInMemory at bytes old new Stopped (Err Failed) = new ≡ old
 WritesInMemory at bytes old new fate result = ⊥
 
--- What a sync does, by how it fares and its answer. One that is refused does nothing.
+-- What a sync does. A refused one does nothing.
 abbrev pub SyncsInMemory : {A : Type 0} (old new : DiskState) → Fate → Result A DiskFault → Type 0
 SyncsInMemory old new Runs (Ok _) = new ≡ settled old.content
 SyncsInMemory old new Runs (Err OutOfMemory) = new ≡ old
@@ -70,51 +70,50 @@ Picks Old state c = c ≡ state.base
 Picks New state c = c ≡ state.content
 Picks (Fill byte) state c = IsLongestLeft byte state.base state.ranges c
 
--- what a read gives, and what a stop may leave
+-- what a read gives, and what a crash may leave
 abbrev pub state_in : MemoryDisk → DiskState
 state_in disk = state_of disk.content.items disk.first.items disk.log.items
 
--- this moment: how many writes and syncs there were
+-- this moment: the number of writes and syncs
 abbrev pub moment_in : MemoryDisk → ℕ
 moment_in disk = length disk.log.items
 
--- what a stop since a moment might have left
+-- what a crash since a moment may have left
 abbrev pub left_since_in : MemoryDisk → ℕ → List ℕ → Type 0
 left_since_in disk = LeftSince disk.first.items disk.log.items
 
--- how many calls come before the stop
+-- calls before the stop
 abbrev pub stop_in : MemoryDisk → Option ℕ
 stop_in disk = disk.plan.stop
 
--- how many calls come before the one that fails
+-- calls before the one that fails
 abbrev pub fail_in : MemoryDisk → Option ℕ
 fail_in disk = disk.plan.fail
 
--- A call came: the stop and the failure are a call nearer.
+-- A call came: stop and failure are one call nearer.
 pub record PlanAfterCall (old new : MemoryDisk) : Type 0 where
   pub stop : stop_in new ≡ stop_after (stop_in old)
   pub fail : fail_in new ≡ fail_after (fail_in old)
 
--- how the next call fares
+-- what happens to the next call
 abbrev pub next_fate : MemoryDisk → Fate
 next_fate disk = fate_of disk.plan.stop disk.plan.fail
 
--- how many calls it has refused
+-- calls that were refused
 abbrev pub failures_in : MemoryDisk → ℕ
 failures_in disk = disk.failures
 
--- how many of these were reads past the end
+-- those of them that were reads past the end
 abbrev pub past_ends_in : MemoryDisk → ℕ
 past_ends_in disk = disk.past_ends
 
--- What every call does: time goes on, a refusal is counted, and the stop and the failure are a call nearer.
+-- What every call does: time passes, a refusal is counted, stop and failure are one call nearer.
 pub record CallComes {A : Type 0} (old new : MemoryDisk) (answer : Result A DiskFault) : Type 0 where
   pub time : TimePasses state_in moment_in left_since_in old new
   pub failures : Counts is_failure (failures_in old) (failures_in new) answer
   pub plan : PlanAfterCall old new
 
--- No call came in between: reads give the same, it is the same moment, a stop since one leaves the same, and no more
--- calls are refused.
+-- No call came in between: state, moment, what a crash leaves, and the counts are as they were.
 pub record SameMoment (old new : MemoryDisk) : Type 0 where
   pub state : state_in new ≡ state_in old
   pub moment : moment_in new ≡ moment_in old

@@ -1,4 +1,4 @@
--- A store in memory: what callers see of it, and what an append does, where a cut may come.
+-- A store in memory: what callers see of it, and what an append does where a cut may come.
 use Rattle.std.specs.Prelude.{Bool, ℕ, ◌<◌, List, Option, vec_len, vec_capacity, ◌≡◌, zero, suc, ◌+◌, [], ◌∷◌, ◌++◌}
 use Rattle.std.specs.Prelude.{Some, None, Result, Ok, Err, ◌≤◌, length, take}
 use Rattle.state_file.specs.declared.store.memory_store.Cut.{Cut}
@@ -15,50 +15,50 @@ use Rattle.std.proofs.lemmas.List.{take_all}
 abbrev pub records_in : MemoryStore → List Record
 records_in store = store.records.items
 
--- how many it takes
+-- its greatest number of records
 abbrev pub limit_of : MemoryStore → ℕ
 limit_of store = store.limit
 
--- the cut that is to come: how many appends come before the one that is cut, and what that one leaves
+-- the cut to come: appends before it, and what it leaves
 abbrev pub cut_of : MemoryStore → Option (ℕ × Cut)
 cut_of store = store.cut
 
--- whether a call has failed, so that it answers no more
+-- whether a call has failed, so that no other is answered
 abbrev pub is_stopped : MemoryStore → Bool
 is_stopped store = store.stopped
 
--- how often its device has failed
+-- failures of its device
 abbrev pub failures_of : MemoryStore → ℕ
 failures_of store = store.failures
 
--- how often memory was refused to it
+-- refusals of memory
 abbrev pub refusals_of : MemoryStore → ℕ
 refusals_of store = store.refusals
 
--- the slots that load was asked for, the last one first
+-- slots that load was asked for, the last one first
 abbrev pub loads_in : MemoryStore → List ℕ
 loads_in store = store.loads
 
--- the records that load gave, in the order in which it gave them
+-- records that load gave, the first one first
 abbrev pub given_in : MemoryStore → List Record
 given_in store = store.given
 
--- It has the same records, takes as many, and was refused memory as often.
+-- Records, limit and refusals of memory stay.
 pub record KeepsRecords (old new : MemoryStore) : Type 0 where
   pub records : records_in new ≡ records_in old
   pub limit : limit_of new ≡ limit_of old
   pub refusals : refusals_of new ≡ refusals_of old
 
--- It was asked to load no slot more, and gave no record.
+-- No load came.
 pub record KeepsLoads (old new : MemoryStore) : Type 0 where
   pub loads : loads_in new ≡ loads_in old
   pub given : given_in new ≡ given_in old
 
--- there is room for one record more in the memory that it has
+-- the memory that it has takes one more record
 abbrev pub HasRoom : MemoryStore → Type 0
 HasRoom store = vec_len store.records < vec_capacity store.records
 
--- the cut of the n-th append from now, given as how many appends come before it; of the 0th, none
+-- the cut of the n-th append from now, as the number of appends before it; for 0 there is none
 abbrev pub cut_of_append : ℕ → Cut → Option (ℕ × Cut)
 cut_of_append zero cut = None
 cut_of_append (suc before) cut = Some (before, cut)
@@ -68,9 +68,8 @@ abbrev pub left_by : Cut → List Record → Record → List Record
 left_by Old old entry = old
 left_by New old entry = old ++ entry ∷ []
 
--- The cut before and after an append, by the answer. One that is stored brings a cut nearer by one append.
--- One that is cut answers 45, leaves what the cut says, and uses the cut up. Any other leaves the cut as it
--- is. An append that is cut and leaves the old records needs no memory.
+-- The cut after an append. A stored record brings it one append nearer. The cut append answers 45, leaves what the cut
+-- says, and uses it up. Any other answer leaves it as it is. A cut that leaves the old records needs no memory.
 abbrev pub Cuts : {A : Type 0} (old_cut : Option (ℕ
     × Cut)) (old : List Record) (entry : Record) (new : List Record) (new_cut : Option (ℕ × Cut))
     → Result A StoreFault → Type 0
@@ -82,13 +81,13 @@ Cuts (Some (before, cut)) old entry new new_cut (Err DeviceFailed) = (before ≡
 Cuts (Some (zero, Old)) old entry new new_cut (Err OutOfMemory) = ⊥
 Cuts old_cut old entry new new_cut (Err _) = new_cut ≡ old_cut
 
--- ---- its moments: its lists only grow, so that each is a beginning of the last
+-- ---- its moments: the list only grows, so each earlier one is a beginning of it
 
--- it was the list at some moment from the one of t records on
+-- it was the list at some moment since there were t records
 abbrev pub HadBeen : List Record → ℕ → List Record → Type 0
 HadBeen records t left = (k : ℕ) × (t ≤ k) × (k ≤ length records) × (left ≡ take k records)
 
--- What a stop at any moment from the old store on leaves is a list that has P.
+-- What a crash leaves at any moment from the old store on is a list that has P.
 abbrev pub LeavesInMemory : (old new : MemoryStore) (P : List Record → Type 0) → Type 0
 LeavesInMemory old new P =
     LeavesOnly (λ store. length (records_in store)) (λ store. HadBeen (records_in store)) old new P

@@ -5,7 +5,7 @@ use Rattle.state_file.specs.declared.migration.MigrateFault.TheVariants.{Stopped
 use Rattle.state_file.specs.declared.migration.MigrateFault.TheVariants.{Version as VersionFault, Damaged, Illegal}
 use Rattle.state_file.specs.declared.migration.MigrateFault.TheVariants.{DeviceFailed, OutOfMemory, KeyThere, Full}
 
--- the number that reports a fault of a migration
+-- the number of a fault
 abbrev pub number_of : MigrateFault → ℕ
 number_of Stopped = 26
 number_of NoKey = 40
@@ -18,7 +18,7 @@ number_of OutOfMemory = 46
 number_of KeyThere = 50
 number_of Full = 52
 
--- A 45 counts as a failure, and no other refusal does.
+-- Only 45 counts as a failure.
 abbrev pub is_failed_migration : MigrateFault → Bool
 is_failed_migration DeviceFailed = true
 is_failed_migration _ = false

@@ -22,7 +22,7 @@ use Rattle.state_file.specs.declared.store.file_store.FileStore.{FileStore}
 
 -- ---- a place
 
--- the disk that a place stands on
+-- a place's disk
 abbrev pub place_disk : {E : Type 0} {bound : _} → Place E bound → E
 place_disk place = place.disk
 
@@ -31,7 +31,7 @@ abbrev pub disk_checked : {E F : Type 0} {bound : _} → Result (Place E bound) 
 disk_checked (Ok place) = place.disk
 disk_checked (Err refused) = refused.given
 
--- A place was looked at. Nothing was written: all that a stop may leave meanwhile is what one might have left before.
+-- A place was looked at. Nothing was written: meanwhile a crash leaves only what it could leave before.
 pub record ChecksPlace {E : Type 0} {bound : _} (e : disk.Ghosts E) (given : E)
     (result : Result (Place E bound) (Refused E MigrateFault)) : Type 0 where
   pub answer : IsTrue (e.honest given)
@@ -43,7 +43,7 @@ pub record ChecksPlace {E : Type 0} {bound : _} (e : disk.Ghosts E) (given : E)
 
 -- ---- a file that is sealed
 
--- the store of its records
+-- the store of a sealed file
 abbrev pub store_of : {D : Type 0} {bound : _} → Sealed D bound → FileStore D bound
 store_of sealed = sealed.store
 
@@ -53,8 +53,8 @@ abbrev pub store_sealed : {D F : Type 0} {bound : _} → Result (Sealed D bound)
 store_sealed (Ok sealed) = sealed.store
 store_sealed (Err refused) = refused.given
 
--- A store was sealed. A stop at any moment of it leaves the old records, or these with a Moved at their end. Where they
--- ended with one, and where the device didn't fail, it is what it was.
+-- A store was sealed. A crash at any moment leaves the old records, or these with a Moved. A refusal other than 45
+-- leaves the store as it was, and so does sealing it a second time.
 pub record SealsStore {D : Type 0} {bound : _} (d : disk.Ghosts D) (old : FileStore D bound)
     (result : Result (Sealed D bound) (Refused (FileStore D bound) MigrateFault)) : Type 0 where
   pub answer : Seals (records_of old) (has_stopped old) (records_of (store_sealed result))
@@ -75,9 +75,9 @@ pub record SealsStore {D : Type 0} {bound : _} (d : disk.Ghosts D) (old : FileSt
 
 -- ---- a place that is filled
 
--- A place was filled with the records of a sealed file, or a device failed. The old disk is only read: a stop at any
--- moment leaves its records, which end with a Moved. And it leaves a new place that has no key, or that spells what is
--- carried over; Ok means the latter.
+-- A place was filled with a sealed file's records, or a device failed. The old disk is only read: a crash leaves its
+-- records, which end with a Moved. It leaves the new place without a key, or with all that is carried over; after Ok,
+-- with that.
 pub record FillsPlace {D E : Type 0} (d : disk.Ghosts D) (e : disk.Ghosts E) (sealed : Sealed D d) (place : Place E e)
     (old : D) (new : E) (result : Result ℕ MigrateFault) : Type 0 where
   pub old_reads : IsTrue (d.honest (disk_of (store_of sealed)))
@@ -103,15 +103,15 @@ pub record FillsPlace {D E : Type 0} (d : disk.Ghosts D) (e : disk.Ghosts E) (se
 
 -- ---- laws
 
--- What holds of every place: a stop on its disk leaves no key, and so nothing that can sign.
+-- While there is a place, a crash leaves no key on its disk, and so nothing that can sign.
 pub record PlaceLaw {E : Type 0} (e : disk.Ghosts E) : Type 0 where
   pub no_key : (place : Place E e) (c : List ℕ) → IsTrue (e.honest (place_disk place))
       → e.left_since (place_disk place) (e.moment (place_disk place)) c → HasNoKey c
   pub signs_nothing : (place : Place E e) (c : List ℕ) → IsTrue (e.honest (place_disk place))
       → e.left_since (place_disk place) (e.moment (place_disk place)) c → CanSign c → ⊥
 
--- What holds of every file that is sealed: its records end with a Moved, its store runs, and a stop on its disk leaves
--- these records, and so nothing that can sign.
+-- A sealed file's records end with a Moved, and its store runs. A crash on its disk leaves these records, and so
+-- nothing that can sign.
 pub record SealedLaw {D : Type 0} (d : disk.Ghosts D) : Type 0 where
   pub moved : (sealed : Sealed D d) → has_moved (records_of (store_of sealed)) ≡ true
   pub running : (sealed : Sealed D d) → has_stopped (store_of sealed) ≡ false

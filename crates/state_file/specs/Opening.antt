@@ -15,7 +15,7 @@ use Rattle.state_file.specs.declared.record.Version.{Version}
 
 -- ---- what opening finds
 
--- what a content has: the records of a key, or a reason why there are none
+-- a content's records, or why it has none
 pub data ContentKind : Type 0 where
   spelled : List Record → ContentKind
   no_key : ContentKind
@@ -31,9 +31,9 @@ OpensAs content no_key_file = IsNoKeyFile content
 OpensAs content unknown_version = HasUnknownVersion content
 OpensAs content (damaged k) = IsDamagedAt content k
 
--- ---- what its parts do
+-- ---- its parts
 
--- what each refusal reports of the content
+-- what each refusal says of the content
 abbrev pub ReportsContent : List ℕ → OpenFault → Type 0
 ReportsContent content NoKey = OpensAs content no_key
 ReportsContent content NotKeyFile = OpensAs content no_key_file
@@ -41,19 +41,19 @@ ReportsContent content VersionFault = OpensAs content unknown_version
 ReportsContent content (Damaged k) = OpensAs content (damaged k)
 ReportsContent content DeviceFailed = Unit {0}
 
--- what each refusal reports of an honest disk
+-- what each refusal says of an honest disk
 abbrev pub ReportsDisk : {D A : Type 0} (d : disk.Ghosts D) → D → Result A OpenFault → Type 0
 ReportsDisk d old answer = IsTrue (d.honest old) → IfErr answer (ReportsContent (d.state old).content)
 
--- An honest disk has so many bytes at least.
+-- An honest disk has at least this many bytes.
 abbrev pub HasBytes : {D : Type 0} (d : disk.Ghosts D) → D → ℕ → Type 0
 HasBytes d old count = IsTrue (d.honest old) → count ≤ length (d.state old).content
 
--- This is how many bytes an honest disk has.
+-- This is an honest disk's length.
 abbrev pub IsLengthOf : {D : Type 0} (d : disk.Ghosts D) → D → ℕ → Type 0
 IsLengthOf d old len = IsTrue (d.honest old) → len ≡ length (d.state old).content
 
--- A refusal for what stands there leaves it as it was, and all of it is synced.
+-- Unless the device failed, a refusal leaves the content, all synced.
 abbrev pub KeepsContent : List ℕ → DiskState → OpenFault → Type 0
 KeepsContent content new NoKey = new ≡ settled content
 KeepsContent content new NotKeyFile = new ≡ settled content
@@ -61,12 +61,12 @@ KeepsContent content new VersionFault = new ≡ settled content
 KeepsContent content new (Damaged k) = new ≡ settled content
 KeepsContent content new DeviceFailed = Unit {0}
 
--- What opening leaves: a store, or a refusal for what stands there, leaves the content as it was, and all of it synced.
+-- So does an Ok.
 abbrev pub Settles : {A : Type 0} → List ℕ → DiskState → Result A OpenFault → Type 0
 Settles content new (Ok _) = new ≡ settled content
 Settles content new (Err fault) = KeepsContent content new fault
 
--- A 45 counts as a failure, and no other refusal does.
+-- Only 45 counts as a failure.
 abbrev pub is_failed_opening : OpenFault → Bool
 is_failed_opening NoKey = false
 is_failed_opening NotKeyFile = false
@@ -74,25 +74,25 @@ is_failed_opening VersionFault = false
 is_failed_opening (Damaged k) = false
 is_failed_opening DeviceFailed = true
 
--- The first slot is that of a Key of this version.
+-- The first slot is a Key's, of this version.
 pub record StartsWithKey (version : Version) (content : List ℕ) : Type 0 where
   pub may : MayHaveKey content
   pub key : begins_key (fields_at content 0) ≡ true
   pub known : version_of (fields_at content 0) ≡ Some version
 
--- The slot holds the record of this version, has the tag, and the next gate lies in the content.
+-- The slot holds the record, in this version, and has the tag; the next gate is in the content.
 pub record HasSlot (version : Version) (content : List ℕ) (k : ℕ) (entry : Record) (tag : List ℕ) : Type 0 where
   pub few : k < most_records
   pub ends : 256 * (k + 1) < length content
   pub holds : Holds version content k entry
   pub tagged : tag ≡ tag_at content k
 
--- the record of this version that the slot holds, if it holds one
+-- the record that the slot holds in this version, if any
 abbrev pub HasEntry : Version → List ℕ → ℕ → Option Record → Type 0
 HasEntry version content k None = (entry : Record) → Holds version content k entry → ⊥
 HasEntry version content k (Some entry) = Holds version content k entry
 
--- what each refusal of a slot reports of it
+-- what each refusal of a slot says of it
 abbrev pub ReportsSlot : Version → List ℕ → ℕ → OpenFault → Type 0
 ReportsSlot version content slot NoKey = ⊥
 ReportsSlot version content slot NotKeyFile = ⊥
@@ -100,7 +100,7 @@ ReportsSlot version content slot VersionFault = ⊥
 ReportsSlot version content slot (Damaged k) = (k ≡ slot) × (IsWhole version content slot → ⊥)
 ReportsSlot version content slot DeviceFailed = Unit {0}
 
--- what the records that were found are, their version, and the last tag
+-- the records that were found, their version, and the last tag
 pub record IsFound (version : Version) (content : List ℕ) (records : List Record) (tag : List ℕ) : Type 0 where
   pub of_version : version ≡ version_in records
   pub spelled : SpellsRecords content records

@@ -6,7 +6,7 @@ use Rattle.state_file.specs.File.{HasNoKey, IsClosed, MayHaveKey}
 use Rattle.state_file.specs.declared.migration.MigrateFault.{MigrateFault}
 use Rattle.state_file.specs.declared.migration.MigrateFault.TheVariants.{DeviceFailed, KeyThere}
 
--- All of it is synced, and it has no key: it is short, of under 257 bytes, or its first gate is closed.
+-- All is synced, and there is no key: under 257 bytes (short), or a closed first gate.
 pub record IsFreePlace (short : Bool) (state : DiskState) : Type 0 where
   pub synced : IsSynced state
   pub shorter : short ≡ true → length state.content < 257
@@ -16,8 +16,7 @@ pub record IsFreePlace (short : Bool) (state : DiskState) : Type 0 where
 pub IsFreePlace-prop : (short : Bool) (state : DiskState) → IsProp (IsFreePlace short state)
 IsFreePlace-prop short state = hlevel props
 
--- What looking at a place answers of a content, and what it leaves: it has no key, or may have one. No other refusal
--- comes but that of the device.
+-- What looking at a place answers, and leaves: no key, perhaps a key (50), or a device that failed (45).
 abbrev pub FindsPlace : {A : Type 0} (content : List ℕ) (new : DiskState) → Result A MigrateFault → Type 0
 FindsPlace content new (Ok _) = HasNoKey content × (new ≡ settled content)
 FindsPlace content new (Err KeyThere) = MayHaveKey content × (new ≡ settled content)

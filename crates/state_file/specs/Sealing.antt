@@ -7,8 +7,7 @@ use Rattle.state_file.specs.declared.migration.MigrateFault.{MigrateFault}
 use Rattle.state_file.specs.declared.migration.MigrateFault.TheVariants.{DeviceFailed, Full, Stopped}
 use Rattle.state_file.specs.declared.record.Record.{Record}
 
--- What sealing does, by its answer: to the records, to whether their store has stopped, and to the count of its
--- device's failures.
+-- What sealing does, by its answer: to the records, whether the store has stopped, and the failures of its device.
 abbrev pub Seals : {A : Type 0} (old : List Record) (old_stopped : Bool) (new : List Record) (new_stopped : Bool)
     (failures_before failures_after : ℕ) → Result A MigrateFault → Type 0
 Seals old old_stopped new new_stopped before after (Ok _) =

@@ -1,4 +1,4 @@
--- What the bytes of a slot show of the record that they spell: its kind, what a Key begins with, and the version.
+-- What a slot's bytes show of its record: the kind, how a Key begins, and the version.
 use Rattle.std.proofs.Common.{◌≡◌, ℕ, Bool, true, false, cond, List, [], ◌∷◌, ◌++◌, take, Some}
 use Rattle.std.proofs.Common.{refl, sym, ap, ◌∙◌, subst, arith, eqb-true, append-nil}
 use Rattle.std.specs.Prelude.{◌-◌, ◌==◌, ◌&&◌, if◌then◌else◌, slice_get}
@@ -87,7 +87,7 @@ shows-if of kind n chosen other chosen_shows other_shows =
       | false ↦ λ _. other_shows
     ] refl
 
--- the fields of a kind spell records of this kind
+-- a kind's fields spell records of this kind
 pub fields-show : (version : Version) (kind : ℕ) → Shows (fields_of version kind) kind_of kind
 fields-show version kind =
     shows-if kind_of kind 1 _ _ (kind-key version).shows
@@ -96,7 +96,7 @@ fields-show version kind =
     (shows-if kind_of kind 4 _ _ kind-retire.shows (shows-if kind_of kind 5 _ _ kind-moved.shows
     (λ v bytes spelled. absurd spelled)))))
 
--- so do those of a scheme spell secrets of this scheme
+-- a scheme's fields spell secrets of this scheme
 scheme-lms : OfKind scheme_of lms_fields 1
 unfolding lms_fields
 scheme-lms =
@@ -135,13 +135,13 @@ byte-is n bytes (x ∷ [], rest, is, len, spelled) =
     is ∙ ap (λ l. x ∷ l) spelled.1 ∙ ap (λ m. m ∷ []) same
 byte-is n bytes (x ∷ y ∷ more, rest, is, len, spelled) = absurd (omega (arith, len))
 
--- a field that meets its condition
+-- a field that passes its test
 pub only_if-is : {V : Type 0} (test : Bool) (n : ℕ) (v w : V) (bytes : List ℕ) → Spells (only_if test n v) w bytes
     → (test ≡ true) × (bytes ≡ [])
 only_if-is true n v w bytes spelled = (refl, spelled.1)
 only_if-is false n v w bytes spelled = absurd spelled
 
--- bytes that are known
+-- expected bytes
 pub exactly-is : (n : ℕ) (expected bytes : List ℕ) (u : Unit {0}) → Spells (exactly n expected) u bytes
     → bytes ≡ expected
 unfolding exactly
@@ -174,7 +174,7 @@ after_version version _ = do
 abbrev after_magic : Version → Unit {0} → Layout Record
 after_magic version _ = version_field version >>= after_version version
 
--- a record's kind, and what stands after it
+-- a record's kind, and what follows it
 pub record-parts : (version : Version) (entry : Record) (fields : List ℕ) → Spells (slot_record version) entry fields
     → (rest : List ℕ) × (fields ≡ kind_of entry ∷ rest) × Spells (fields_of version (kind_of entry)) entry rest
 unfolding slot_record
@@ -185,7 +185,7 @@ record-parts version entry fields spelled =
     is ∙ ap (λ l. l ++ b) (byte-is kind a kind_spelled) ∙ ap (λ n. n ∷ b) (sym same) in
     (b, bytes, subst (λ n. Spells (fields_of version n) entry b) (sym same) after)
 
--- the fields of a Key begin with its kind, the magic and the file's version, which is its own
+-- a Key's fields begin with its kind, the magic and the file's version, which is its own
 pub key-begins : (version : Version) (key : Key) (fields : List ℕ) → Spells (slot_record version) (KeyRecord key) fields
     → (begins_key fields ≡ true) × (version_of fields ≡ Some version) × (key.version ≡ version)
 unfolding key_fields
@@ -202,7 +202,7 @@ key-begins version key fields spelled =
     let own = (version-key version).shows (KeyRecord key) rest after in
     (ap begins_key bytes, ap version_of bytes ∙ version_known version others, own)
 
--- and a record whose fields begin so is a Key
+-- a record whose fields begin so is a Key
 pub key-first : (version : Version) (entry : Record) (fields : List ℕ) → Spells (slot_record version) entry fields
     → begins_key fields ≡ true → (key : Key) × (entry ≡ KeyRecord key)
 key-first version entry fields spelled begins =
@@ -218,13 +218,13 @@ key-first version entry fields spelled begins =
     of_kind (Retire upto) same = absurd (omega (arith, same))
     of_kind Moved same = absurd (omega (arith, same))
 
--- a list's version is that of the Key at its head
+-- a list's version is its first record's
 pub version_first : (records : List Record) (key : Key) → slice_get records 0 ≡ Some (KeyRecord key)
     → version_in records ≡ key.version
 version_first [] key is = absurd cc
 version_first (entry ∷ rest) key is = ap version_begun (same_Some entry (KeyRecord key) is)
 
--- and that which its first slot shows
+-- the first slot shows it
 pub spelled_version : (records : List Record) (content : List ℕ) → SpellsRecords content records
     → version_of (fields_at content 0) ≡ Some (version_in records)
 spelled_version records content is =

@@ -1,4 +1,4 @@
--- Slots: how one spells its record, in its bytes 1 to 223 a kind and the fields of that kind.
+-- Slots: bytes 1 to 223 of one spell a record, by a kind and the fields of that kind.
 use Rattle.std.specs.Prelude.{◌≡◌, ℕ, zero, suc, ◌-◌, ◌*◌, ◌≤◌, Bool, ◌==◌, ◌&&◌, List, [], ◌∷◌, length, nat_le}
 use Rattle.std.specs.Prelude.{if◌then◌else◌}
 use Rattle.std.specs.List.{list_all}
@@ -18,11 +18,11 @@ use Rattle.state_file.specs.declared.record.Version.TheVariants.{One, Two}
 
 -- ---- fields
 
--- the field of n bytes before this place spells no record; which of the causes its fault has says nothing
+-- The n bytes before this place spell no record. The cause in this fault says nothing.
 abbrev pub no_record : {V : Type 0} → ℕ → Layout V
 no_record n = refuse n UnknownType
 
--- the value, if the field of n bytes before this place meets its condition
+-- the value, if the n bytes before this place pass a test
 abbrev pub only_if : {V : Type 0} → Bool → ℕ → V → Layout V
 only_if test n value = if test then done value else no_record n
 
@@ -30,15 +30,15 @@ only_if test n value = if test then done value else no_record n
 unfoldable pub byte : Layout ℕ
 byte = field 1 (λ bytes. done (big_number 1 bytes))
 
--- a number of 1 byte, from the least to the most
+-- a number of 1 byte, within bounds
 unfoldable pub byte_within : ℕ → ℕ → Layout ℕ
 byte_within least most = byte >>= λ n. only_if (nat_le least n && nat_le n most) 1 n
 
--- bytes that are these
+-- these n bytes
 unfoldable pub exactly : ℕ → List ℕ → Layout (Unit {0})
 exactly n bytes = block n >>= λ read. only_if (pointwise (λ a b. a == b) read bytes) n tt
 
--- n bytes that are zero
+-- n zeros
 unfoldable pub zeros : ℕ → Layout (Unit {0})
 zeros n = block n >>= λ bytes. only_if (list_all (λ b. b == 0) bytes) n tt
 
@@ -52,7 +52,7 @@ abbrev pub version_code : Version → ℕ
 version_code One = 1
 version_code Two = 2
 
--- the versions that are known
+-- the known versions
 abbrev pub versions : List Version
 versions = One ∷ Two ∷ []
 
@@ -60,7 +60,7 @@ versions = One ∷ Two ∷ []
 unfoldable pub version_field : Version → Layout (Unit {0})
 version_field version = exactly 2 (big_bytes 2 (version_code version))
 
--- a pair, by its codes
+-- a pair, as two codes
 unfoldable pub pair_field : Layout LmsPair
 pair_field = do
   tree ← lms_type
@@ -75,7 +75,7 @@ pairs (suc n) = do
   rest ← pairs n
   done (first ∷ rest)
 
--- the number of levels, 1 to 8, the pair of each, and zeros for the pairs up to the eighth
+-- the number of levels, 1 to 8, their pairs, and zeros up to the eighth
 unfoldable pub levels_field : Layout (List LmsPair)
 levels_field = do
   count ← byte_within 1 8
@@ -83,7 +83,7 @@ levels_field = do
   rest ← zeros (64 - 8 * count)
   done levels
 
--- An LMS key: 1 level, its pair and seven zero pairs, I, SEED, and zeros for SK_PRF and the public SEED.
+-- An LMS secret: 1 level, its pair, zeros for seven pairs, I, SEED, zeros for SK_PRF and the public SEED.
 unfoldable pub lms_fields : Layout Secret
 lms_fields = do
   level ← exactly 1 (1 ∷ [])
@@ -94,7 +94,7 @@ lms_fields = do
   seeds ← zeros 64
   done (Lms (record { pair = pair; identifier = identifier; seed = seed }))
 
--- An HSS key: its levels, the I and SEED of the top tree, and zeros for SK_PRF and the public SEED.
+-- An HSS secret: the levels, the top tree's I and SEED, zeros for SK_PRF and the public SEED.
 unfoldable pub hss_fields : Layout Secret
 hss_fields = do
   levels ← levels_field
@@ -103,8 +103,8 @@ hss_fields = do
   seeds ← zeros 64
   done (Hss levels identifier seed)
 
--- An XMSS key: 1 level, its code with zeros for a one-time code and seven pairs, zeros for I, the seed of
--- the private values, SK_PRF and the public SEED.
+-- An XMSS secret: 1 level, its code, zeros for a one-time code and seven pairs, zeros for I, the secret seed, SK_PRF
+-- and the public SEED.
 unfoldable pub xmss_fields : Layout Secret
 xmss_fields = do
   level ← exactly 1 (1 ∷ [])
@@ -124,7 +124,7 @@ secret_fields scheme =
     else (if scheme == 3 then xmss_fields
     else no_record 1))
 
--- the magic, the file's version, the scheme, what stands by the scheme, and the root
+-- a Key: the magic, the version, the scheme, the secret, the root
 unfoldable pub key_fields : Version → Layout Record
 key_fields version = do
   begins ← exactly 8 magic
@@ -137,7 +137,7 @@ key_fields version = do
 
 -- ---- the other kinds
 
--- what follows the parent leaf of an Extend: I, SEED, C, Q and the root
+-- the rest of an Extend: I, SEED, C, Q and the root
 abbrev pub after_parent_leaf : (level parent_leaf : ℕ) → Layout Record
 after_parent_leaf level parent_leaf = do
   identifier ← block 16
@@ -156,7 +156,7 @@ after_parent_leaf level parent_leaf = do
     root = root;
   }))
 
--- the level, the parent leaf and what follows
+-- an Extend: the level, the parent leaf, and the rest
 unfoldable pub extend_fields : Layout Record
 extend_fields = do
   level ← byte
@@ -167,12 +167,12 @@ extend_fields = do
 abbrev pub are_visible : List ℕ → Bool
 are_visible bytes = list_all (λ b. nat_le 0x21 b && nat_le b 0x7e) bytes
 
--- how many bytes a name has at most in a file of a version
+-- the greatest length of a name
 abbrev pub name_most : Version → ℕ
 name_most One = 64
 name_most Two = 128
 
--- a name of visible characters, 1 to the most: its length, and its bytes with zeros up to the last
+-- a name of 1 to `most` visible characters: its length, its bytes, and zeros up to `most`
 unfoldable pub name_field : ℕ → Layout (List ℕ)
 name_field most = do
   count ← byte_within 1 most
@@ -181,7 +181,7 @@ name_field most = do
   rest ← zeros (most - count)
   done name
 
--- the name, the leaf, C and Q
+-- a Bound: the name, the leaf, C and Q
 unfoldable pub bound_fields : Version → Layout Record
 bound_fields version = do
   name ← name_field (name_most version)
@@ -191,14 +191,14 @@ bound_fields version = do
   rest ← zeros (153 - name_most version)
   done (BoundRecord (record { name = name; leaf = leaf; randomizer = randomizer; digest = digest }))
 
--- the number below which leaves are retired
+-- a Retire: leaves below this number are retired
 unfoldable pub retire_fields : Layout Record
 retire_fields = do
   upto ← number
   rest ← zeros 218
   done (Retire upto)
 
--- the new version, which is 2
+-- a Moved: the new version, which is 2
 unfoldable pub moved_fields : Layout Record
 moved_fields = do
   version ← exactly 2 (0 ∷ 2 ∷ [])
@@ -217,17 +217,17 @@ fields_of version kind =
     else (if kind == 5 then moved_fields
     else no_record 1))))
 
--- the bytes 1 to 223 of a slot, in a file of a version
+-- bytes 1 to 223 of a slot, in a version
 unfoldable pub slot_record : Version → Layout Record
 slot_record version = byte >>= fields_of version
 
--- the number of a secret's scheme
+-- a secret's scheme
 abbrev pub scheme_of : Secret → ℕ
 scheme_of (Lms secret) = 1
 scheme_of (Hss levels identifier seed) = 2
 scheme_of (Xmss secret) = 3
 
--- the number of a record's kind
+-- a record's kind
 abbrev pub kind_of : Record → ℕ
 kind_of (KeyRecord key) = 1
 kind_of (ExtendRecord extend) = 2
@@ -237,7 +237,7 @@ kind_of Moved = 5
 
 -- ---- the version of a file
 
--- the version of the file that a record begins; where it is no Key, this is version 1
+-- the version of a file that begins with this record; 1 if it is no Key
 abbrev pub version_begun : Record → Version
 version_begun (KeyRecord key) = key.version
 version_begun (ExtendRecord extend) = One
@@ -245,12 +245,12 @@ version_begun (BoundRecord bound) = One
 version_begun (Retire upto) = One
 version_begun Moved = One
 
--- The version of a file of these records: its Key's, which stands at the head. Where there is none, it is version 1.
+-- the version of a file of these records, which its Key says; 1 without a Key
 abbrev pub version_in : List Record → Version
 version_in [] = One
 version_in (entry ∷ rest) = version_begun entry
 
--- A file of this version can hold the record: a Key has the file's version, and a name has room.
+-- A file of this version can hold the record: a Key has this version, and a name isn't too long.
 abbrev pub FitsVersion : Version → Record → Type 0
 FitsVersion version (KeyRecord key) = key.version ≡ version
 FitsVersion version (ExtendRecord extend) = Unit {0}

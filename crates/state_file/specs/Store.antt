@@ -7,7 +7,6 @@ use Rattle.state_file.specs.Slot.{FitsVersion, version_in}
 use Rattle.state_file.specs.declared.store.StoreFault.{StoreFault}
 use Rattle.state_file.specs.declared.store.StoreFault.TheVariants.{Stopped, Damaged, DeviceFailed, OutOfMemory, Full}
 
--- the record is a Key
 abbrev pub is_key : Record → Bool
 is_key (KeyRecord key) = true
 is_key (Extend extend) = false
@@ -15,24 +14,21 @@ is_key (Bound bound) = false
 is_key (Retire upto) = false
 is_key Moved = false
 
--- the first record, if there is one, is a Key
+-- the first record, if any, is a Key
 abbrev pub begins_with_key : List Record → Bool
 begins_with_key [] = true
 begins_with_key (entry ∷ entries) = is_key entry
 
--- The record can be written after this list: the first one is a Key, and a file of the version that it begins can hold
--- the others.
+-- The record can be written after this list: the first is a Key, and a file of its version can hold the others.
 abbrev pub CanFollow : List Record → Record → Type 0
 CanFollow [] entry = is_key entry ≡ true
 CanFollow (first ∷ rest) entry = FitsVersion (version_in (first ∷ rest)) entry
 
--- What is promised only while a store runs: its device is honest, and hasn't failed in a call of the store since that
--- was opened.
+-- What holds while a store runs: its device is honest, and no call has failed since it was opened.
 abbrev pub WhileRunning : (honest stopped : Bool) → Type 0 → Type 0
 WhileRunning honest stopped Then = IsTrue honest → stopped ≡ false → Then
 
--- What an append does, by its answer: to the list, to whether the store has stopped, and to the count of
--- its device's failures.
+-- What an append does, by its answer: to the list, whether the store has stopped, and the failures of its device.
 abbrev pub Appends : {A : Type 0} (most : ℕ) (old : List Record) (old_stopped : Bool) (entry : Record)
     (new : List Record) (new_stopped : Bool) (failures_before failures_after : ℕ) → Result A StoreFault → Type 0
 Appends most old old_stopped entry new new_stopped before after (Ok _) =
@@ -56,7 +52,7 @@ is_stopped DeviceFailed = false
 is_stopped OutOfMemory = false
 is_stopped Full = false
 
--- An answer 46 counts as a refusal of memory, and no other does.
+-- Only 46 counts as a refusal of memory.
 abbrev pub is_out_of_memory : StoreFault → Bool
 is_out_of_memory Stopped = false
 is_out_of_memory (Damaged k) = false
@@ -64,7 +60,7 @@ is_out_of_memory DeviceFailed = false
 is_out_of_memory OutOfMemory = true
 is_out_of_memory Full = false
 
--- An answer 45 counts as a failure of the device, and no other does.
+-- Only 45 counts as a failure of the device.
 abbrev pub is_device_failed : StoreFault → Bool
 is_device_failed Stopped = false
 is_device_failed (Damaged k) = false
@@ -72,7 +68,7 @@ is_device_failed DeviceFailed = true
 is_device_failed OutOfMemory = false
 is_device_failed Full = false
 
--- the slot that an answer 43 names
+-- the slot that answer 43 names
 abbrev pub unreadable_slot : StoreFault → List ℕ
 unreadable_slot Stopped = []
 unreadable_slot (Damaged k) = k ∷ []
@@ -80,33 +76,33 @@ unreadable_slot DeviceFailed = []
 unreadable_slot OutOfMemory = []
 unreadable_slot Full = []
 
--- the answer is a fault of such a kind
+-- the answer is a fault of this kind
 abbrev pub is_fault : {A E : Type 0} → (is_kind : E → Bool) → Result A E → Bool
 is_fault is_kind (Ok _) = false
 is_fault is_kind (Err fault) = is_kind fault
 
--- What a refusal names is added at the head of a list, and nothing else is.
+-- What a refusal names is added to a list's head; nothing else is.
 abbrev pub Collects : {A E T : Type 0} (named_by : E → List T) (before after : List T) → Result A E → Type 0
 Collects named_by before after (Ok _) = after ≡ before
 Collects named_by before after (Err fault) = after ≡ named_by fault ++ before
 
--- The slot of a load is added at the head of a list, unless the answer is of such a kind.
+-- A load's slot is added to a list's head, unless the answer is of this kind.
 abbrev pub AddsLoad : {A E : Type 0} (had_stopped : E → Bool) (k : ℕ) (before after : List ℕ) → Result A E → Type 0
 AddsLoad had_stopped k before after (Ok _) = after ≡ k ∷ before
 AddsLoad had_stopped k before after (Err fault) = after ≡ (if had_stopped fault then before else k ∷ before)
 
--- The record that a load gives is added at the end of a list, and nothing else is.
+-- A record that a load gives is added to a list's end; nothing else is.
 abbrev pub AddsGiven : {E : Type 0} (before after : List Record) → Result (Option Record) E → Type 0
 AddsGiven before after (Ok (Some entry)) = after ≡ before ++ entry ∷ []
 AddsGiven before after (Ok None) = after ≡ before
 AddsGiven before after (Err fault) = after ≡ before
 
--- the record that load may give: record k, where the store is honest
+-- the record that load may give: over an honest device record k, else any
 abbrev pub IsRecordAt : Bool → List Record → ℕ → Record → Type 0
 IsRecordAt true list k entry = slice_get list k ≡ Some entry
 IsRecordAt false list k entry = Unit {0}
 
--- What a load does, by its answer. Its list stays. An honest store spells each of its records.
+-- What a load does, by its answer. Over an honest device each record can be read.
 abbrev pub Loads : (honest : Bool) (list : List Record) (old_stopped : Bool) (k : ℕ)
     (new_stopped : Bool) (failures_before failures_after : ℕ) → Result (Option Record) StoreFault → Type 0
 Loads honest list old_stopped k new_stopped before after (Ok None) =

@@ -1,4 +1,4 @@
-//! What a disk is: bytes that may get lost, where they weren't synced, when the power goes.
+//! Disks: bytes that a crash may change where they weren't synced.
 
 ghost use Rattle.std.specs.Prelude.{◌≡◌, ◌+◌, ◌<◌, ◌≤◌, ℕ, List, Bool, IsTrue, length, slice_range, IfOk, OnOk};
 ghost use Rattle.typecodes.specs.Layout.{AreBytes};
@@ -24,38 +24,38 @@ pub enum DiskFault {
     OutOfMemory,
 }
 
-/// Bytes that a stop, as when the power goes, may change where they weren't synced.
+/// A disk. A crash, as when the power goes, may change bytes that weren't synced.
 ///
-/// Each clause that speaks of bytes or of stops is promised by an honest disk. Which disks are honest is
-/// for each to say: of one in memory it is proved, of a file of the machine it is a premise.
+/// Only an honest disk promises the clauses about bytes and crashes. `MemoryDisk` is proved honest; for a file of the
+/// machine it is a premise.
 pub trait Disk {
-    // what a read gives, and what a stop at this moment may leave
+    // what a read gives, and what a crash at this moment may leave
     ghost state: { Self → DiskState };
 
     // this moment, as a number that doesn't fall
     ghost moment: { Self → ℕ };
 
-    // what a stop at some moment from that one on might have left, in a call or between two
+    // what a crash may have left at any moment since that one, inside a call or between two
     ghost left_since: { Self → ℕ → List ℕ → Type 0 };
 
-    // how many calls it has refused
+    // how many calls it refused
     ghost failures: { Self → ℕ };
 
-    // how many of these were reads past the end
+    // how many of these read past the end
     ghost past_ends: { Self → ℕ };
 
     // whether it keeps these promises
     ghost honest: { Self → Bool };
 
-    /// How many bytes there are.
+    /// The length in bytes.
     fn len(&mut self) -> Result<u64, DiskFault>
         ensures length { IsTrue (honest self.old) → IfOk result (λ n. n ≡ length (state self.old).content) }
         ensures stays { IsTrue (honest self.old) → state self.new ≡ state self.old }
         ensures past_ends { past_ends self.new ≡ past_ends self.old }
         ensures call { CallsDisk honest state moment left_since failures self.old self.new result };
 
-    /// Reads as many bytes as `into` has, which is one at least, from the offset `at` on. A read past the end is
-    /// refused, and no other is refused as one. After an Err nothing is said of `into`.
+    /// Fills `into`, of one byte at least, from offset `at` on. A read past the end is refused, and no other one as
+    /// `PastEnd`. After an Err, `into` may hold anything.
     fn read_at(&mut self, at: u64, into: &mut [u8]) -> Result<(), DiskFault>
         requires { 0 < length into.old }
         ensures within { IsTrue (honest self.old) →
@@ -68,31 +68,31 @@ pub trait Disk {
         ensures stays { IsTrue (honest self.old) → state self.new ≡ state self.old }
         ensures call { CallsDisk honest state moment left_since failures self.old self.new result };
 
-    /// Writes these bytes, one at least, over what is there and past the end. Until a sync succeeds, a stop may
-    /// leave any bytes in the range.
+    /// Writes one byte or more at `at`, over old bytes and past the end. Until a sync succeeds, a crash may leave any
+    /// bytes in this range.
     fn write_at(&mut self, at: u64, bytes: &[u8]) -> Result<(), DiskFault>
         requires { 0 < length bytes.now }
         ensures written { IsTrue (honest self.old) → WritesBytes at bytes.now (state self.old) (state self.new) result }
         ensures past_ends { past_ends self.new ≡ past_ends self.old }
         ensures call { CallsDisk honest state moment left_since failures self.old self.new result };
 
-    /// After it, a stop leaves what a read gives.
+    /// Afterwards a crash leaves what a read gives.
     fn sync(&mut self) -> Result<(), DiskFault>
         ensures synced { IsTrue (honest self.old) → Syncs (state self.old) (state self.new) result }
         ensures past_ends { past_ends self.new ≡ past_ends self.old }
         ensures call { CallsDisk honest state moment left_since failures self.old self.new result };
 
-    // What a read gives is bytes.
+    // A read gives bytes.
     ghost gives_bytes: { (disk : Self) → IsTrue (honest disk) → AreBytes (state disk).content };
 
-    // It is one of the contents that a stop may leave.
+    // A crash may leave what a read gives.
     ghost shows: { (disk : Self) → IsTrue (honest disk) → MayLeave (state disk) (state disk).content };
 
-    // This moment is one of those since an earlier one.
+    // What a crash may leave now is among what it may have left since any earlier moment.
     ghost counts_now: { (disk : Self) (t : ℕ) (c : List ℕ) → IsTrue (honest disk) → t ≤ moment disk →
         MayLeave (state disk) c → left_since disk t c };
 
-    // Since this moment there is no other.
+    // Since this moment it is nothing else.
     ghost only_now: { (disk : Self) (c : List ℕ) → IsTrue (honest disk) → left_since disk (moment disk) c →
         MayLeave (state disk) c };
 }

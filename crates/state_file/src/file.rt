@@ -1,4 +1,4 @@
-//! Records in a file: the slots of its content, how one is added, how a place is prepared, and how records are found.
+//! Records in a file: how a slot is added, a place prepared, and records found.
 
 mod format;
 mod gates;

@@ -1,4 +1,4 @@
-//! Laws of slots, of contents and of legal lists. The functions do nothing: what their contracts say is proved of every
+//! Laws of slots, of contents and of legal lists. The functions do nothing: their contracts are theorems about every
 //! list of bytes or of records.
 
 ghost use Rattle.std.specs.Prelude.{◌≡◌, ◌⊎◌, ◌<◌, ◌≤◌, ◌↔◌, ℕ, List, [], ◌∷◌, ◌++◌, length, true};
@@ -15,18 +15,20 @@ ghost use Rattle.state_file.specs.declared.record.Version.{Version};
 
 use crate::disk::Disk;
 
-/// What holds of the bytes 1 to 223 of slots in a file of any version: they spell at most one record, and a record is
-/// spelled by one list of bytes.
+/// Bytes 1 to 223 of a slot, in either version: a record has one spelling (`once`), and bytes spell at most one record
+/// (`one_record`).
 pub fn slot_laws()
     ensures once { (version : Version) → OneSpelling (slot_record version) }
     ensures one_record { (version : Version) (entry other : Record) (fields : List ℕ) →
         Spells (slot_record version) entry fields → Spells (slot_record version) other fields → entry ≡ other }
 {}
 
-/// What holds of the contents of a disk: each spells the records of a key, or has a reason why there are none, and
-/// but one of these. One that stands for a list, as each does that a stop in an append leaves, spells it or has no
-/// key (`standing`): opening it reports none of 41 to 43. Nor has one a key that a stop leaves while a place of
-/// under 257 bytes is prepared (`prepared`).
+/// Laws of a disk's content:
+///
+/// - `some`, `once`: it opens as exactly one kind: the records of a key, or a reason why there are none.
+/// - `standing`: if it stands for a list of records, it spells them or has no key. Each content that a crash in an
+///   append leaves stands for one, so opening it reports none of 41 to 43.
+/// - `prepared`: what a crash leaves while a place of under 257 bytes is prepared has no key.
 pub fn content_laws()
     ensures some { (content : List ℕ) → (kind : ContentKind) × OpensAs content kind }
     ensures once { (content : List ℕ) (kind other : ContentKind) → OpensAs content kind → OpensAs content other →
@@ -37,10 +39,12 @@ pub fn content_laws()
         ChangesOnly (range_of 0 (0 ∷ []) ∷ []) content c → HasNoKey c }
 {}
 
-/// What holds of legal lists: which tree is current at a place depends on the records before it alone
-/// (`current`), a level has at most one current tree (`one_current`), and a beginning of a legal list, of a
-/// record or more, is legal (`beginning`). A content without a key can't sign (`no_key`), and neither can one whose
-/// records end with a Moved (`moved`).
+/// Laws of legal lists:
+///
+/// - `current`: records before a place decide which tree is current there.
+/// - `one_current`: a level has at most one current tree.
+/// - `no_key`, `moved`: a content without a key can't sign, nor one whose records end with a Moved.
+/// - `beginning`: the first records of a legal list, one at least, are legal.
 pub fn legal_laws()
     ensures current { (records more : List Record) (k level tree : ℕ) → k ≤ length records →
         IsCurrent (records ++ more) k level tree ↔ IsCurrent records k level tree }
@@ -53,9 +57,8 @@ pub fn legal_laws()
         IsLegal records }
 {}
 
-/// What holds of each place and of each file that is sealed, as the two types say it: while a place is one, a stop
-/// leaves no key on its disk; while a file is sealed, a stop leaves the records that end with a Moved. So neither can
-/// sign then.
+/// While a `Place` exists, a crash leaves no key on its disk (`places`). While a `Sealed` exists, it leaves records
+/// that end with a Moved (`sealed`). So neither can sign.
 pub fn migration_laws<D: Disk + Drop, E: Disk + Drop>()
     ensures places { PlaceLaw E.Disk }
     ensures sealed { SealedLaw D.Disk }

@@ -1,10 +1,11 @@
-//! Records of a key, how they stand in the slots of a state file, and the stores that keep them.
+//! Records of a key, the slots of a state file that hold them, and stores that keep them.
 //!
-//! Its models are `specs/Store.antt`, what each call of a store does to its list of records; `specs/Slot.antt`, how a
-//! slot spells a record; `specs/File.antt`, what a content of a disk is as a file of records; and `specs/Disk.antt`,
-//! what a stop may leave of a disk. Its contract for the crates above: after every call, and after a stop at any
-//! moment in it, a store has the old records, or the old and the new one. What moving records to a file of version 2
-//! does is `specs/Migration.antt`: of the old file and the new one no stop leaves both able to sign.
+//! After every call, and after a crash at any moment in it, a store has the old records, or the old and the new one. A
+//! migration moves records to a file of version 2. No crash leaves both files able to sign.
+//!
+//! The models are `specs/Store.antt`, what each call does to a store's list of records; `specs/Slot.antt`, the bytes of
+//! a record; `specs/File.antt`, a disk's content as a file of records; `specs/Disk.antt`, what a crash may leave of a
+//! disk; and `specs/Migration.antt`.
 //!
 //! ```rust
 //! use state_file::{FileStore, MemoryDisk, Store};

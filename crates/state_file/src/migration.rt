@@ -1,5 +1,5 @@
-//! How the records of a key move from a file of version 1 to one of version 2: the new place is looked at, the old file
-//! is sealed, and the place is filled. So of the two files no stop leaves both able to sign.
+//! Migration of a key's records from a file of version 1 to one of version 2. The new place is looked at, the old file
+//! is sealed, and the place is filled. No crash leaves both files able to sign.
 
 ghost use Rattle.std.specs.Prelude.{◌≡◌};
 
@@ -27,13 +27,13 @@ pub enum MigrateFault {
     /// 41: the old file's first slot holds no Key.
     #[error("the file is no key file")]
     NotKeyFile,
-    /// 42: the old file is of another version than 1.
+    /// 42: the old file isn't of version 1.
     #[error("the key file is not of version 1")]
     Version,
-    /// 43: this slot of the old file, and none before it, is damaged.
+    /// 43: this slot of the old file is the first damaged one.
     #[error("slot {0} is damaged")]
     Damaged(u32),
-    /// 44: the old records aren't legal, and this one is the first that isn't.
+    /// 44: this one of the old records is the first that may not follow those before it.
     #[error("record {0} is not legal")]
     Illegal(u32),
     /// 45: a device failed.
@@ -53,7 +53,7 @@ pub enum MigrateFault {
 impl MigrateFault {
     ghost use Rattle.state_file.specs.MigrateFault.{number_of};
 
-    /// The number by which the fault is reported.
+    /// The fault's number.
     pub fn number(self) -> u8
         ensures { result ≡ number_of self }
     {

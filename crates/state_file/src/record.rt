@@ -12,7 +12,7 @@ mod list;
 pub use list::RecordList;
 use typecodes::{Levels, LmsSecret, Name, XmssSecret};
 
-/// One record. A list of them stands for a key and all that it has signed.
+/// One record. A list of them says what a key is, and all that it has signed.
 #[derive(PartialEq, Eq, Drop)]
 pub enum Record {
     /// The key itself, the first record.
@@ -21,14 +21,14 @@ pub enum Record {
     Extend(Extend),
     /// A name that is bound to a leaf.
     Bound(Bound),
-    /// The leaves of the bottom tree below `upto` sign nothing any more.
+    /// The bottom tree's leaves below `upto` sign nothing any more.
     Retire { upto: u32 },
-    /// The records go on in a file of version 2. None follows.
+    /// The records go on in a file of version 2. No record follows.
     Moved,
 }
 
 impl Record {
-    /// The same record once more. It can't fail, as a record holds no memory.
+    /// A clone. It can't fail, as a record owns no memory.
     pub fn copied(&self) -> Self
         ensures { result ≡ self.now }
     {
@@ -41,8 +41,8 @@ impl Record {
         }
     }
 
-    /// Whether a file of a version can hold the record: of a Key only one of its own, of a Bound one whose names are
-    /// long enough, and of any other record each.
+    /// Whether a file of this version can hold the record: a Key only of its own version, a Bound if its name isn't too
+    /// long, any other record always.
     pub fn fits(&self, version: Version) -> bool
         ensures fits { result ≡ true → FitsVersion version self.now }
         ensures not { result ≡ false → FitsVersion version self.now → ⊥ }
@@ -56,7 +56,7 @@ impl Record {
         }
     }
 
-    // The record as it stands in a file of version 2.
+    // The record as a file of version 2 has it.
     pub(crate) fn carried(&self) -> Self
         ensures value { result ≡ in_version Version.Two self.now }
         ensures fits { FitsVersion Version.Two result }
@@ -76,14 +76,13 @@ impl Record {
         }
     }
 
-    // Whether it is a Moved.
     pub(crate) fn is_moved(&self) -> bool
         ensures { result ≡ is_moved (Some self.now) }
     {
         matches!(self, Record::Moved)
     }
 
-    // The version in which a file of that one goes on with the record: its own, if it can hold the record.
+    // The version of a file after the record was added: its own, if that version can hold the record.
     pub(crate) fn version_after(&self, file: Version) -> Version
         ensures fits { FitsVersion result self.now }
         ensures same { FitsVersion file self.now → result ≡ file }
@@ -112,7 +111,7 @@ pub enum Version {
 }
 
 impl Version {
-    /// The version that a code names.
+    /// The version of this code.
     pub fn from_code(code: u16) -> Option<Self>
         ensures named { result ≡ named version_code versions code }
     {
@@ -123,7 +122,7 @@ impl Version {
         }
     }
 
-    /// The code of the version: 1 or 2.
+    /// The version's code, 1 or 2.
     pub fn code(self) -> u16
         ensures value { result ≡ version_code self }
         ensures alone { (other : V) → version_code other ≡ result → other ≡ self }
@@ -134,7 +133,7 @@ impl Version {
         }
     }
 
-    /// How many bytes a name has at most in a file of the version.
+    /// The greatest length of a name, in bytes.
     pub fn name_most(self) -> u8
         ensures value { result ≡ name_most self }
         ensures least { 64 ≤ result }
@@ -147,19 +146,19 @@ impl Version {
     }
 }
 
-/// A key: what it is made from, and its root.
+/// A key: its secret and its root.
 #[derive(PartialEq, Eq, Drop)]
 pub struct Key {
-    /// The version of the file that it begins.
+    /// The version of its file.
     pub version: Version,
-    /// Its scheme, the scheme's types, and what its leaves are made from.
+    /// Its scheme, types and seeds.
     pub secret: Secret,
-    /// The root of the tree, of the top one for HSS, 32 bytes.
+    /// The tree's root (for HSS the top tree's), 32 bytes.
     pub root: [u8; 32],
 }
 
 impl Key {
-    /// The same key once more.
+    /// A clone, which can't fail.
     pub fn copied(&self) -> Self
         ensures { result ≡ self.now }
     {
@@ -171,7 +170,7 @@ impl Key {
     }
 }
 
-/// What the leaves of a key are made from, by its scheme.
+/// What a key's leaves are made from, by its scheme.
 #[derive(PartialEq, Eq, Drop)]
 pub enum Secret {
     /// One tree (RFC 8554 5).
@@ -179,9 +178,9 @@ pub enum Secret {
     /// Trees of 1 to 8 levels (RFC 8554 6).
     Hss {
         levels: Levels,
-        /// I of the top tree, 16 bytes.
+        /// The top tree's I, 16 bytes.
         identifier: [u8; 16],
-        /// SEED of the top tree, 32 bytes.
+        /// The top tree's SEED, 32 bytes.
         seed: [u8; 32],
     },
     /// One tree of XMSS (RFC 8391 4.1).
@@ -189,7 +188,7 @@ pub enum Secret {
 }
 
 impl Secret {
-    /// The same secret once more.
+    /// A clone, which can't fail.
     pub fn copied(&self) -> Self
         ensures { result ≡ self.now }
     {
@@ -212,7 +211,7 @@ impl Secret {
 impl Secret {
     ghost use Rattle.state_file.specs.Laws.{leaves_at, levels_of};
 
-    /// How many levels of trees a key has: 1 but for HSS.
+    /// The number of levels: 1, or for HSS up to 8.
     pub fn levels(&self) -> u8
         ensures { result ≡ levels_of self.now }
     {
@@ -222,7 +221,7 @@ impl Secret {
         }
     }
 
-    /// How many leaves a tree of a level has, 0 below the bottom one.
+    /// The number of leaves of a tree at this level. The caller gives one of the key's levels.
     pub fn leaves(&self, level: u8) -> u32
         requires { level < levels_of self.now }
         ensures { result ≡ leaves_at self.now level }
@@ -238,7 +237,6 @@ impl Secret {
     }
 }
 
-// How many leaves a tree of a height has.
 fn leaves_of(height: u8) -> u32
     requires { height ≤ 25 }
     ensures { result ≡ 2 ^ height }
@@ -246,26 +244,26 @@ fn leaves_of(height: u8) -> u32
     1 << height
 }
 
-/// A new tree of a lower level of HSS, and the leaf of the tree above that signs its public key.
+/// A new tree at a lower level of HSS.
 #[derive(Clone, Copy, PartialEq, Eq)]
 pub struct Extend {
-    /// The level of the new tree, from 1.
+    /// The new tree's level, from 1.
     pub level: u8,
-    /// q, the leaf of the tree above that signs it.
+    /// q, the leaf of the tree above that signs its public key.
     pub parent_leaf: u32,
-    /// I of the new tree, 16 bytes.
+    /// The new tree's I, 16 bytes.
     pub identifier: [u8; 16],
-    /// SEED of the new tree, 32 bytes.
+    /// The new tree's SEED, 32 bytes.
     pub seed: [u8; 32],
     /// C of the parent leaf's signature, 32 bytes.
     pub randomizer: [u8; 32],
     /// Q of the parent leaf's signature, 32 bytes.
     pub digest: [u8; 32],
-    /// T[1] of the new tree, 32 bytes.
+    /// T[1], the new tree's root, 32 bytes.
     pub root: [u8; 32],
 }
 
-/// A name bound to a leaf and to the digest that the leaf signs.
+/// A name, bound to a leaf and to the digest that the leaf signs.
 #[derive(Clone, Copy, Debug, PartialEq, Eq)]
 pub struct Bound {
     pub name: Name,

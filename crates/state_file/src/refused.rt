@@ -1,6 +1,6 @@
 //! What a refused call gives back.
 
-/// A refusal of a call that takes things by value: why, and the things.
+/// The refusal of a call that took `given` by value.
 #[derive(Drop)]
 pub struct Refused<T, F> {
     pub fault: F,

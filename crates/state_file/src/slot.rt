@@ -1,4 +1,4 @@
-//! Slots of 256 bytes: a gate, a record in the bytes 1 to 223, and a tag.
+//! Slots of 256 bytes: a gate, a record in bytes 1 to 223, and a tag.
 
 mod bound;
 mod extend;

@@ -29,7 +29,7 @@ pub enum StoreFault {
     /// 46: memory was refused; nothing changed.
     #[error("out of memory")]
     OutOfMemory,
-    /// 52: as many records stand as the store takes; nothing changed.
+    /// 52: the store has its greatest number of records; nothing changed.
     #[error("the store is full")]
     Full,
 }
@@ -43,38 +43,38 @@ pub trait Store {
     // its records
     ghost list: { Self → List R };
 
-    // whether a call failed, so that it answers no more
+    // whether a call failed, so that no other is answered
     ghost stopped: { Self → Bool };
 
-    // how often its device has failed
+    // how often its device failed
     ghost failures: { Self → ℕ };
 
     // how often memory was refused to it
     ghost refusals: { Self → ℕ };
 
-    // the slots that `load` has reported as unreadable, the last one first
+    // slots that `load` reported as unreadable, the last one first
     ghost unreadable: { Self → List ℕ };
 
-    // the slots that `load` was asked for before the store stopped, the last one first
+    // slots that `load` was asked for while the store ran, the last one first
     ghost loads: { Self → List ℕ };
 
-    // the records that `load` gave, in the order in which it gave them
+    // records that `load` gave, the first one first
     ghost given: { Self → List R };
 
     // whether its device keeps what was synced
     ghost honest: { Self → Bool };
 
-    // how many records it takes
+    // the greatest number of records
     ghost most: { Self → ℕ };
 
     // this moment, as a number that doesn't fall
     ghost moment: { Self → ℕ };
 
-    // The lists that a stop at some moment from that one on might have left, in a call or between two. Where what it
-    // leaves spells no list, every list counts as left: so a clause that bounds these lists excludes that.
+    // The lists that a crash may have left at any moment since that one, inside a call or between two. A crash image
+    // that doesn't decode counts as every list, so a clause that bounds the lists excludes it.
     ghost left_since: { Self → ℕ → List R → Type 0 };
 
-    /// Record k, or None after the last.
+    /// Record k; None after the last.
     fn load(&mut self, k: u32) -> Result<Option<Record>, StoreFault>
         ensures answer { Loads (honest self.old) (list self.old) (stopped self.old) k (stopped self.new)
             (failures self.old)
@@ -90,9 +90,9 @@ pub trait Store {
         ensures honest { honest self.new ≡ honest self.old }
         ensures most { most self.new ≡ most self.old };
 
-    /// Adds a record at the end; the caller gives a Key where there is none yet, and after it a record that a file of
-    /// the Key's version can hold. A stop at any moment of it leaves the old records, or these and the new one; of one
-    /// that is refused with another answer than 45, the old ones.
+    /// Adds a record at the end. The caller gives a Key first, and then records that a file of the Key's version can
+    /// hold. A crash at any moment leaves the old records, or these and the new one. If the call is refused with
+    /// anything but 45, it leaves the old ones.
     fn append(&mut self, new: &Record) -> Result<(), StoreFault>
         requires { IsTrue (honest self.old) → CanFollow (list self.old) new.now }
         ensures any_moment { WhileRunning (honest self.old) (stopped self.old)
@@ -112,14 +112,14 @@ pub trait Store {
         ensures honest { honest self.new ≡ honest self.old }
         ensures most { most self.new ≡ most self.old };
 
-    /// How many records the store takes.
+    /// The greatest number of records.
     fn limit(&self) -> u32
         ensures { result ≡ most self.now };
 
-    // It never has more records than it takes.
+    // There are never more records than that.
     ghost few: { (store : Self) → length (list store) ≤ most store };
 
-    // Where no call has failed, a stop leaves its list ..
+    // While no call has failed, a crash leaves the list ..
     ghost leaves_list: { (store : Self) (t : ℕ) → WhileRunning (honest store) (stopped store)
         (t ≤ moment store → left_since store t (list store)) };
 

@@ -1,4 +1,4 @@
-//! The log of a disk in memory: what was written and synced, and what a stop may leave after it.
+//! The log of a disk in memory: writes and syncs, and what a crash may leave after them.
 
 ghost use Rattle.std.specs.Prelude.{reverse, ◌↔◌, IsTrue, ◌≡◌, ◌+◌, ◌≤◌, ◌<◌, ◌∷◌, [], ◌++◌, length, take, slice_range};
 ghost use Rattle.std.specs.Prelude.{IfOk, OnOk, OnErr, MatchOption, ℕ, max, slice_index};
@@ -7,14 +7,14 @@ ghost use Rattle.state_file.specs.Log.{base_of, ranges_of, IsLongestLeft, Overla
 
 use std::alloc::{AllocError, Global};
 
-/// What was done: a range was written, or refused in a write, or a sync succeeded and a read gave this.
+/// A write, done or refused, of this range; or a sync that succeeded, with the content then.
 #[derive(Drop)]
 pub(crate) enum Entry {
     Wrote { from: u64, to: u64 },
     Synced(Vec<u8>),
 }
 
-/// What a read gave at the last sync.
+/// The content at the last sync.
 #[tactic(auto, using(crate::proofs::Log::newest_taken))]
 pub(crate) fn base<'a>(first: &'a [u8], log: &'a [Entry]) -> &'a [u8]
     ensures { result.now ≡ base_of first.now (reverse log.now) }
@@ -28,7 +28,7 @@ pub(crate) fn base<'a>(first: &'a [u8], log: &'a [Entry]) -> &'a [u8]
     base
 }
 
-// The greatest length that a stop may leave.
+// The greatest length that a crash may leave.
 #[tactic(auto, using(crate::proofs::Log::newest_taken))]
 fn longest(base: &[u8], log: &[Entry]) -> u64
     ensures { result ≡ greatest_end (length base.now) (ranges_of (reverse log.now)) }
@@ -43,7 +43,7 @@ fn longest(base: &[u8], log: &[Entry]) -> u64
     longest
 }
 
-// Whether an offset lies in no range since the last sync.
+// Whether no write since the last sync touched this offset.
 #[tactic(auto, using(crate::proofs::Log::newest_taken))]
 fn is_outside(offset: u64, log: &[Entry]) -> bool
     ensures { IsTrue result ↔ IsOutside offset (ranges_of (reverse log.now)) }
@@ -58,7 +58,7 @@ fn is_outside(offset: u64, log: &[Entry]) -> bool
     outside
 }
 
-/// The longest content that a stop may leave, with a byte wherever it may leave any.
+/// The longest content that a crash may leave, with `byte` wherever it may leave any.
 pub(crate) fn longest_left(
     alloc: Global,
     base: &[u8],
@@ -76,7 +76,7 @@ pub(crate) fn longest_left(
     Ok(left)
 }
 
-/// So many bytes from an offset on, if they are there.
+/// `len` bytes from `at` on, if they are there.
 pub(crate) fn part(content: &[u8], at: u64, len: usize) -> Option<&[u8]>
     ensures { MatchOption result (length content.now < at + len)
         (λ p. (at + len ≤ length content.now) × (p.now ≡ slice_range content.now at (at + len))) }
@@ -85,7 +85,7 @@ pub(crate) fn part(content: &[u8], at: u64, len: usize) -> Option<&[u8]>
     content.get(at..at.checked_add(len)?)
 }
 
-/// Logs a write and does the first part of it, or does nothing where memory is refused.
+/// Logs a write of all bytes, and writes the first `written` ones. Where memory is refused it does nothing.
 pub(crate) fn write(
     content: &mut Vec<u8>,
     log: &mut Vec<Entry>,
@@ -108,7 +108,7 @@ pub(crate) fn write(
     done
 }
 
-// Puts bytes at an offset, with zeros in a gap before them, or does nothing where memory is refused.
+// Puts bytes at `at`, with zeros in a gap before them. Where memory is refused it does nothing.
 fn overlay(content: &mut Vec<u8>, at: u64, bytes: &[u8]) -> Result<(), AllocError>
     ensures content { OnOk result (Overlays at bytes.now content.old.items content.new.items) }
     ensures content_err { OnErr result (content.new.items ≡ content.old.items) }

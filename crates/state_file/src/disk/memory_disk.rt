@@ -1,4 +1,4 @@
-//! A disk in memory, to show what a stop may leave.
+//! A disk in memory, to show what a crash may leave.
 
 ghost use Rattle.std.specs.Prelude.{if◌then◌else◌, nat_le, true, ◌-◌, ◌≡◌, ◌+◌, ◌≤◌, ◌<◌, length, slice_range};
 ghost use Rattle.std.specs.Prelude.{IfOk, IfErr, OnOk, OnErr, ◌≢◌};
@@ -13,18 +13,19 @@ use crate::disk::{Disk, DiskFault};
 use std::alloc::{AllocError, Global};
 use typecodes::Count;
 
-/// Which of the contents that a stop may leave.
+/// Which of the contents that a crash may leave.
 #[derive(Clone, Copy, Debug, PartialEq, Eq)]
 pub enum Pick {
-    /// What a read gave right after the last sync that succeeded.
+    /// The content right after the last sync that succeeded.
     Old,
     /// What a read gives.
     New,
-    /// The longest, with this byte wherever a stop may leave any.
+    /// The longest one, with this byte wherever a crash may leave any.
     Fill(u8),
 }
 
-// How a call fares: it runs, it is refused once, or the disk has stopped and refuses it and all later ones.
+// What happens to a call: it runs; it alone is refused; or the disk has stopped, and refuses this call and all later
+// ones.
 #[derive(Clone, Copy, Debug, PartialEq, Eq)]
 enum Fate {
     Runs,
@@ -42,7 +43,7 @@ struct Plan {
 impl Plan {
     ghost use Rattle.state_file.specs.MemoryDisk.{fate_of, fail_after, stop_after};
 
-    // Gives how a call fares that comes now.
+    // What happens to the next call.
     fn next(&mut self) -> Fate
         ensures fate { result ≡ fate_of self.old.stop self.old.fail }
         ensures stop { self.new.stop ≡ stop_after self.old.stop }
@@ -58,7 +59,7 @@ impl Plan {
         fate
     }
 
-    // Refuses the call that comes now, unless it runs.
+    // Refuses the next call, unless it runs.
     fn admit(&mut self, failures: &mut Count) -> Result<(), DiskFault>
         ensures runs { OnOk result (fate_of self.old.stop self.old.fail ≡ Fate.Runs) }
         ensures refused { OnErr result (fate_of self.old.stop self.old.fail ≢ Fate.Runs) }
@@ -74,14 +75,13 @@ impl Plan {
     }
 }
 
-/// A disk in memory. It is honest: by its log, a stop leaves what an honest disk may leave, and
-/// nothing else.
+/// A disk in memory. It is honest: a crash leaves what its log allows, and nothing else.
 #[derive(Drop)]
 pub struct MemoryDisk {
     alloc: Global,
     // what a read gives
     content: Vec<u8>,
-    // what a read gave first
+    // the content at the beginning
     first: Vec<u8>,
     // what was done since
     log: Vec<Entry>,
@@ -96,7 +96,7 @@ impl MemoryDisk {
     ghost use Rattle.state_file.specs.MemoryDisk.{Picks, SameMoment, calls_before, state_in};
     ghost use Rattle.state_file.specs.MemoryDisk.{fail_in, failures_in, past_ends_in, stop_in};
 
-    /// A disk with these bytes, all of them synced.
+    /// A disk with these bytes, all synced.
     pub fn of(alloc: Global, bytes: &[u8]) -> Result<Self, AllocError>
         ensures state { IfOk result (λ disk. state_in disk ≡ settled bytes.now) }
         ensures plan { IfOk result (λ disk. (stop_in disk ≡ None) × (fail_in disk ≡ None)) }
@@ -116,9 +116,8 @@ impl MemoryDisk {
         })
     }
 
-    /// Refuses the n-th call from now, the next one for 1, and no other. A write so refused has written the
-    /// first half of its bytes, rounded down. It takes the place of a failure that didn't come yet; for 0
-    /// none comes.
+    /// Refuses the n-th call from now (1 is the next one), and no other. If that is a write, it writes the first half
+    /// of its bytes, rounded down. This replaces a failure that is still to come; 0 cancels it.
     pub fn fail_at(&mut self, n: u32)
         ensures fail { fail_in self.new ≡ calls_before n }
         ensures stop { stop_in self.new ≡ stop_in self.old }
@@ -127,8 +126,8 @@ impl MemoryDisk {
         self.plan.fail = n.checked_sub(1);
     }
 
-    /// Stops the disk right before the n-th call from now, the next one for 1: that call and all later ones
-    /// are refused and do nothing. It takes the place of another stop; for 0 none comes.
+    /// Stops the disk before the n-th call from now (1 is the next one): this call and all later ones are refused, and
+    /// do nothing. This replaces another stop; 0 cancels it.
     pub fn stop_at(&mut self, n: u32)
         ensures stop { stop_in self.new ≡ calls_before n }
         ensures fail { fail_in self.new ≡ fail_in self.old }
@@ -137,8 +136,8 @@ impl MemoryDisk {
         self.plan.stop = n.checked_sub(1);
     }
 
-    /// One of the contents that a stop may leave now. Calls that were refused since a stop did nothing, so
-    /// that it is as of the moment before them.
+    /// One of the contents that a crash may leave now, by `pick`. If the disk has stopped, it is one of that moment, as
+    /// calls did nothing since.
     pub fn stop(&self, pick: Pick) -> Result<Vec<u8>, AllocError>
         ensures left { IfOk result (λ c. MayLeave (state_in self.now) c.items) }
         ensures picked { IfOk result (λ c. Picks pick (state_in self.now) c.items) }

@@ -34,8 +34,8 @@ impl From<DiskFault> for FormatFault {
     }
 }
 
-/// Prepares a place that has no key: it then holds no slot, and a closed gate. Of fewer than 257 bytes the
-/// first alone changes, and of 257 none.
+/// Prepares a place without a key: it then has no slot, and a closed gate. Of fewer than 257 bytes only the first
+/// changes, of 257 none.
 pub(crate) fn format<D: Disk>(disk: &mut D) -> Result<(), FormatFault>
     ensures answer { IsTrue (D.honest disk.old) → Formats (D.state disk.old).content (D.state disk.new) result }
     ensures any_moment { IsTrue (D.honest disk.old) →

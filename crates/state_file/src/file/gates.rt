@@ -1,4 +1,4 @@
-//! Slots on a disk, and how they are added so that a stop never leaves half a slot.
+//! Slots on a disk, added so that a crash never leaves half a slot.
 
 ghost use Rattle.std.specs.Prelude.{◌≡◌, ◌⊎◌, ◌+◌, ◌*◌, ◌<◌, ◌≤◌, ◌∷◌, [], ◌++◌, ℕ, List, IsTrue};
 ghost use Rattle.std.specs.Prelude.{length, slice_range, IfOk, OnOk};
@@ -11,10 +11,10 @@ ghost use Rattle.state_file.specs.Gates.{AddsSlot, IsClosedAfter, IsAtRest, slot
 use crate::disk::{Disk, DiskFault};
 use crate::slot::{CLOSED, OPEN};
 
-/// The bytes of a slot.
+/// A slot's length in bytes.
 pub(crate) const SLOT: u64 = 256;
 
-/// Reads bytes that are there.
+/// Reads bytes that are known to be there.
 pub(crate) fn read_within<D: Disk>(disk: &mut D, at: u64, into: &mut [u8]) -> Result<(), DiskFault>
     requires within { IsTrue (D.honest disk.old) → at + length into.old ≤ length (D.state disk.old).content }
     requires some { 0 < length into.old }
@@ -25,7 +25,6 @@ pub(crate) fn read_within<D: Disk>(disk: &mut D, at: u64, into: &mut [u8]) -> Re
     disk.read_at(at, into)
 }
 
-/// Writes bytes and syncs.
 pub(crate) fn write_synced<D: Disk>(disk: &mut D, at: u64, bytes: &[u8]) -> Result<(), DiskFault>
     requires { 0 < length bytes.now }
     ensures written { IsTrue (D.honest disk.old) →
@@ -42,8 +41,8 @@ pub(crate) fn write_synced<D: Disk>(disk: &mut D, at: u64, bytes: &[u8]) -> Resu
     disk.sync()
 }
 
-/// Adds a slot after those that are there. Its fields and its tag, and a closed gate after them, are synced before its
-/// gate is opened.
+/// Adds slot `slot` after the others. Its fields and tag, and a closed gate after them, are synced before its own gate
+/// is opened.
 pub(crate) fn add_slot<D: Disk>(
     disk: &mut D,
     slot: u32,
@@ -81,7 +80,7 @@ pub(crate) fn block(fields: &[u8; 223], tag: &[u8; 32]) -> [u8; 256]
     bytes
 }
 
-// Two parts, one after the other.
+// Copies `first` and then `second`, which fill `into`.
 fn copy_both(into: &mut [u8], first: &[u8], second: &[u8])
     requires { length into.old ≡ length first.now + length second.now }
     ensures { into.new ≡ first.now ++ second.now }
@@ -90,7 +89,7 @@ fn copy_both(into: &mut [u8], first: &[u8], second: &[u8])
     into[first.len()..].copy_from_slice(second);
 }
 
-/// Syncs, and gives the length. A stop in it leaves nothing that a stop just before it couldn't leave.
+/// Syncs, and gives the length. Meanwhile a crash leaves only what it could leave before.
 pub(crate) fn settle<D: Disk>(disk: &mut D) -> Result<u64, DiskFault>
     ensures settled { IsTrue (D.honest disk.old) →
         IfOk result

@@ -1,4 +1,4 @@
-//! What stands in a file: its slots are read one after the other, up to the first whose gate is closed.
+//! Reading a file's slots, up to the first closed gate.
 
 ghost use Rattle.std.specs.Prelude.{◌≡◌, ◌+◌, ◌*◌, ◌-◌, ◌<◌, ◌≤◌, ◌==◌, ◌∷◌, [], ◌++◌, IsTrue, IfOk, IfErr};
 ghost use Rattle.std.specs.Prelude.{OnOk, MatchOption, Some, length, slice_index};
@@ -19,7 +19,7 @@ use crate::record::{Record, RecordList, Version};
 use crate::slot::{FIRST_TAG, begins_key, is_open, read_record, tag, version_of};
 use thiserror::Error;
 
-/// How many records a file has at most.
+/// The greatest number of records in a file.
 pub(crate) const MOST: u32 = 1 << 31;
 
 /// Why a place isn't opened.
@@ -31,11 +31,11 @@ pub enum OpenFault {
     /// 41: the first slot holds no Key.
     #[error("the file is no key file")]
     NotKeyFile,
-    /// 42: the version of the Key isn't known.
+    /// 42: the Key's version isn't known.
     #[error("the version of the key file is not known")]
     Version,
-    /// 43: this slot, and none before it, is open and spells no record, or its tag is wrong, or the next gate
-    /// lies past the end.
+    /// 43: this slot is the first damaged one. Its gate is open, and it spells no record, its tag is wrong, or the next
+    /// gate lies past the end.
     #[error("slot {0} is damaged")]
     Damaged(u32),
     /// 45: the device failed.
@@ -53,7 +53,7 @@ impl From<DiskFault> for OpenFault {
     }
 }
 
-/// The version of a file, the records that stand in it, whether the last one is a Moved, and its tag.
+/// A file's version and records. `moved`: the last record is a Moved; `tag`: its tag.
 #[derive(Drop)]
 pub(crate) struct Found {
     pub(crate) version: Version,
@@ -63,21 +63,21 @@ pub(crate) struct Found {
     pub(crate) records: RecordList,
 }
 
-// A slot's record, and its tag.
+// A slot's record and tag.
 #[derive(Drop)]
 struct Slot {
     entry: Record,
     tag: [u8; 32],
 }
 
-// The bytes of a slot after its gate.
+// A slot's bytes after its gate.
 #[derive(Drop)]
 struct Body {
     fields: [u8; 223],
     tag: [u8; 32],
 }
 
-// Whether the gate of slot k is open.
+// Whether slot k's gate is open.
 fn read_gate<D: Disk>(disk: &mut D, k: u32) -> Result<bool, DiskFault>
     requires { IsTrue (D.honest disk.old) → 256 * k < length (D.state disk.old).content }
     ensures gate { IsTrue (D.honest disk.old) →
@@ -89,7 +89,7 @@ fn read_gate<D: Disk>(disk: &mut D, k: u32) -> Result<bool, DiskFault>
     Ok(is_open(gate[0]))
 }
 
-// The bytes 1 to 223 of slot k.
+// Bytes 1 to 223 of slot k.
 fn read_fields<D: Disk>(disk: &mut D, k: u32) -> Result<[u8; 223], DiskFault>
     requires { HasBytes D.Disk disk.old (256 * k + 224) }
     ensures fields { IsTrue (D.honest disk.old) →
@@ -101,7 +101,7 @@ fn read_fields<D: Disk>(disk: &mut D, k: u32) -> Result<[u8; 223], DiskFault>
     Ok(fields)
 }
 
-/// The bytes 224 to 255 of slot k.
+/// Bytes 224 to 255 of slot k.
 pub(crate) fn read_tag<D: Disk>(disk: &mut D, k: u32) -> Result<[u8; 32], DiskFault>
     requires { HasBytes D.Disk disk.old (256 * k + 256) }
     ensures tag { IsTrue (D.honest disk.old) → IfOk result (λ tag. tag ≡ tag_at (D.state disk.old).content k) }
@@ -112,7 +112,7 @@ pub(crate) fn read_tag<D: Disk>(disk: &mut D, k: u32) -> Result<[u8; 32], DiskFa
     Ok(tag)
 }
 
-// The fields of slot k and its tag.
+// Bytes 1 to 255 of slot k.
 fn read_body<D: Disk>(disk: &mut D, k: u32) -> Result<Body, DiskFault>
     requires { HasBytes D.Disk disk.old (256 * k + 256) }
     ensures fields { IsTrue (D.honest disk.old) →
@@ -125,7 +125,7 @@ fn read_body<D: Disk>(disk: &mut D, k: u32) -> Result<Body, DiskFault>
     Ok(Body { fields, tag })
 }
 
-// The tag of the slot before slot k.
+// The tag before slot k: the previous slot's, or `FIRST_TAG`.
 fn read_previous_tag<D: Disk>(disk: &mut D, k: u32) -> Result<[u8; 32], DiskFault>
     requires { HasBytes D.Disk disk.old (256 * k) }
     ensures tag { IsTrue (D.honest disk.old) → IfOk result (λ tag. tag ≡ previous_tag (D.state disk.old).content k) }
@@ -137,7 +137,7 @@ fn read_previous_tag<D: Disk>(disk: &mut D, k: u32) -> Result<[u8; 32], DiskFaul
     }
 }
 
-/// The record of slot k in a file of this version, if it spells one and its tag is right.
+/// Slot k's record, if its fields spell one of this version and its tag is right.
 pub(crate) fn read_entry<D: Disk>(
     disk: &mut D,
     version: Version,
@@ -152,8 +152,7 @@ pub(crate) fn read_entry<D: Disk>(
     Ok(entry_of(version, &previous, &body))
 }
 
-// The record and the tag of slot k, in a file of this version; `previous` is the tag of the slot before. `Damaged(k)`
-// where the slot isn't whole.
+// Slot k's record and tag. `previous` is the tag before it. `Damaged(k)` if the slot is damaged.
 fn read_slot<D: Disk>(
     disk: &mut D,
     len: u64,
@@ -182,7 +181,7 @@ fn read_slot<D: Disk>(
     }
 }
 
-// The record of a slot, if its fields spell one of this version and its tag is that of `previous` and the fields.
+// The body's record, if its fields spell one of this version and its tag equals `tag(previous, fields)`.
 fn entry_of(version: Version, previous: &[u8; 32], body: &Body) -> Option<Record>
     ensures { MatchOption result
         ((entry : Entry) → Spells (slot_record version) entry body.now.fields →
@@ -197,7 +196,7 @@ fn entry_of(version: Version, previous: &[u8; 32], body: &Body) -> Option<Record
     }
 }
 
-// The fields of the first slot, if a key may stand there.
+// The first slot's fields, if there are 257 bytes and its gate is open.
 fn read_first_fields<D: Disk>(disk: &mut D, len: u64) -> Result<[u8; 223], OpenFault>
     requires len { IsLengthOf D.Disk disk.old len }
     ensures may { IsTrue (D.honest disk.old) → OnOk result (MayHaveKey (D.state disk.old).content) }
@@ -215,7 +214,7 @@ fn read_first_fields<D: Disk>(disk: &mut D, len: u64) -> Result<[u8; 223], OpenF
     Ok(read_fields(disk, 0)?)
 }
 
-// The version of the Key in the first slot, if it is that of a Key of a known one.
+// The version of the Key in the first slot. Refused where there is none (40, 41), or an unknown version (42).
 fn check_key<D: Disk>(disk: &mut D, len: u64) -> Result<Version, OpenFault>
     requires len { IsLengthOf D.Disk disk.old len }
     ensures key { IsTrue (D.honest disk.old) →
@@ -262,7 +261,7 @@ impl Found {
     }
 }
 
-// The records up to the first closed gate, of a file that starts with a Key of this version.
+// The records up to the first closed gate.
 fn read_slots<D: Disk>(disk: &mut D, len: u64, version: Version) -> Result<Found, OpenFault>
     requires len { IsLengthOf D.Disk disk.old len }
     requires key { IsTrue (D.honest disk.old) → StartsWithKey version (D.state disk.old).content }
@@ -282,8 +281,7 @@ fn read_slots<D: Disk>(disk: &mut D, len: u64, version: Version) -> Result<Found
     Ok(found)
 }
 
-/// Syncs, and finds the records of a file. A stop in it leaves nothing that a stop just before it couldn't
-/// leave.
+/// Syncs, and finds a file's records. Meanwhile a crash leaves only what it could leave before.
 pub(crate) fn find_records<D: Disk>(disk: &mut D) -> Result<Found, OpenFault>
     ensures counted { IfOk result (λ found. found.count ≡ length found.records) }
     ensures few { IfOk result (λ found. found.count ≤ most_records) }

@@ -1,4 +1,4 @@
-//! Files that are written whole behind a first gate that stays closed until all of it is synced.
+//! Files that are written behind a first gate, which stays closed until everything else is synced.
 
 ghost use Rattle.std.specs.Prelude.{◌≡◌, ◌⊎◌, ◌+◌, ◌*◌, ◌<◌, ◌≤◌, ◌∷◌, [], ◌++◌, ℕ, List, IsTrue, length};
 ghost use Rattle.std.specs.Prelude.{slice_range, OnOk};
@@ -13,7 +13,7 @@ use crate::disk::{Disk, DiskFault};
 use crate::file::gates::{SLOT, block, write_synced};
 use crate::slot::{CLOSED, OPEN};
 
-/// Closes the first gate of a place without a key, if it has under 257 bytes; else it is closed.
+/// Closes the first gate of a place under 257 bytes (`short`). Any other free place has it closed.
 pub(crate) fn prepare<E: Disk>(disk: &mut E, short: bool) -> Result<(), DiskFault>
     requires { IsTrue (E.honest disk.old) → IsFreePlace short (E.state disk.old) }
     ensures closed { IsTrue (E.honest disk.old) →
@@ -59,7 +59,7 @@ fn gated(block: &[u8; 256]) -> [u8; 257]
     bytes
 }
 
-/// Writes slot k after those before it, and a closed gate after it. Its own gate is opened, but not that of slot 0.
+/// Writes slot k with an open gate, and the next gate closed. Slot 0's gate stays closed.
 pub(crate) fn write_slot<E: Disk>(
     disk: &mut E,
     k: u32,
@@ -104,7 +104,7 @@ fn sync_after<E: Disk>(disk: &mut E) -> Result<(), DiskFault>
     disk.sync()
 }
 
-/// Syncs what was written after the first gate, and opens this.
+/// Syncs what was written after the first gate, and then opens it.
 pub(crate) fn finish<E: Disk>(disk: &mut E) -> Result<(), DiskFault>
     ensures finished { (end : ℕ) (base : List ℕ) → IsTrue (E.honest disk.old) → IsClosed base 0 →
         IsUnfinished end base (E.state disk.old) →

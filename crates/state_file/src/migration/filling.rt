@@ -21,20 +21,22 @@ use crate::record::{Record, Version};
 use crate::slot::{FIRST_TAG, record_bytes, tag};
 use crate::store::{FileStore, Store, StoreFault};
 
-// How many records stand in the slots of a place, and the tag of the last.
+// How many slots of the place are written, and the last one's tag.
 #[derive(Drop)]
 struct Copied {
     count: u32,
     tag: [u8; 32],
 }
 
-/// Writes the records of a sealed file to a place, but for the Moved, as a file of version 2, and gives both disks
-/// back. The first gate is opened when all else is synced. So a stop leaves the old file as it is, and the place
-/// without a key or with all of these records. Answers how many these are, after which they are synced, or that a
-/// device failed (45): exactly where one call of one of the two disks was refused. Over an old disk that isn't honest a
-/// slot may be damaged, too (43). It takes no memory.
+/// Writes a sealed file's records, without the Moved, to a place, as a file of version 2, and gives both disks back.
+/// Its first gate is opened once all else is synced. So a crash leaves the old file as it is, and the place without a
+/// key or with all of these records.
 ///
-/// The old disk is only read. Of the new one no byte changes from offset 256·N + 1 on, for N records.
+/// Answers the number of records, which are then synced. Else 45, exactly where a call of either disk was refused; or
+/// 43 for a damaged slot, over an old disk that isn't honest.
+///
+/// The old disk is only read. Of the new one no byte changes from offset 256·N + 1 on, for N records. It takes no
+/// memory.
 pub fn fill<D: Disk + Drop, E: Disk + Drop>(
     sealed: Sealed<D>,
     place: Place<E>,
@@ -47,7 +49,7 @@ pub fn fill<D: Disk + Drop, E: Disk + Drop>(
     (store.into_disk(), disk, answer)
 }
 
-// Record k of a store that ends with a Moved, as it stands in a file of version 2.
+// Record k, which isn't the final Moved, as a file of version 2 has it.
 fn load_carried<D: Disk + Drop>(store: &mut FileStore<D>, k: u32) -> Result<Record, MigrateFault>
     requires within { k + 1 < length (records_of store.old) }
     requires moved { has_moved (records_of store.old) ≡ true }

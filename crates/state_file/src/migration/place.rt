@@ -12,7 +12,7 @@ use crate::migration::MigrateFault;
 use crate::refused::Refused;
 use crate::slot::is_open;
 
-/// A disk without a key, all of it synced. So a stop leaves nothing there that can sign.
+/// A disk without a key, all synced. So a crash leaves nothing there that can sign.
 #[derive(Drop)]
 pub struct Place<E: Disk> {
     pub(super) disk: E,
@@ -24,9 +24,9 @@ pub struct Place<E: Disk> {
 impl<E: Disk + Drop> Place<E> {
     ghost use Rattle.state_file.specs.Migration.{ChecksPlace, place_disk};
 
-    /// Syncs a disk, and looks whether it has no key: it has under 257 bytes, or its first gate is closed. Else it is
-    /// refused (50), and so is one that fails (45). No other refusal comes. Nothing is written, so that a stop leaves
-    /// what one could leave before, and a refusal hands the disk back. It takes no memory.
+    /// Syncs a disk, and accepts it if it has no key: under 257 bytes, or a closed first gate. Else it is refused (50),
+    /// as is one that fails (45); nothing else is refused. A refusal hands the disk back. Nothing is written: a crash
+    /// leaves only what it could leave before. It takes no memory.
     pub fn check(new: E) -> Result<Self, Refused<E, MigrateFault>>
         ensures { ChecksPlace E.Disk new result }
     {
@@ -45,7 +45,7 @@ impl<E: Disk + Drop> Place<E> {
     }
 }
 
-// Syncs, and says of a place without a key whether it has under 257 bytes.
+// Syncs, and looks for a key. Without one, answers whether there are under 257 bytes.
 fn find_place<E: Disk>(disk: &mut E) -> Result<bool, MigrateFault>
     ensures free { IsTrue (E.honest disk.old) → IfOk result (λ short. IsFreePlace short (E.state disk.new)) }
     ensures answer { IsTrue (E.honest disk.old) → FindsPlace (E.state disk.old).content (E.state disk.new) result }

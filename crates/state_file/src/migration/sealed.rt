@@ -7,7 +7,7 @@ ghost use Rattle.state_file.specs.Laws.{has_moved};
 use crate::disk::Disk;
 use crate::store::FileStore;
 
-/// A store whose last record is a Moved. So a stop leaves records there that can't sign.
+/// A store whose last record is a Moved. So a crash leaves records there that can't sign.
 #[derive(Drop)]
 pub struct Sealed<D: Disk> {
     pub(super) store: FileStore<D>,

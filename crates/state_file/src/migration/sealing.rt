@@ -20,13 +20,14 @@ use crate::record::Record;
 use crate::refused::Refused;
 use crate::store::{FileStore, Store, StoreFault};
 
-/// Appends a Moved to the records, unless they end with one. The caller gives legal records of version 1. Refused are
-/// a store that has stopped (26), and one that is full and doesn't end with a Moved (52): each is handed back as it
-/// was. Where the device fails (45), the old records stand, or these with a Moved. No other refusal comes. It takes no
-/// memory.
+/// Appends a Moved, unless the records end with one. The caller gives legal records of version 1. The refusals:
 ///
-/// A stop at any moment leaves the old records, or these with the Moved, and differs from the old content at most in
-/// the new slot and the gate after it.
+/// - 26: the store had stopped. It is handed back as it was.
+/// - 52: it is full, and doesn't end with a Moved. It is handed back as it was.
+/// - 45: the device failed. The old records stand, or these with the Moved.
+///
+/// A crash at any moment leaves the old records, or these with the Moved. Only the new slot and the gate after it may
+/// differ from the old content. It takes no memory.
 pub fn seal<D: Disk + Drop>(
     old: FileStore<D>,
 ) -> Result<Sealed<D>, Refused<FileStore<D>, MigrateFault>>

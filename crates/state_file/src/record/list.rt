@@ -1,4 +1,4 @@
-//! A list of records that contracts alone see, for a store that keeps its records on a disk and not in memory.
+//! A list of records that only contracts see, for a store that keeps its records on a disk.
 ghost use Rattle.std.specs.Prelude.{◌≡◌, List, [], ◌∷◌, ◌++◌};
 ghost use Rattle.std.specs.Borrow.{ftrue};
 ghost use Rattle.state_file.specs.declared.record.Record.{Record as R};
@@ -6,13 +6,13 @@ ghost use Rattle.state_file.specs.declared.record.Record.{Record as R};
 use crate::record::Record;
 use std::marker::Model;
 
-/// A list of records that contracts alone see. It takes no bytes; `push` adds a record.
+/// A list of records that only contracts see. It takes no bytes.
 #[derive(Drop)]
 pub struct RecordList {
     ghost records: { List R },
 }
 
-// The list is tied to no memory, so the two functions are proved by hand.
+// The list owns no memory, so the two functions are proved by hand.
 impl Model for RecordList {
     ghost also_owns = { λ _. ftrue };
 
@@ -22,7 +22,7 @@ impl Model for RecordList {
 }
 
 impl RecordList {
-    /// A list of no records.
+    /// An empty list.
     pub fn new() -> Self
         ensures { result ≡ [] }
     {

@@ -1,4 +1,4 @@
-//! The record of a name bound to a leaf: how it is read and written.
+//! Reading and writing a Bound.
 
 ghost use Rattle.std.specs.Prelude.{◌≡◌, ◌<◌, ◌≤◌, ◌+◌, ◌^◌, true, false, length, MatchOption};
 ghost use Rattle.arrayvec.specs.ArrayVec.{array_vec_len};
@@ -13,7 +13,7 @@ use crate::slot::fields::{
 };
 use typecodes::{Cursor, Name, ReadFault};
 
-// The name of these bytes, if each is a visible character.
+// The name, if all bytes are visible characters.
 fn visible_name(bytes: &[u8]) -> Option<Name>
     requires some { 1 ≤ length bytes.now }
     requires few { length bytes.now ≤ 128 }
@@ -23,7 +23,7 @@ fn visible_name(bytes: &[u8]) -> Option<Name>
     Name::new(bytes).ok()
 }
 
-// The name of a Bound: its length, and so many bytes as a name has at most.
+// A name's length, its bytes, and zeros up to `most` bytes.
 #[tactic(auto, using(typecodes::proofs::Steps::reading), unfolding(crate::specs::Slot::name_field))]
 fn read_name(cursor: &mut Cursor<'_>, most: u8) -> Result<Name, ReadFault>
     requires few { most ≤ 128 }
@@ -51,7 +51,7 @@ fn put_name(out: &mut Fields, name: &Name, most: u8)
     put_zeros(out, usize::from(most) - bytes.len());
 }
 
-/// The fields of a Bound in a file of this version, 222 bytes.
+/// A Bound's fields in this version, 222 bytes.
 #[tactic(auto, using(typecodes::proofs::Steps::reading), unfolding(crate::specs::Slot::bound_fields))]
 pub(crate) fn read_bound(cursor: &mut Cursor<'_>, version: Version) -> Result<Record, ReadFault>
     requires { cursor.old.place + 222 < 2 ^ 32 }

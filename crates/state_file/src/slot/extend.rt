@@ -1,4 +1,4 @@
-//! The record of a new tree of HSS: how it is read and written.
+//! Reading and writing an Extend.
 
 ghost use Rattle.std.specs.Prelude.{◌<◌, ◌≤◌, ◌+◌, ◌^◌};
 ghost use Rattle.arrayvec.specs.ArrayVec.{array_vec_len};
@@ -12,7 +12,7 @@ use crate::slot::fields::{
 };
 use typecodes::{Cursor, ReadFault};
 
-/// The fields of an Extend, 222 bytes.
+/// An Extend's fields, 222 bytes.
 #[tactic(auto, using(typecodes::proofs::Steps::reading), unfolding(crate::specs::Slot::extend_fields))]
 pub(crate) fn read_extend(cursor: &mut Cursor<'_>) -> Result<Record, ReadFault>
     requires { cursor.old.place + 222 < 2 ^ 32 }

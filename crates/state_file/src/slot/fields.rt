@@ -1,5 +1,4 @@
-//! The fields of slots, beside those of every layout: each is read and written here. Where a fault leaves the cursor
-//! isn't said.
+//! Reading and writing the fields that only slots have. After a fault the cursor may stand anywhere.
 
 ghost use Rattle.std.specs.Prelude.{◌≡◌, ◌==◌, ◌<◌, ◌≤◌, ◌+◌, ◌++◌, ◌^◌, length, IfOk};
 ghost use Rattle.std.specs.List.{list_all};
@@ -35,7 +34,7 @@ pub(crate) fn read_byte(cursor: &mut Cursor<'_>) -> Result<u8, ReadFault>
     Ok(byte)
 }
 
-/// Appends bytes for which there is room.
+/// Appends bytes. The caller keeps room for them.
 pub(crate) fn put(out: &mut Fields, bytes: &[u8])
     requires { array_vec_len out.old + length bytes.now ≤ 223 }
     ensures items { out.new.items ≡ out.old.items ++ bytes.now }
@@ -46,7 +45,6 @@ pub(crate) fn put(out: &mut Fields, bytes: &[u8])
     }
 }
 
-/// Appends an array.
 pub(crate) fn put_array<const N: usize>(out: &mut Fields, bytes: &[u8; N])
     requires { array_vec_len out.old + N ≤ 223 }
     ensures { Puts N (block N) bytes.now out.old out.new }
@@ -54,7 +52,6 @@ pub(crate) fn put_array<const N: usize>(out: &mut Fields, bytes: &[u8; N])
     put(out, bytes);
 }
 
-/// Appends a byte.
 pub(crate) fn put_byte(out: &mut Fields, n: u8)
     requires { array_vec_len out.old + 1 ≤ 223 }
     ensures { Puts 1 byte n out.old out.new }
@@ -62,7 +59,7 @@ pub(crate) fn put_byte(out: &mut Fields, n: u8)
     put(out, &[n]);
 }
 
-/// The next byte, if it is a number from the least to the most.
+/// The next byte, if it is from `least` to `most`.
 #[tactic(auto, using(typecodes::proofs::Steps::reading), unfolding(crate::specs::Slot::byte_within))]
 pub(crate) fn read_byte_within(
     cursor: &mut Cursor<'_>,
@@ -84,7 +81,7 @@ pub(crate) fn read_byte_within(
     Ok(byte)
 }
 
-/// Appends a byte that is within bounds.
+/// Appends a byte from `least` to `most`.
 pub(crate) fn put_byte_within(out: &mut Fields, n: u8, least: u8, most: u8)
     requires least { least ≤ n }
     requires most { n ≤ most }
@@ -110,7 +107,7 @@ pub(crate) fn read_exactly(cursor: &mut Cursor<'_>, expected: &[u8]) -> Result<(
     }
 }
 
-/// Appends bytes that are known.
+/// Appends bytes that `read_exactly` expects.
 pub(crate) fn put_exactly(out: &mut Fields, bytes: &[u8])
     requires { array_vec_len out.old + length bytes.now ≤ 223 }
     ensures { Puts (length bytes.now) (exactly (length bytes.now) bytes.now) tt out.old out.new }
@@ -118,7 +115,6 @@ pub(crate) fn put_exactly(out: &mut Fields, bytes: &[u8])
     put(out, bytes);
 }
 
-// Whether all bytes are zero.
 fn are_zero(bytes: &[u8]) -> bool
     ensures { result ≡ list_all (λ b. b == 0) bytes.now }
 {
@@ -148,7 +144,7 @@ pub(crate) fn put_zeros(out: &mut Fields, n: usize)
     put(out, &[0; 223][..n]);
 }
 
-/// Appends a number of 4 bytes.
+/// Appends a number, big-endian.
 pub(crate) fn put_number(out: &mut Fields, n: u32)
     requires { array_vec_len out.old + 4 ≤ 223 }
     ensures { Puts 4 number n out.old out.new }

@@ -6,10 +6,10 @@ ghost use Rattle.state_file.specs.File.{open_value};
 /// The value of an open gate.
 pub(crate) const OPEN: u8 = 0xa5;
 
-/// The value at which a gate is closed.
+/// The value that closes a gate.
 pub(crate) const CLOSED: u8 = 0;
 
-/// Whether a gate is open.
+/// Whether a gate is open. Any value but `OPEN` is a closed one.
 pub(crate) fn is_open(gate: u8) -> bool
     ensures { result ≡ (gate == open_value) }
 {

@@ -1,4 +1,4 @@
-//! The record of a key: how it is known, read and written.
+//! Recognizing, reading and writing a Key.
 
 ghost use Rattle.std.specs.Prelude.{◌≡◌, ◌<◌, ◌≤◌, ◌+◌, ◌^◌, length};
 ghost use Rattle.arrayvec.specs.ArrayVec.{array_vec_len};
@@ -15,10 +15,10 @@ use crate::slot::secret::{put_secret, read_secret, scheme};
 use byteorder::{BigEndian, ByteOrder};
 use typecodes::{Cursor, ReadFault};
 
-/// What the fields of a Key begin with.
+/// What a Key's fields begin with.
 pub(crate) const MAGIC: &[u8; 8] = b"HBSSTATE";
 
-/// Whether the bytes 1 to 223 of a slot begin with the kind of a Key and the magic.
+/// Whether a slot's bytes 1 to 223 begin with the kind of a Key and the magic.
 pub(crate) fn begins_key(fields: &[u8]) -> bool
     requires { length fields.now ≡ 223 }
     ensures { result ≡ begins_key fields.now }
@@ -26,7 +26,7 @@ pub(crate) fn begins_key(fields: &[u8]) -> bool
     fields[0] == 1 && fields[1..9] == MAGIC[..]
 }
 
-/// The version in the fields of a Key, if it is known.
+/// The version in a Key's fields, if it is known.
 pub(crate) fn version_of(fields: &[u8]) -> Option<Version>
     requires { length fields.now ≡ 223 }
     ensures { result ≡ version_of fields.now }
@@ -34,7 +34,7 @@ pub(crate) fn version_of(fields: &[u8]) -> Option<Version>
     Version::from_code(BigEndian::read_u16(&fields[9..]))
 }
 
-// The code of this version.
+// Reads this version's code, and no other.
 #[tactic(auto, using(typecodes::proofs::Steps::reading), unfolding(crate::specs::Slot::version_field))]
 fn read_version(cursor: &mut Cursor<'_>, version: Version) -> Result<(), ReadFault>
     requires { cursor.old.place + 2 < 2 ^ 32 }
@@ -45,7 +45,7 @@ fn read_version(cursor: &mut Cursor<'_>, version: Version) -> Result<(), ReadFau
     read_exactly(cursor, &version.code().to_be_bytes())
 }
 
-// Appends a version's code.
+// Appends this version's code.
 fn put_version(out: &mut Fields, version: Version)
     requires { array_vec_len out.old + 2 ≤ 223 }
     ensures { Puts 2 (version_field version) tt out.old out.new }
@@ -53,7 +53,7 @@ fn put_version(out: &mut Fields, version: Version)
     put(out, &version.code().to_be_bytes());
 }
 
-/// The fields of a Key in a file of this version, 222 bytes.
+/// A Key's fields in this version, 222 bytes.
 #[tactic(auto, using(typecodes::proofs::Steps::reading), unfolding(crate::specs::Slot::key_fields))]
 pub(crate) fn read_key(cursor: &mut Cursor<'_>, version: Version) -> Result<Record, ReadFault>
     requires { cursor.old.place + 222 < 2 ^ 32 }

@@ -1,4 +1,4 @@
-//! Records of every kind: how the bytes 1 to 223 of a slot are read and written.
+//! Reading and writing bytes 1 to 223 of a slot, for records of every kind.
 
 ghost use Rattle.std.specs.Prelude.{◌≡◌, ◌<◌, ◌≤◌, ◌+◌, ◌^◌, MatchOption};
 ghost use Rattle.arrayvec.specs.ArrayVec.{array_vec_len};
@@ -19,7 +19,7 @@ use crate::slot::key::{put_key, read_key};
 use arrayvec::ArrayVec;
 use typecodes::{Cursor, ReadFault};
 
-// The fields of a Retire, 222 bytes.
+// A Retire's fields, 222 bytes.
 #[tactic(auto, using(typecodes::proofs::Steps::reading), unfolding(crate::specs::Slot::retire_fields))]
 fn read_retire(cursor: &mut Cursor<'_>) -> Result<Record, ReadFault>
     requires { cursor.old.place + 222 < 2 ^ 32 }
@@ -40,7 +40,7 @@ fn put_retire(out: &mut Fields, upto: u32)
     put_zeros(out, 218);
 }
 
-// The fields of a Moved, 222 bytes.
+// A Moved's fields, 222 bytes.
 #[tactic(auto, using(typecodes::proofs::Steps::reading), unfolding(crate::specs::Slot::moved_fields))]
 fn read_moved(cursor: &mut Cursor<'_>) -> Result<Record, ReadFault>
     requires { cursor.old.place + 222 < 2 ^ 32 }
@@ -74,7 +74,7 @@ fn kind(entry: &Record) -> u8
     }
 }
 
-// The fields of a record in a file of this version, by its kind, whose byte stands before the cursor.
+// A record's fields, by its kind, whose byte stands before the cursor.
 fn read_fields(cursor: &mut Cursor<'_>, version: Version, kind: u8) -> Result<Record, ReadFault>
     requires some { 1 ≤ cursor.old.place }
     requires room { cursor.old.place + 222 < 2 ^ 32 }
@@ -92,7 +92,7 @@ fn read_fields(cursor: &mut Cursor<'_>, version: Version, kind: u8) -> Result<Re
     }
 }
 
-// Appends the fields of a record, by its kind.
+// Appends a record's fields, without its kind.
 fn put_fields(out: &mut Fields, version: Version, entry: &Record)
     requires fits { FitsVersion version entry.now }
     requires room { array_vec_len out.old + 222 ≤ 223 }
@@ -107,7 +107,7 @@ fn put_fields(out: &mut Fields, version: Version, entry: &Record)
     }
 }
 
-// The record that the bytes spell, or their first fault.
+// The record of these bytes, or their first fault.
 #[tactic(auto, using(crate::proofs::Blocks::whole), unfolding(crate::specs::Slot::slot_record))]
 fn read_all(version: Version, bytes: &[u8]) -> Result<Record, ReadFault>
     ensures { Reads (slot_record version) (λ entry. entry) bytes.now result }
@@ -119,7 +119,7 @@ fn read_all(version: Version, bytes: &[u8]) -> Result<Record, ReadFault>
     Ok(entry)
 }
 
-/// The record that the bytes 1 to 223 of a slot spell in a file of this version, if they spell one.
+/// The record in a slot's bytes 1 to 223, if they spell one of this version.
 pub(crate) fn read_record(version: Version, bytes: &[u8]) -> Option<Record>
     ensures { MatchOption result ((entry : Entry) → Spells (slot_record version) entry bytes.now →
         ⊥) (λ entry. Spells (slot_record version) entry bytes.now) }
@@ -127,7 +127,7 @@ pub(crate) fn read_record(version: Version, bytes: &[u8]) -> Option<Record>
     read_all(version, bytes).ok()
 }
 
-/// The bytes 1 to 223 of a slot that spell the record in a file of this version.
+/// Bytes 1 to 223 of the record's slot, in this version.
 pub(crate) fn record_bytes(version: Version, entry: &Record) -> [u8; 223]
     requires { FitsVersion version entry.now }
     ensures { Spells (slot_record version) entry.now result }

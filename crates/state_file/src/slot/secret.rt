@@ -1,4 +1,4 @@
-//! What a key is made from, by its scheme, 177 bytes: how it is read and written.
+//! Reading and writing a secret, 177 bytes.
 
 ghost use Rattle.std.specs.Prelude.{◌≡◌, ◌<◌, ◌≤◌, ◌+◌, ◌*◌, ◌^◌, length, take};
 ghost use Rattle.arrayvec.specs.ArrayVec.{array_vec_len};
@@ -14,7 +14,7 @@ use crate::slot::fields::{
 };
 use typecodes::{Cursor, Levels, LmsPair, LmsSecret, LmsType, OtsType, ReadFault, XmssSecret};
 
-/// A pair, by its codes.
+/// A pair, as two codes.
 #[tactic(auto, using(typecodes::proofs::Steps::reading), unfolding(crate::specs::Slot::pair_field))]
 pub(crate) fn read_pair(cursor: &mut Cursor<'_>) -> Result<LmsPair, ReadFault>
     requires { cursor.old.place + 8 < 2 ^ 32 }
@@ -36,7 +36,7 @@ fn put_pair(out: &mut Fields, pair: LmsPair)
     put_number(out, pair.ots.code());
 }
 
-// The next pairs, the first ones of the array.
+// `count` pairs, at the front of the array.
 fn read_pairs(cursor: &mut Cursor<'_>, count: u8) -> Result<[LmsPair; 8], ReadFault>
     requires few { count ≤ 8 }
     requires room { cursor.old.place + 64 < 2 ^ 32 }
@@ -64,7 +64,7 @@ fn put_pairs(out: &mut Fields, all: &[LmsPair])
     }
 }
 
-/// The levels of an HSS key, 65 bytes: how many, and their pairs with zeros up to the eighth.
+/// The levels of an HSS key, 65 bytes: their number, their pairs, and zeros up to the eighth.
 #[tactic(auto, using(typecodes::proofs::Steps::reading), unfolding(crate::specs::Slot::levels_field))]
 pub(crate) fn read_levels(cursor: &mut Cursor<'_>) -> Result<Levels, ReadFault>
     requires { cursor.old.place + 65 < 2 ^ 32 }
@@ -81,7 +81,7 @@ pub(crate) fn read_levels(cursor: &mut Cursor<'_>) -> Result<Levels, ReadFault>
     }
 }
 
-// Appends the levels of an HSS key.
+// Appends the levels.
 fn put_levels(out: &mut Fields, levels: &Levels)
     requires { array_vec_len out.old + 65 ≤ 223 }
     ensures { Puts 65 levels_field levels.now out.old out.new }
@@ -92,7 +92,7 @@ fn put_levels(out: &mut Fields, levels: &Levels)
     put_zeros(out, 64 - 8 * all.len());
 }
 
-// What an LMS key is made from, 177 bytes.
+// An LMS secret, 177 bytes.
 #[tactic(auto, using(typecodes::proofs::Steps::reading), unfolding(crate::specs::Slot::lms_fields))]
 fn read_lms(cursor: &mut Cursor<'_>) -> Result<Secret, ReadFault>
     requires { cursor.old.place + 177 < 2 ^ 32 }
@@ -125,7 +125,7 @@ fn put_lms(out: &mut Fields, secret: &LmsSecret)
     put_zeros(out, 64);
 }
 
-// What an HSS key is made from, 177 bytes.
+// An HSS secret, 177 bytes.
 #[tactic(auto, using(typecodes::proofs::Steps::reading), unfolding(crate::specs::Slot::hss_fields))]
 fn read_hss(cursor: &mut Cursor<'_>) -> Result<Secret, ReadFault>
     requires { cursor.old.place + 177 < 2 ^ 32 }
@@ -154,7 +154,7 @@ fn put_hss(out: &mut Fields, levels: &Levels, identifier: &[u8; 16], seed: &[u8;
     put_zeros(out, 64);
 }
 
-// What an XMSS key is made from, 177 bytes.
+// An XMSS secret, 177 bytes.
 #[tactic(auto, using(typecodes::proofs::Steps::reading), unfolding(crate::specs::Slot::xmss_fields))]
 fn read_xmss(cursor: &mut Cursor<'_>) -> Result<Secret, ReadFault>
     requires { cursor.old.place + 177 < 2 ^ 32 }
@@ -190,7 +190,7 @@ fn put_xmss(out: &mut Fields, secret: &XmssSecret)
     put_array(out, &secret.public_seed);
 }
 
-/// What a key is made from, by its scheme, whose byte stands before the cursor.
+/// A secret, by its scheme, whose byte stands before the cursor.
 pub(crate) fn read_secret(cursor: &mut Cursor<'_>, scheme: u8) -> Result<Secret, ReadFault>
     requires some { 1 ≤ cursor.old.place }
     requires room { cursor.old.place + 177 < 2 ^ 32 }
@@ -206,7 +206,7 @@ pub(crate) fn read_secret(cursor: &mut Cursor<'_>, scheme: u8) -> Result<Secret,
     }
 }
 
-/// Appends what a key is made from, by its scheme, 177 bytes.
+/// Appends a secret, 177 bytes, without its scheme.
 pub(crate) fn put_secret(out: &mut Fields, secret: &Secret)
     requires { array_vec_len out.old + 177 ≤ 223 }
     ensures { Puts 177 (secret_fields (scheme_of secret.now)) secret.now out.old out.new }

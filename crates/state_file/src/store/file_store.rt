@@ -24,25 +24,25 @@ use crate::store::{SlotList, Store, StoreFault};
 
 /// Records on a disk, each in a slot of 256 bytes, at most 2^31 of them. No call takes memory, or answers 46.
 ///
-/// 45 comes exactly where the disk refused a call, and then 26. Over an honest disk it means that the device failed, as
-/// no call is one that every disk refuses: each reads or writes a byte at least, no read lies past the end, and nothing
-/// changes at any moment but what `append` or `format` writes. (A disk in memory that is refused memory is a device
-/// that failed.) No clause says how many calls there are, or which bytes of the content are read.
+/// 45 comes exactly where the disk refused a call; afterwards 26 comes. Over an honest disk 45 means that the device
+/// failed. For no call is one that every disk refuses: each reads or writes at least one byte, and no read lies past
+/// the end. Nothing changes at any moment but what `append` or `format` writes. (A disk in memory has failed, too,
+/// where memory is refused to it.) No clause says how many calls of the disk there are, or which bytes are read.
 #[derive(Drop)]
 pub struct FileStore<D: Disk> {
     disk: D,
-    // the version of the file
+    // the file's version
     version: Version,
     count: u32,
-    // the tag of the last slot
+    // the last slot's tag
     tag: [u8; 32],
     stopped: bool,
     // whether the last record is a Moved
     moved: bool,
     records: RecordList,
-    // the slots that load has reported as unreadable
+    // slots that load reported as unreadable
     unreadable: SlotList,
-    // the slots that load was asked for, and the records that it gave
+    // slots that load was asked for, and records that it gave
     loads: SlotList,
     given: RecordList,
     ghost counted: { count ≡ length records },
@@ -57,21 +57,20 @@ pub struct FileStore<D: Disk> {
 impl<D: Disk + Drop> FileStore<D> {
     ghost use Rattle.state_file.specs.FileStore.{FindsRecords, PreparesDisk, disk_of, has_stopped, records_of};
 
-    /// How many records there are.
+    /// The number of records.
     pub fn count(&self) -> u32
         ensures { result ≡ length (records_of self.now) }
     {
         self.count
     }
 
-    // Whether the last record is a Moved.
     pub(crate) fn has_moved(&self) -> bool
         ensures { result ≡ has_moved (records_of self.now) }
     {
         self.moved
     }
 
-    // Whether a call has failed, so that it answers no more.
+    // Whether a call has failed, so that no other is answered.
     pub(crate) fn has_stopped(&self) -> bool
         ensures { result ≡ has_stopped self.now }
     {
@@ -85,13 +84,16 @@ impl<D: Disk + Drop> FileStore<D> {
         self.disk
     }
 
-    /// Prepares a place that has no key: it then holds no slot, and a closed gate. Of fewer than 257 bytes the
-    /// first alone changes, to zero, and an empty place gets this byte; where there are 257 or more, nothing is
-    /// written, whatever the answer. Refused are more than 257 bytes whose first gate is closed (41), and 257 or
-    /// more whose first gate is open (50). A refusal hands the disk back.
+    /// Prepares a place without a key: it then has no slot, and a closed gate. Of fewer than 257 bytes only the first
+    /// changes, to zero, and an empty place gets this byte. From 257 bytes up nothing is written, whatever the answer.
+    /// A refusal hands the disk back:
     ///
-    /// A stop in it leaves what one could leave before, or, of fewer than 257 bytes, these with another first byte,
-    /// which have no key.
+    /// - 41: more than 257 bytes, and the first gate is closed.
+    /// - 50: 257 bytes or more, and the first gate is open.
+    /// - 45: the disk failed.
+    ///
+    /// Meanwhile a crash leaves what it could leave before. Or of fewer than 257 bytes it leaves these with another
+    /// first byte, which have no key.
     pub fn format(disk: D) -> Result<Self, Refused<D, FormatFault>>
         ensures { PreparesDisk D.Disk disk result }
     {
@@ -113,10 +115,9 @@ impl<D: Disk + Drop> FileStore<D> {
         }
     }
 
-    /// Opens the records of a key. It syncs before it reads, so that what it shows stays: a stop in it leaves
-    /// nothing that one before it couldn't leave, and one after it leaves what it showed. The faults come in the
-    /// order of their numbers, and each hands the disk back, with its content as it was where the device didn't
-    /// fail. No byte changes at any moment.
+    /// Opens the records of a key. It syncs before it reads: meanwhile a crash leaves only what it could leave before,
+    /// and afterwards what the store shows. No byte changes. The faults come in the order of their numbers. Each hands
+    /// the disk back, with the old content unless the disk failed.
     pub fn open(disk: D) -> Result<Self, Refused<D, OpenFault>>
         ensures { FindsRecords D.Disk disk result }
     {
@@ -145,7 +146,7 @@ impl<D: Disk + Drop> FileStore<D> {
 impl<D: Disk + Drop> FileStore<D> {
     ghost use Rattle.state_file.specs.FileStore.{WhileStoreRuns, disk_of, has_stopped, records_of, unreadable_of};
 
-    /// The tag of slot k, 32 bytes. It writes nothing.
+    /// Slot k's tag, 32 bytes. Nothing is written.
     pub fn tag_at(&mut self, k: u32) -> Result<[u8; 32], StoreFault>
         requires { k < length (records_of self.old) }
         ensures answer { ReadsTag (has_stopped self.old) (has_stopped self.new) (D.failures (disk_of self.old))
@@ -215,8 +216,8 @@ impl<D: Disk + Drop> Store for FileStore<D> {
         kept_list store.records list store.tag (D.state store.disk) since.0 (store.kept honest running)
         (D.only_now store.disk since.0 honest since.1) since.2 };
 
-    /// Record k, or None after the last. It takes no memory and writes nothing. Over an honest disk it never answers
-    /// 43. Over another one the contract leaves open which record it gives: that it compares tags is tested.
+    /// Record k; None after the last. It takes no memory and writes nothing. Over an honest disk it never answers 43.
+    /// Over another disk the contract doesn't say which record it gives: that it compares tags is tested.
     fn load(&mut self, k: u32) -> Result<Option<Record>, StoreFault>
         ensures answer { Loads (D.honest (disk_of self.old)) (records_of self.old) (has_stopped self.old) k
             (has_stopped self.new)
@@ -259,14 +260,15 @@ impl<D: Disk + Drop> Store for FileStore<D> {
         }
     }
 
-    /// Adds a record at the end. It takes no memory. Where the store is full nothing changes. Whatever it answers,
-    /// a stop at any moment leaves a content that spells the old records, or these and the new one (`contents`), and
-    /// that differs from the old content at most in the new slot and the gate after it (`bytes`). Where there are no
-    /// old records it has no key, or the new record. None of this rests on checksums.
+    /// Adds a record at the end. It takes no memory. A full store isn't changed.
     ///
-    /// After an Ok the gate after the new slot is closed, and the length is the old one, or 256·(N + 1) + 1 after N old
-    /// records where that is greater (`adds`). So a file that began empty, and whose appends were all Ok, has
-    /// 256·N + 1 bytes for its N records.
+    /// Whatever it answers, a crash at any moment leaves the old records, or these and the new one (`contents`). Where
+    /// there are no old records, it leaves no key, or the new record. Only the new slot and the gate after it may
+    /// differ from the old content (`bytes`). None of this rests on checksums.
+    ///
+    /// After an Ok the gate after the new slot is closed. After N old records the length is then 256·(N + 1) + 1,
+    /// unless the file was longer (`adds`). So a file that began empty, and whose appends were all Ok, has 256·N + 1
+    /// bytes for its N records.
     fn append(&mut self, new: &Record) -> Result<(), StoreFault>
         requires { IsTrue (D.honest (disk_of self.old)) → CanFollow (records_of self.old) new.now }
         ensures any_moment { WhileStoreRuns D.Disk self.old

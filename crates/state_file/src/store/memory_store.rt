@@ -28,7 +28,7 @@ pub struct MemoryStore {
     stopped: bool,
     failures: Count,
     refusals: Count,
-    // the slots that load was asked for, and the records that it gave
+    // slots that load was asked for, and records that it gave
     loads: SlotList,
     given: RecordList,
     ghost few: { length records.items ≤ limit },
@@ -38,7 +38,7 @@ impl MemoryStore {
     ghost use Rattle.state_file.specs.MemoryStore.{KeepsLoads, KeepsRecords, cut_of, cut_of_append, failures_of};
     ghost use Rattle.state_file.specs.MemoryStore.{is_stopped, limit_of, records_in, refusals_of};
 
-    /// An empty store that takes `limit` records.
+    /// An empty store of at most `limit` records.
     pub fn with_limit(alloc: Global, limit: u32) -> Self
         ensures records { records_in result ≡ [] }
         ensures limit { limit_of result ≡ limit }
@@ -59,10 +59,10 @@ impl MemoryStore {
         }
     }
 
-    /// Cuts the n-th append from now, the next one for 1: it answers 45 and leaves what `cut` says. It
-    /// takes the place of a cut that didn't come yet; for 0 none comes.
+    /// Cuts the n-th append from now (1 is the next one): it answers 45 and leaves what `cut` says. This replaces a cut
+    /// that is still to come; 0 cancels it.
     ///
-    /// The appends that count are those that reach the device, not those that are answered 26, 46 or 52.
+    /// Only appends that reach the device count, not those that are answered 26, 46 or 52.
     pub fn cut_at(&mut self, n: u32, cut: Cut)
         ensures cut { cut_of self.new ≡ cut_of_append n cut }
         ensures stopped { is_stopped self.new ≡ is_stopped self.old }
@@ -84,7 +84,7 @@ impl MemoryStore {
         self.stopped = false;
     }
 
-    // Stops the store, as its device failed. The cut has come.
+    // Stops the store, as its device failed. The cut is over.
     fn fail(&mut self) -> StoreFault
         ensures fault { result ≡ StoreFault.DeviceFailed }
         ensures stopped { is_stopped self.new ≡ true }
@@ -113,7 +113,7 @@ impl Store for MemoryStore {
 
     ghost refusals = { refusals_of };
 
-    // Each of its records can be read.
+    // All of its records can be read.
     ghost unreadable = { λ _. [] };
 
     ghost loads = { loads_in };
@@ -134,7 +134,7 @@ impl Store for MemoryStore {
 
     ghost leaves_nothing_else = { λ store left _ _ since. had_been_only store.records.items left since };
 
-    /// Record k, or None after the last. It fails only where the store has stopped.
+    /// Record k; None after the last. It fails only where the store has stopped.
     fn load(&mut self, k: u32) -> Result<Option<Record>, StoreFault>
         ensures answer { Loads true (records_in self.old) (is_stopped self.old) k (is_stopped self.new)
             (failures_of self.old)
@@ -169,9 +169,9 @@ impl Store for MemoryStore {
         }
     }
 
-    /// Adds a record at the end. Where memory for it is refused, a cut stays as far off as it was, and one
-    /// that is due comes with the next append. Memory is requested only where the records have no room
-    /// left, and not for a cut that leaves the old records.
+    /// Adds a record at the end. If memory is refused, a cut isn't counted down: one that is due comes with the next
+    /// append. Memory is requested only where the records have no room left, and not for a cut that leaves the old
+    /// records.
     fn append(&mut self, new: &Record) -> Result<(), StoreFault>
         ensures answer { Appends (limit_of self.old) (records_in self.old) (is_stopped self.old) new.now
             (records_in self.new)
@@ -217,7 +217,7 @@ impl Store for MemoryStore {
     }
 }
 
-// Adds a record at the end. Where memory is refused it counts that, and leaves the list as it is.
+// Adds a record at the end. A refusal of memory is counted, and leaves the list as it is.
 fn push_copy(
     records: &mut Vec<Record>,
     refusals: &mut Count,

@@ -1,17 +1,16 @@
-//! A list of slots that contracts alone see, for a store that says which slots it was asked for, and which ones it
-//! reported as unreadable.
+//! A list of slots that only contracts see, for the slots that a store was asked for or reported as unreadable.
 ghost use Rattle.std.specs.Prelude.{◌≡◌, ℕ, List, [], ◌∷◌};
 ghost use Rattle.std.specs.Borrow.{ftrue};
 
 use std::marker::Model;
 
-/// A list of slots that contracts alone see. It takes no bytes; `push` adds a slot at its head.
+/// A list of slots that only contracts see. It takes no bytes.
 #[derive(Drop)]
 pub struct SlotList {
     ghost slots: { List ℕ },
 }
 
-// The list is tied to no memory, so the two functions are proved by hand.
+// The list owns no memory, so the two functions are proved by hand.
 impl Model for SlotList {
     ghost also_owns = { λ _. ftrue };
 
@@ -21,7 +20,7 @@ impl Model for SlotList {
 }
 
 impl SlotList {
-    /// A list of no slots.
+    /// An empty list.
     pub fn new() -> Self
         ensures { result ≡ [] }
     {

@@ -1,4 +1,4 @@
--- The content begins with the records that were found, and all was only read.
+-- The content begins with the records found so far; all calls only read.
 use Rattle.std.proofs.Common.{◌≡◌, ◌-◌, ◌≤◌, length}
 use Rattle.std.specs.Prelude.{IsTrue}
 use Rattle.state_file.specs.File.{most_records}

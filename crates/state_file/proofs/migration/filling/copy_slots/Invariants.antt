@@ -1,4 +1,4 @@
--- So many slots are written, and all else was only read.
+-- The slots so far are written; the store was only read.
 use Rattle.std.proofs.Common.{◌-◌, ◌≡◌, ◌+◌, ◌*◌, ◌≤◌, ◌∷◌, [], false, length}
 use Rattle.std.specs.Prelude.{IsTrue}
 use Rattle.state_file.specs.Carried.{carried}

@@ -1,5 +1,5 @@
--- `push` does nothing at run time: the walk opens the borrow and closes it at fields with one record more. What
--- the struct owns, no bytes and no memory, does not depend on the records.
+-- `push` does nothing at run time: the walk opens the borrow, and closes it at fields with one record more. The struct
+-- owns no bytes and no memory, whatever the records.
 use Rattle.std.proofs.Common.{◌≡◌, ℕ, List, [], ◌∷◌, ◌++◌, refl, MutBor}
 use seplogic.Ra.Ura.{Ura}
 use mir.Syntax.{named}

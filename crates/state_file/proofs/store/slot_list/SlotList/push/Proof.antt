@@ -1,5 +1,5 @@
--- `push` does nothing at run time: the walk opens the borrow and closes it at fields with one slot more. What the struct owns, no bytes and no memory,
--- does not depend on the slots.
+-- `push` does nothing at run time: the walk opens the borrow, and closes it at fields with one slot more. The struct
+-- owns no bytes and no memory, whatever the slots.
 use Rattle.std.proofs.Common.{◌≡◌, ℕ, List, [], ◌∷◌, refl, w32}
 use Rattle.std.proofs.raw_atomic.Walks.{proved}
 use base.Fml.{ftrue, flft, fsep}
