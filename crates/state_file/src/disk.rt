@@ -76,7 +76,7 @@ pub trait Disk {
         ensures past_ends { past_ends self.new ≡ past_ends self.old }
         ensures call { CallsDisk honest state moment left_since failures self.old self.new result };
 
-    /// Afterwards a crash leaves what a read gives.
+    /// After an Ok a crash leaves what a read gives.
     fn sync(&mut self) -> Result<(), DiskFault>
         ensures synced { IsTrue (honest self.old) → Syncs (state self.old) (state self.new) result }
         ensures past_ends { past_ends self.new ≡ past_ends self.old }
