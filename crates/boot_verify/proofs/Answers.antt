@@ -38,16 +38,13 @@ refusal_above LevelMismatch = omega arith
 refusal_above (RootMismatch level) = omega arith
 refusal_above MessageRead = omega arith
 
--- so a packed refusal is never 0
 never_zero : (number detail answer : ℕ) → 0 < number → answer ≡ packed number detail → answer ≡ 0 → ⊥
 never_zero number detail answer above is zero = omega (arith, above, is, zero)
 
--- no refusal of a key is 0
 key_never_zero : (public : List ℕ) (answer : ℕ) → RefusesKey public answer → answer ≡ 0 → ⊥
 key_never_zero public answer (inl (_, _, _, is)) zero = never_zero 6 _ answer (omega arith) is zero
 key_never_zero public answer (inr (fault, _, is)) zero = never_zero (cause_number fault.cause) fault.place answer (cause_above fault.cause) is zero
 
--- refused bytes spell no key
 refused_spells_none : (public : List ℕ) (answer : ℕ) (key : Key) → RefusesKey public answer → SpellsKey key public → ⊥
 refused_spells_none public answer key (inl (not_lms, not_hss, not_xmss, _)) spelled = not_none key public spelled not_lms not_hss not_xmss
 refused_spells_none public answer key (inr (fault, faulty, _)) spelled = no_fault key public fault spelled faulty
@@ -58,7 +55,6 @@ accepts (Lms key) message bytes x verdict = verdict
 accepts (Hss key) message bytes x verdict = verdict
 accepts (Xmss key) message bytes x verdict = verdict
 
--- a valid signature is accepted
 accepted : (key : Key) (message bytes : List ℕ) (verdict : Result (Unit {0}) Refusal) → KeyVerdict key message bytes verdict → verdict ≢ Err MessageRead
     → Signs key message bytes → IsOk verdict
 accepted (Lms key) message bytes verdict is read (s, spelled, valid) = lms.accepted key message bytes verdict is read s spelled valid
@@ -72,7 +68,6 @@ signed public message bytes answer (inr (key, Ok x, spelled, verdict, read, is))
 signed public message bytes answer (inr (key, Err refusal, spelled, verdict, read, is)) zero =
     absurd (never_zero (refusal_number refusal) (refusal_detail refusal) answer (refusal_above refusal) is zero)
 
--- an accepting verdict is answered by 0
 zero_of_ok : (verdict : Result (Unit {0}) Refusal) → IsOk verdict → verdict_answer verdict ≡ 0
 zero_of_ok (Ok x) ok = refl
 zero_of_ok (Err refusal) ok = let never : false ≡ true = ok in absurd (cc)
@@ -84,7 +79,6 @@ answered public message bytes answer (inr (other, verdict, spelled, is, read, an
     let same = one_key key other public spelled_too spelled in
     answer_is ∙ zero_of_ok verdict (accepted other message bytes verdict is read (subst (λ key. Signs key message bytes) same signs))
 
--- 0 exactly where it is valid
 pub valid_exactly : (public message bytes : List ℕ) (answer : ℕ) → Answers public message bytes answer → (answer ≡ 0) ↔ IsSigned public message bytes
 valid_exactly public message bytes answer answers = (signed public message bytes answer answers, answered public message bytes answer answers)
 

@@ -59,7 +59,6 @@ size-xmss_key =
 apart : {A : Type 0} (m n k : ℕ) → k ≡ m → k ≡ n → (m ≡ n → ⊥) → A
 apart m n k is_m is_n differs = absurd (differs (sym is_m ∙ is_n))
 
--- bytes spell at most one key
 pub one_key : (key other : Key) (bytes : List ℕ) → SpellsKey key bytes → SpellsKey other bytes → key ≡ other
 one_key (Lms a) (Lms b) bytes first second = ap Lms (one_value lms_public_key a b bytes first second)
 one_key (Lms a) (Hss b) bytes first second = apart 56 60 (length bytes) (size-lms_key a bytes first) (size-hss_key b bytes second) (λ e. omega (arith, e))
@@ -77,7 +76,6 @@ not_none (Lms key) bytes spelled not_lms not_hss not_xmss = not_lms (size-lms_ke
 not_none (Hss key) bytes spelled not_lms not_hss not_xmss = not_hss (size-hss_key key bytes spelled)
 not_none (Xmss key) bytes spelled not_lms not_hss not_xmss = not_xmss (size-xmss_key key bytes spelled)
 
--- a spelling of a key has no fault
 pub no_fault : (key : Key) (bytes : List ℕ) (fault : ReadFault) → SpellsKey key bytes → KeyHasFault bytes fault → ⊥
 no_fault (Lms key) bytes fault spelled (inl (len, faulty)) = no_value lms_public_key key bytes 0 fault spelled faulty
 no_fault (Lms key) bytes fault spelled (inr (inl (len, faulty))) = apart 56 60 (length bytes) (size-lms_key key bytes spelled) len (λ e. omega (arith, e))

@@ -15,11 +15,9 @@ use Rattle.boot_verify.specs.Key.{KeyHasFault, KeyHasPrefix, KeyIsDigest, KeyVer
 abbrev pub packed : ℕ → ℕ → ℕ
 packed number detail = number + 2 ^ 32 * detail
 
--- a fault's cause, with its place
 abbrev pub fault_answer : ReadFault → ℕ
 fault_answer fault = packed (cause_number fault.cause) fault.place
 
--- a refusal's detail: the fault's place, or the level
 abbrev pub refusal_detail : Refusal → ℕ
 refusal_detail (Unreadable fault) = fault.place
 refusal_detail (TypeMismatch level) = level

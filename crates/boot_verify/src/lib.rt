@@ -26,7 +26,6 @@ use crate::key::Key;
 #[unsafe(no_mangle)]
 pub extern "C" fn hbs_verify(public: &[u8], message: &[u8], signature: &[u8]) -> u64
     ensures answer { Answers public.now message.now signature.now result }
-    // 0 only for a valid signature, and for each.
     ensures valid { (result ≡ 0) ↔ IsSigned public.now message.now signature.now }
 {
     match Key::read(public) {
