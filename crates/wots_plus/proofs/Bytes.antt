@@ -32,7 +32,6 @@ number_in_32 (suc (suc (suc zero))) small = refl
 number_in_32 (suc (suc (suc (suc zero)))) small = refl
 number_in_32 (suc (suc (suc (suc (suc n))))) small = absurd (omega arith)
 
--- bytes that are each an XOR are the lists' XOR
 pub xor_of_each : (n : ℕ) (a b out : List ℕ) → length a ≡ n → length b ≡ n → length out ≡ n
     → ((i : ℕ) → i < n → get_or out i 0 ≡ bit_xor (get_or a i 0) (get_or b i 0)) → out ≡ xor a b
 xor_of_each n a b out a_long b_long out_long each =
@@ -44,13 +43,11 @@ xor_of_each n a b out a_long b_long out_long each =
     get_or-map (λ (pair : ℕ × ℕ). bit_xor pair.0 pair.1) (zip a b) i (0, 0) 0 (omega arith)
     ∙ ap (λ (pair : ℕ × ℕ). bit_xor pair.0 pair.1) (get_or-zip a b i (0, 0) (omega arith) (omega arith))))
 
--- an address has eight words
 pub words_count : (adrs : Address) (mask : ℕ) → length (words_of adrs mask) ≡ 8
 words_count (OneTime leaf chain hash) mask = refl
 words_count (LTree leaf height index) mask = refl
 words_count (HashTree height index) mask = refl
 
--- the words' bytes are the address
 pub bytes_are : (adrs : Address) (mask : ℕ) → bytes_of_words (words_of adrs mask) ≡ address_of adrs mask
 unfolding address
 bytes_are (OneTime leaf chain hash) mask = refl

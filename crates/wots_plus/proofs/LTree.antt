@@ -94,7 +94,6 @@ pairs_more join old before after first over rest kept joined k low = elim (cases
       ∙ ap₂ (join k) (rest (2 * k) (omega arith)) (rest (2 * k + 1) (omega arith))
 ]
 
--- a value that is alone stays alone
 pub alone : (join : LTreeJoins) (values : List (List ℕ)) (k n : ℕ) (root : List ℕ)
     → at_height join values k ≡ root ∷ [] → at_height join values (k + n) ≡ root ∷ []
 unfolding at_height next_height
@@ -103,7 +102,6 @@ alone join values k (suc n) root is =
     let more : k + suc n ≡ suc (k + n) = omega arith in
     ap (at_height join values) more ∙ ap (next_height (join (k + n)) 0) (alone join values k n root is)
 
--- so there is one root
 pub one_root : (join : LTreeJoins) (values : List (List ℕ)) (root other : List ℕ)
     → IsLTreeRoot join values root → IsLTreeRoot join values other → other ≡ root
 one_root join values root other (k, is) (m, was) =
@@ -111,26 +109,22 @@ one_root join values root other (k, is) (m, was) =
     ap (λ list. get_or list 0 [])
     (sym (alone join values m k other was) ∙ ap (at_height join values) both ∙ alone join values k m root is)
 
--- which is `l_tree_root`
 pub root_is : (join : LTreeJoins) (values : List (List ℕ)) (k : ℕ) (root : List ℕ) → k ≤ length values
     → at_height join values k ≡ root ∷ [] → root ≡ l_tree_root join values
 root_is join values k root low is =
     let all : k + (length values - k) ≡ length values = omega arith in
     ap (λ list. get_or list 0 []) (sym (alone join values k (length values - k) root is) ∙ ap (at_height join values) all)
 
--- one height more
 pub height_more : (join : LTreeJoins) (values : List (List ℕ)) (k : ℕ) (before after : List (List ℕ))
     → before ≡ at_height join values k → after ≡ next_height (join k) 0 before → after ≡ at_height join values (k + 1)
 unfolding at_height
 height_more join values k before after was is =
     is ∙ ap (next_height (join k) 0) was ∙ ap (at_height join values) (sym (add-one k))
 
--- height 0 is the values
 pub height_none : (join : LTreeJoins) (values : List (List ℕ)) → values ≡ at_height join values 0
 unfolding at_height
 height_none join values = refl
 
--- one value is left: the first
 pub one_left : (count : ℕ) (values : List (List ℕ)) → count ≡ 1 → 0 < length values → take count values ≡ get_or values 0 [] ∷ []
 one_left count [] one some = absurd (omega arith)
 one_left count (first ∷ rest) one some = rw one refl

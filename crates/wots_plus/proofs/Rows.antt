@@ -14,7 +14,6 @@ in_lane_at j [] k = refl
 in_lane_at j (row ∷ rows) zero = refl
 in_lane_at j (row ∷ rows) (suc k) = in_lane_at j rows k
 
--- one row more is written
 pub row_more : (f : ℕ → ℕ → List ℕ) (rows : List (List (List ℕ))) (row : List (List ℕ)) (i : ℕ) → i < length rows
     → ((j : ℕ) → j < lanes → (k : ℕ) → k < i → get_or (get_or rows k []) j [] ≡ f j k)
     → ((j : ℕ) → j < lanes → get_or row j [] ≡ f j i)

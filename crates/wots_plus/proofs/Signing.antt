@@ -18,7 +18,6 @@ signed_sizes seed leaf secret digest =
     chains.signed_sizes (step_of seed leaf) (private_value seed leaf secret) (digits_of 4 digest) 67
     (λ i j v. length-sha256 _) (λ i. length-sha256 _)
 
--- the same for bytes that hold the values
 pub bytes_climb : (seed : List ℕ) (leaf : ℕ) (secret digest bytes : List ℕ) → bytes ≡ concat (signed_values seed leaf secret digest)
     → ClimbTo seed leaf digest (values_in 67 bytes) (ends_of_secret seed leaf secret)
 bytes_climb seed leaf secret digest bytes are =

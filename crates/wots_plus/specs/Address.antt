@@ -9,7 +9,6 @@ use Rattle.wots_plus.specs.Hashes.{Adrs, to_byte}
 abbrev pub words : ℕ → ℕ → ℕ → ℕ → ℕ → List ℕ
 words kind first second third mask = 0 ∷ 0 ∷ 0 ∷ kind ∷ first ∷ second ∷ third ∷ mask ∷ []
 
--- 4 bytes for each word
 abbrev pub bytes_of_words : List ℕ → List ℕ
 bytes_of_words words = flat_map (λ word. to_byte word 4) words
 
@@ -34,7 +33,6 @@ address_of (OneTime leaf chain hash) mask = one_time leaf chain hash mask
 address_of (LTree leaf height index) mask = l_tree leaf height index mask
 address_of (HashTree height index) mask = hash_tree height index mask
 
--- its words
 abbrev pub words_of : Address → ℕ → List ℕ
 words_of (OneTime leaf chain hash) mask = words 0 leaf chain hash mask
 words_of (LTree leaf height index) mask = words 1 leaf height index mask

@@ -13,7 +13,6 @@ use Rattle.wots_plus.specs.LTree.{l_tree_join, l_tree_root}
 abbrev pub step_of : List ℕ → ℕ → Steps
 step_of seed leaf i j value = step_at seed (one_time leaf i j) value
 
--- the private value of chain i
 abbrev pub private_value : List ℕ → ℕ → List ℕ → ℕ → List ℕ
 private_value seed leaf secret i = private_value_at secret seed (one_time leaf i 0)
 
@@ -34,7 +33,6 @@ signed_values seed leaf secret digest =
 abbrev pub ClimbTo : List ℕ → ℕ → List ℕ → List (List ℕ) → List (List ℕ) → Type 0
 ClimbTo seed leaf digest values ends = AreEnds (step_of seed leaf) 4 (digits_of 4 digest) values ends
 
--- the ends that they climb to
 abbrev pub ends_of_signature : List ℕ → ℕ → List ℕ → List (List ℕ) → List (List ℕ)
 ends_of_signature seed leaf digest values = ends_of (step_of seed leaf) 4 (digits_of 4 digest) values
 

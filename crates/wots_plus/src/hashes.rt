@@ -25,7 +25,6 @@ pub fn hash_f(key: &[u8; 32], message: &[u8; 32]) -> [u8; 32]
     hasher.finalize()
 }
 
-// F in each lane.
 pub(crate) fn hash_f_in_lanes(
     keys: &[[u8; 32]; LANES],
     messages: &[[u8; 32]; LANES],
@@ -71,7 +70,6 @@ pub fn hash_h(key: &[u8; 32], left: &[u8; 32], right: &[u8; 32]) -> [u8; 32]
     hasher.finalize()
 }
 
-// H in each lane.
 pub(crate) fn hash_h_in_lanes(
     keys: &[[u8; 32]; LANES],
     left: &[[u8; 32]; LANES],
@@ -192,7 +190,6 @@ impl Prf {
         hasher.finalize()
     }
 
-    // PRF in each lane.
     pub(crate) fn hash_in_lanes(&self, messages: &[[u8; 32]; LANES]) -> [[u8; 32]; LANES]
         ensures { (j : ℕ) → j < lanes
             → slice_index_or result j [] ≡ prf self.now.key (slice_index_or messages.now j []) }
@@ -243,7 +240,6 @@ pub(crate) fn xor(bytes: &[u8; 32], mask: &[u8; 32]) -> [u8; 32]
     out
 }
 
-// `xor` in each lane.
 pub(crate) fn xor_in_lanes(
     bytes: &[[u8; 32]; LANES],
     masks: &[[u8; 32]; LANES],

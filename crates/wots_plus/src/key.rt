@@ -171,7 +171,6 @@ impl Wots<'_> {
         LaneKeys { seed, leaves }.public_hashes(secret)
     }
 
-    // The ends of all chains of a secret's key.
     fn ends_from_secret(&self, secret: &[u8; 32]) -> Values
         ensures { take wots_chains result ≡ ends_of_secret self.now.seed.now.key self.now.leaf secret.now }
     {
@@ -184,7 +183,6 @@ impl Wots<'_> {
     pub fn sign_digest(&self, secret: &[u8; 32], digest: &[u8; 32], into: &mut [u8])
         requires { length into.old ≡ 32 * wots_chains }
         ensures value { into.new ≡ concat (signed_values self.now.seed.now.key self.now.leaf secret.now digest.now) }
-        // The signature's values climb to the ends of the key's chains.
         ensures climbs { ClimbTo self.now.seed.now.key self.now.leaf digest.now
             (values_in wots_chains into.new) (ends_of_secret self.now.seed.now.key self.now.leaf secret.now) }
     {
@@ -211,7 +209,6 @@ impl Wots<'_> {
         self.l_tree(&mut ends[..WOTS_CHAINS])
     }
 
-    // The ends that a signature's values climb to.
     fn ends_from_signature(&self, digest: &[u8; 32], values: &[[u8; 32]]) -> Values
         requires { length values.now ≡ wots_chains }
         ensures { take wots_chains result

@@ -23,7 +23,6 @@ type Row = [[u8; 32]; LANES];
 pub(crate) struct LaneKeys<'seed> {
     /// PRF under the tree's SEED.
     pub(crate) seed: &'seed Prf,
-    /// The numbers of the leaves.
     pub(crate) leaves: [u32; LANES],
 }
 
@@ -90,7 +89,6 @@ impl LaneKeys<'_> {
         hash_f_in_lanes(&keys, &xor_in_lanes(values, &masks))
     }
 
-    // The addresses of that step.
     fn step_addresses(&self, chain: u16, at: u8, key_and_mask: u32) -> Row
         ensures { (j : ℕ) → j < lanes
             → slice_index_or result j [] ≡ one_time (slice_index self.now.leaves j) chain at key_and_mask }
@@ -156,7 +154,6 @@ impl LaneKeys<'_> {
         hash_h_in_lanes(&keys, &left, &right)
     }
 
-    // The addresses of these nodes.
     fn node_addresses(&self, height: u32, index: u32, key_and_mask: u32) -> Row
         ensures { (j : ℕ) → j < lanes
             → slice_index_or result j [] ≡ l_tree (slice_index self.now.leaves j) height index key_and_mask }
