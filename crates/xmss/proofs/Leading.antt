@@ -8,7 +8,6 @@ use Rattle.xmss.specs.Signature.{Signature}
 use Rattle.xmss.specs.Nodes.{join_of, leaf_of}
 use Rattle.xmss.specs.Verification.{LeadsTo}
 
--- ends and a path lead to the root
 pub leads : (key : XmssPublic) (digest : List ℕ) (s : Signature) (seed leaf root : List ℕ) → seed ≡ key.seed
     → ((ends : List (List ℕ)) × ClimbTo seed s.index digest s.chains ends × (leaf ≡ leaf_of seed s.index ends))
     → PathLeadsTo (join_of seed) s.index leaf s.path root
@@ -20,7 +19,6 @@ leads key digest s seed leaf root seed_is (ends, climbed, leaf_is) led = record 
       (subst (λ l. PathLeadsTo (join_of seed) s.index l s.path root) leaf_is led);
 }
 
--- every root that it leads to is this one
 pub leads_only : (key : XmssPublic) (digest : List ℕ) (s : Signature) (seed leaf root : List ℕ) → seed ≡ key.seed
     → ((ends : List (List ℕ)) → ClimbTo seed s.index digest s.chains ends → leaf ≡ leaf_of seed s.index ends)
     → ((other : List ℕ) → PathLeadsTo (join_of seed) s.index leaf s.path other → other ≡ root)

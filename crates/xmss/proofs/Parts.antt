@@ -5,7 +5,6 @@ use Rattle.typecodes.specs.Cursor.{read}
 use Rattle.typecodes.proofs.Parts.{values_at, values_read_at}
 use Rattle.xmss.specs.Signature.{chains_in}
 
--- `chains_in` is 67 values
 chains_are : (n : ℕ) (bytes : List ℕ) → n ≡ 67 → values_in n bytes ≡ chains_in bytes
 unfolding chains_in
 chains_are n bytes all = ap (λ n. values_in n bytes) all

@@ -20,7 +20,6 @@ use Rattle.xmss.specs.Signature.{Signature, leaf_index, signature}
 use Rattle.xmss.specs.Writing.{public_bytes, signature_bytes, signed}
 use Rattle.xmss.proofs.After.{after_chains, after_index, after_randomizer, after_root, after_tree, checked}
 
--- 4 bytes spell a leaf's index
 index_spelled : (h index : ℕ) → index < 2 ^ h → index < 2 ^ 32 → Spells (leaf_index h) index (to_byte index 4)
 unfolding leaf_index
 index_spelled h index inside small =
@@ -36,7 +35,6 @@ pub record IsSized (tree : XmssType) (s : Signature) : Type 0 where
   pub path_count : length s.path ≡ xmss_height_of tree
   pub path : (i : ℕ) → i < xmss_height_of tree → length (get_or s.path i []) ≡ 32
 
--- A signature with such parts is spelled by its bytes.
 signature_spelled : (tree : XmssType) (s : Signature) → IsSized tree s → Spells (signature tree) s (signature_bytes s)
 unfolding signature
 signature_spelled tree s sized =
@@ -53,7 +51,7 @@ signature_spelled tree s sized =
     (values_spelled 67 s.chains sized.chain_count sized.chains)
     (last_field (values h) _ s.path s path (values_spelled h s.path sized.path_count sized.path) (refl, refl)))))
 
--- So is a secret's signature, if the path has a value of 32 bytes for each height.
+-- A secret's signature is spelled by its bytes, if its path has a value of 32 bytes for each height.
 pub signed_spelled : (secret : XmssSecret) (i : ℕ) (digest : List ℕ) (path : List (List ℕ)) → i < 2 ^ xmss_height_of secret.tree
     → length path ≡ xmss_height_of secret.tree → ((k : ℕ) → k < xmss_height_of secret.tree → length (get_or path k []) ≡ 32)
     → Spells (signature secret.tree) (signed secret i digest path) (signature_bytes (signed secret i digest path))
@@ -68,7 +66,6 @@ signed_spelled secret i digest path inside count sizes =
     } in
     signature_spelled secret.tree (signed secret i digest path) sized
 
--- A public key is spelled by its bytes.
 pub public_spelled : (key : XmssPublic) → length key.root ≡ 32 → length key.seed ≡ 32 → Spells public_key key (public_bytes key)
 unfolding public_key
 public_spelled key root seed =

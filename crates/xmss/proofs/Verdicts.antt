@@ -11,7 +11,6 @@ use Rattle.xmss.specs.declared.key.XmssPublic.{XmssPublic}
 use Rattle.xmss.specs.Signature.{Signature, signature}
 use Rattle.xmss.specs.Verification.{IsValid, IsValidFor, LeavesMessage, Verdict, digest_of}
 
--- a verdict by the message's digest is one by the message
 pub verdict_of_digest : {A : Type 0} (key : XmssPublic) (message digest bytes : List ℕ) (s : Signature) (result : Result A Refusal)
     → digest ≡ digest_of key message s → Spells (signature key.tree) s bytes → DigestVerdict (IsValidFor key digest s) 0 result
     → Verdict key message bytes result
@@ -20,7 +19,6 @@ verdict_of_digest key message digest bytes s result same spelled verdict =
     (λ x valid. (s, spelled, subst (λ d. IsValidFor key d s) same valid))
     (λ level at invalid. (at, (s, spelled, λ valid. invalid (subst (λ d. IsValidFor key d s) (sym same) valid))))
 
--- by a digest, a message is never unreadable
 pub digest_was_read : {A : Type 0} (key : XmssPublic) (digest : List ℕ) (s : Signature) (result : Result A Refusal)
     → DigestVerdict (IsValidFor key digest s) 0 result → result ≡ Err MessageRead → ⊥
 digest_was_read key digest s result verdict same = elim (subst (DigestVerdict (IsValidFor key digest s) 0) same verdict) [ ]
@@ -41,11 +39,9 @@ refused key message bytes LevelMismatch never = absurd never
 refused key message bytes MessageRead (s, spelled) = (s, spelled, tt)
 refused key message bytes (RootMismatch level) (top, (s, spelled, invalid)) = (top, (s, spelled, tt, invalid))
 
--- the laws of the verdicts
 pub laws : VerdictLaws Verdict (λ key. signature key.tree) IsValid (λ key refusal. refusal ≡ RootMismatch 0)
 laws = tree_laws Verdict (λ key. signature key.tree) (λ key s. Unit {0}) IsValid refused (λ key message s valid. tt)
 
--- a valid signature is accepted, unless the message can't be read
 pub accepted : (key : XmssPublic) (message bytes : List ℕ) (result : Result (Unit {0}) Refusal) → Verdict key message bytes result
     → result ≢ Err MessageRead → (s : Signature) → Spells (signature key.tree) s bytes → IsValid key message s → IsOk result
 accepted = laws.accepted

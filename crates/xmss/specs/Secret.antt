@@ -38,10 +38,8 @@ abbrev pub digest_in : XmssSecret → List ℕ → ℕ → List ℕ → List ℕ
 digest_in secret root index message =
     message_digest_of (randomizer_of secret.prf_key index) root index message
 
--- the secret of a tree
 abbrev pub secret_of : XmssTree → XmssSecret
 secret_of tree = tree.secret
 
--- leaves made so far
 abbrev pub leaves_made : XmssTree → ℕ
 leaves_made tree = tree.made

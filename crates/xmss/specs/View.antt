@@ -5,7 +5,6 @@ use Rattle.typecodes.specs.declared.types.XmssType.{XmssType}
 use Rattle.xmss.specs.declared.signature.XmssSigView.{XmssSigView}
 use Rattle.xmss.specs.Signature.{Signature}
 
--- the signature
 abbrev pub signature_of : XmssSigView → Signature
 signature_of view = record {
   index = view.index;
@@ -21,6 +20,5 @@ tree_of view = view.tree
 abbrev pub lent_of : XmssSigView → Bor (List ℕ)
 lent_of view = view.bytes
 
--- its bytes, as a list
 abbrev pub bytes_of : XmssSigView → List ℕ
 bytes_of view = view.bytes.now

@@ -17,7 +17,6 @@ use wots_plus::{Prf, Wots};
 pub fn write_public(public: &XmssPublic, into: &mut [u8])
     requires { length into.old ≡ 68 }
     ensures bytes { into.new ≡ public_bytes public.now }
-    // The bytes spell the key.
     ensures spells { Spells public_key public.now into.new }
 {
     let offset = put(into, 0, &public.tree.code().to_be_bytes());
@@ -40,7 +39,6 @@ pub fn write_signature(
     requires path { length path.now ≡ xmss_height_of secret.now.tree }
     requires room { length into.old ≡ xmss_signature_len_of secret.now.tree }
     ensures bytes { into.new ≡ signature_bytes (signed secret.now leaf digest.now path.now) }
-    // The bytes spell the signature.
     ensures spells { Spells (signature secret.now.tree) (signed secret.now leaf digest.now path.now) into.new }
     // With the leaf's own path it is the textbook signature.
     ensures textbook { path.now ≡ path_in secret.now leaf →
