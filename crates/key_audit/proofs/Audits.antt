@@ -22,7 +22,6 @@ use Rattle.key_audit.specs.Tags.{IsTag}
 use Rattle.key_audit.proofs.Loads.{IsUnchanged, answered, kept_by, reads_after}
 use Rattle.key_audit.proofs.Tags.{tag_law}
 
--- legal records are some
 pub some_legal : (records : List Record) → IsLegal records → 0 < length records
 some_legal records legal = slice_get_within records 0 (KeyRecord legal.key) legal.first
 
@@ -63,7 +62,6 @@ some_or_nothing honest records anchor (Err DeviceFailed) judges = inr (λ A. tt)
 some_or_nothing honest records anchor (Err OutOfMemory) judges = inr (λ A. tt)
 some_or_nothing honest records anchor (Err AnchorCount) judges = inr (λ A. tt)
 
--- a content that stands for some records spells them
 spells_some : (records : List Record) (content : List ℕ) → 0 < length records → StandsFor records content → SpellsRecords content records
 spells_some [] content some stands = absurd (omega (arith, some))
 spells_some (entry ∷ entries) content some stands = stands
@@ -82,7 +80,6 @@ judged_alike honest records anchor OutOfMemory judges = (judges, λ A. tt)
 judged_alike honest records anchor AnchorCount judges = absurd judges.1
 judged_alike honest records anchor AnchorTag judges = absurd (true≢false (sym judges.1))
 
--- equal lengths fit an anchor alike
 within_alike : (a b : List Record) (anchor : Option Anchor) → length a ≡ length b → IsWithin anchor a → IsWithin anchor b
 within_alike a b None same within = tt
 within_alike a b (Some anchor) same within = (within.0, omega (arith, within.1, same))
@@ -122,7 +119,6 @@ judged_tag A honest kept records anchor k (Illegal place) gives = absurd gives
 judged_tag A honest kept records anchor k OutOfMemory gives = absurd gives
 
 module _ {D : Type 0} (d : disk.Ghosts D) where
-  -- an honest disk gives bytes
   abbrev pub GivesBytes : Type 0
   GivesBytes = (on : D) → IsTrue (d.honest on) → AreBytes (d.state on).content
 
@@ -177,7 +173,6 @@ module _ {D : Type 0} (d : disk.Ghosts D) where
     unreadable = reads.unreadable;
   }
 
-  -- slots of an unchanged store keep their tags
   same_tags : (old mid : FileStore D d) → IsUnchanged d old mid → has_stopped old ≡ false → IsTrue (d.honest (disk_of old)) → (k : ℕ) (tag : List ℕ)
       → IsSlotTag d (disk_of old) k tag → IsSlotTag d (disk_of mid) k tag
   same_tags old mid kept running honest k tag is = is ∙ ap (λ (s : DiskState). tag_at s.content k) (sym (kept.reads honest running).stays)

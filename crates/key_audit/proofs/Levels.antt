@@ -25,7 +25,6 @@ pub record AreAbove (top : LmsPublic) (message : List ℕ) (s : Signature) (leve
   pub key_is : key ≡ key_at top s level
   pub within : level ≤ length s.signed
 
--- a level's use, by its key, its message and its signature
 pub level_use : (top : LmsPublic) (message : List ℕ) (s : Signature) (level : ℕ) (key : LmsPublic) (bytes : List ℕ) (own : LmsSignature)
     → key ≡ key_at top s level → bytes ≡ message_at message s level → own ≡ signature_at s level
     → kept_use (lms_use key bytes own) ≡ hss_use_at top message s level
@@ -33,7 +32,6 @@ level_use top message s level key bytes own p q r =
     ap (λ k. kept_use (lms_use k bytes own)) p ∙ ap (λ b. kept_use (lms_use (key_at top s level) b own)) q
     ∙ ap (λ t. kept_use (lms_use (key_at top s level) (message_at message s level) t)) r
 
--- one level more
 pub level_added : (top : LmsPublic) (message : List ℕ) (s : Signature) (level : ℕ) (uses : List LeafUse) (key : LmsPublic) (bytes : List ℕ) (own : LmsSignature)
     → AreAbove top message s level uses key → bytes ≡ message_at message s level → own ≡ signature_at s level
     → uses ++ kept_use (lms_use key bytes own) ∷ [] ≡ map (hss_use_at top message s) (range_with_len 0 (level + 1))

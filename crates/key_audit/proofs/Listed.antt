@@ -5,7 +5,6 @@ use Rattle.state_file.specs.declared.record.Record.{Record}
 use Rattle.key_audit.specs.declared.listing.Entry.{Entry}
 use Rattle.key_audit.specs.Listing.{entry_of, name_count, names_among}
 
--- one record more is listed
 pub entries_more : (records : List Record) (i : ℕ) (r : Record) (entries new : List Entry) → i < length records → r ≡ get_or records i r
     → entries ≡ map entry_of (take i records) → new ≡ entries ++ entry_of r ∷ [] → new ≡ map entry_of (take (i + 1) records)
 entries_more records i r entries new inside is so_far grown =
@@ -16,7 +15,6 @@ names_push : (entries : List Entry) (e : Entry) → names_among (entries ++ e �
 names_push [] e = omega arith
 names_push (first ∷ rest) e = omega (arith, names_push rest e)
 
--- one entry more is counted
 pub names_more : (entries : List Entry) (i : ℕ) (e : Entry) (names : ℕ) → i < length entries → e ≡ get_or entries i e
     → names ≡ names_among (take i entries) → names + name_count e ≡ names_among (take (i + 1) entries)
 names_more entries i e names inside is so_far =

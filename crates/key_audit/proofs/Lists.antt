@@ -21,7 +21,6 @@ use Rattle.key_audit.specs.inner.Loading.{AreLoaded, StopsLoading}
 use Rattle.key_audit.proofs.Audits.{refused_alike}
 use Rattle.key_audit.proofs.Loads.{answered, kept_by}
 
--- legal records begin with a key
 pub key_first : (records : List Record) → (legal : IsLegal records) → key_in records ≡ Some legal.key
 key_first [] legal = let first = legal.first in absurd cc
 key_first (entry.Key key ∷ rest) legal = let first = legal.first in cc
@@ -30,11 +29,9 @@ key_first (entry.Bound bound ∷ rest) legal = let first = legal.first in absurd
 key_first (entry.Retire upto ∷ rest) legal = let first = legal.first in absurd cc
 key_first (entry.Moved ∷ rest) legal = let first = legal.first in absurd cc
 
--- so they have one
 pub has_key : (records : List Record) → IsLegal records → key_in records ≡ None → ⊥
 has_key records legal none = let some = key_first records legal in cc
 
--- a listing of what records show
 pub shown_so : (records : List Record) (key : Key) (listing : Listing) → key_in records ≡ Some key → listing.spec ≡ types_of key.secret
     → listing.version ≡ key.version → listing.left.items ≡ free_counts key.secret records → listing.entries.items ≡ map entry_of records
     → shown_in records ≡ Some (shown_by listing)

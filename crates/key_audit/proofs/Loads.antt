@@ -145,7 +145,6 @@ module _ {D : Type 0} (d : disk.Ghosts D) where
     running = λ some. sym is.kept.stopped ∙ loads.store.was_stopped;
   }
 
-  -- all were loaded
   pub all_loaded : (old now : FileStore D d) (records : List Record) (k : ℕ) → HasLoaded old now records k → length (records_of old) ≤ k
       → AreLoaded (d.honest (disk_of old)) (records_of old) records
   all_loaded old now records k is end = record {

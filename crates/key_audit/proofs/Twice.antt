@@ -101,7 +101,6 @@ xmss_most xmss.H10 = omega arith
 xmss_most xmss.H16 = omega arith
 xmss_most xmss.H20 = omega arith
 
--- a valid signature's leaf has a number of 4 bytes
 small_use : (public : AnyPublic) (given : Given) (u : Use) → IsValidGiven public given → Uses public given u → u.leaf < 2 ^ 32
 small_use (Lms key) given u valid (uses, (s, spelled, are), has) =
     let (t, t_spelled, ok) = valid.verifies in
@@ -131,7 +130,6 @@ small_use (Xmss key) given u valid (uses, (s, spelled, are), has) =
 number_back : (u : Use) → u.leaf < 2 ^ 32 → big_number 4 (take 4 (leaf_bytes u)) ≡ u.leaf
 number_back u small = big_number-reads_back 4 u.leaf [] small
 
--- the same bytes name the same leaf
 one_leaf : (public : AnyPublic) (a b : Given) (u v : Use) → IsValidGiven public a → IsValidGiven public b → Uses public a u → Uses public b v
     → leaf_bytes u ≡ leaf_bytes v → IsOneLeaf u v
 one_leaf public a b u v a_valid b_valid by_a by_b same = record {
@@ -221,7 +219,6 @@ same_place public given n x y valid none of_x of_y leaf differs = elim (cases_eq
 
 -- ---- another digest, by what is kept
 
--- a use for another digest is seen
 seen : (P : UseAt → Type 0) (leaf digest : List ℕ) (o : Option FirstUse) (x : UseAt) → IsKept P leaf o → P x → x.leaf ≡ leaf → x.digest ≢ digest
     → (p : ℕ) × (other_place o digest ≡ Some p) × (p ≤ x.place)
 seen P leaf digest None x kept has same differs = absurd (kept x has same)
@@ -271,7 +268,6 @@ is_other P leaf digest (Some first) i kept one at = by (first.is_only && are_sam
 
 -- ---- the signature at place n
 
--- a signature's use is among its kept ones
 kept_among : (public : AnyPublic) (each : Given) (uses : List LeafUse) (u : Use) → AreUsesOf public each.message.items each.signature.items uses
     → Uses public each u → Contains uses (kept_use u)
 kept_among public each uses u (us, makes, are) (vs, makes_too, has) =

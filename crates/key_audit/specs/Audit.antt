@@ -89,7 +89,6 @@ abbrev pub IsTagged : (IsTagOf : ℕ → List ℕ → Type 0) → Option Anchor 
 IsTagged IsTagOf None = Unit {0}
 IsTagged IsTagOf (Some anchor) = IsTagOf (anchor.count - 1) anchor.tag
 
--- the tag of slot k on a disk
 abbrev pub IsSlotTag : {D : Type 0} (d : disk.Ghosts D) → D → ℕ → List ℕ → Type 0
 IsSlotTag d on k tag = tag ≡ tag_at (d.state on).content k
 
@@ -128,7 +127,6 @@ pub record Audits {D : Type 0} (d : disk.Ghosts D) (old new : FileStore D d) (an
 
 -- ---- what holds of audits
 
--- a report as an anchor
 abbrev pub anchor_of : Report → Anchor
 anchor_of report = record { count = report.records; tag = report.tag }
 

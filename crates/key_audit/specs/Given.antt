@@ -41,7 +41,6 @@ pub record IsTwice (public : AnyPublic) (given : List Given) (i j : ℕ) : Type 
 
 -- ---- all of them
 
--- All are valid.
 abbrev pub AreValid : AnyPublic → List Given → Type 0
 AreValid public given = (k : ℕ) (each : Given) → slice_get given k ≡ Some each → IsValidGiven public each
 
@@ -49,7 +48,6 @@ AreValid public given = (k : ℕ) (each : Given) → slice_get given k ≡ Some 
 abbrev pub NoneTwice : AnyPublic → List Given → ℕ → Type 0
 NoneTwice public given n = (i j : ℕ) → i ≢ j → i < n → j < n → IsTwice public given i j → ⊥
 
--- Signature i is the first that isn't valid.
 pub record IsFirstNotValid (public : AnyPublic) (given : List Given) (i : ℕ) : Type 0 where
   pub each : Given
   pub stands : slice_get given i ≡ Some each

@@ -51,11 +51,9 @@ shown_of records key = record {
   entries = map entry_of records;
 }
 
--- .. if they have a key
 abbrev pub shown_in : List Record → Option Shown
 shown_in records = option_map (shown_of records) (key_in records)
 
--- what a listing shows
 abbrev pub shown_by : Listing → Shown
 shown_by listing = record {
   spec = listing.spec;
@@ -95,7 +93,6 @@ pub record Lists {D : Type 0} (d : disk.Ghosts D) (old new : FileStore D d) (ans
 
 -- ---- secrets
 
--- a secret without its seeds
 abbrev pub without_seeds : Secret → Secret
 without_seeds (Lms secret) = Lms (record { pair = secret.pair; identifier = secret.identifier; seed = [] })
 without_seeds (Hss levels identifier seed) = Hss levels identifier []

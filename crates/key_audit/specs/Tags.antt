@@ -13,11 +13,9 @@ IsTagBefore records (suc k) tag = (entry : Record) × (fields previous : List �
     × (slice_get records k ≡ Some entry) × AreBytes fields × Spells (slot_record (version_in records)) entry fields
     × IsTagBefore records k previous × (tag ≡ tag_of previous fields)
 
--- record k's tag
 abbrev pub IsTag : List Record → ℕ → List ℕ → Type 0
 IsTag records k tag = IsTagBefore records (suc k) tag
 
--- What holds of tags.
 pub record TagLaw : Type 0 where
   -- a record has one tag
   pub one : (records : List Record) (k : ℕ) (a b : List ℕ) → IsTag records k a → IsTag records k b → a ≡ b

@@ -46,7 +46,6 @@ pub(crate) fn uses_of(public: &AnyPublic, message: &[u8], signature: &[u8]) -> A
     }
 }
 
-// A list of one use.
 fn only(used: LeafUse) -> ArrayVec<LeafUse, 8>
     ensures { result.items ≡ used ∷ [] }
 {
@@ -55,7 +54,6 @@ fn only(used: LeafUse) -> ArrayVec<LeafUse, 8>
     uses
 }
 
-// The use of an LMS signature.
 fn lms_use(key: &LmsPublic, signature: &LmsSigView<'_>, message: &[u8]) -> LeafUse
     ensures { result ≡ kept_use (spec.lms_use key.now message.now (lms_signature_of signature.now)) }
 {
@@ -70,7 +68,6 @@ fn lms_use(key: &LmsPublic, signature: &LmsSigView<'_>, message: &[u8]) -> LeafU
     }
 }
 
-// The uses of an HSS signature's levels.
 fn hss_uses(top: &LmsPublic, signature: &HssSigView<'_>, message: &[u8]) -> ArrayVec<LeafUse, 8>
     ensures { result.items ≡ map (hss_use_at top.now message.now (hss_signature_of signature.now))
         (range_with_len 0 (level_count (hss_signature_of signature.now))) }
@@ -90,7 +87,6 @@ fn hss_uses(top: &LmsPublic, signature: &HssSigView<'_>, message: &[u8]) -> Arra
     uses
 }
 
-// The use of an XMSS signature.
 fn xmss_use(key: &XmssPublic, signature: &XmssSigView<'_>, message: &[u8]) -> LeafUse
     ensures { result ≡ kept_use (xmss_use key.now message.now (xmss_signature_of signature.now)) }
 {

@@ -12,7 +12,6 @@ use Rattle.key_audit.specs.declared.report.AuditFault.TheVariants.{Stopped, NoKe
 use Rattle.key_audit.specs.declared.report.AuditFault.TheVariants.{OutOfMemory}
 use Rattle.key_audit.specs.Audit.{IsSlotTag, Judges, ReadsStore}
 
--- What loading record k finds.
 abbrev pub FindsRecord : (honest : Bool) → List Record → (k : ℕ) → Result (Option Record) AuditFault → Type 0
 FindsRecord honest list k (Ok None) = length list ≤ k
 FindsRecord honest list k (Ok (Some entry)) = (k < length list) × IsRecordAt honest list k entry
@@ -53,7 +52,6 @@ IsNoLedger honest list fault =
 
 -- ---- tags
 
--- What reading the tag of slot k gives.
 abbrev pub GivesTag : (IsTagOf : ℕ → List ℕ → Type 0) → (honest : Bool) → (k : ℕ) → Result (List ℕ) AuditFault → Type 0
 GivesTag IsTagOf honest k (Ok tag) = IsTrue honest → IsTagOf k tag
 GivesTag IsTagOf honest k (Err Stopped) = Unit {0}

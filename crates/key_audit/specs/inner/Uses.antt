@@ -16,7 +16,6 @@ use Rattle.key_audit.specs.declared.uses.LeafUse.{LeafUse}
 abbrev pub leaf_bytes : Use → List ℕ
 leaf_bytes used = u32str used.leaf ++ used.identifier
 
--- a use as it is kept
 abbrev pub kept_use : Use → LeafUse
 kept_use used = record { leaf = leaf_bytes used; digest = used.digest }
 
@@ -30,7 +29,6 @@ abbrev pub hss_use_at : LmsPublic → (message : List ℕ) → HssSignature → 
 hss_use_at top message s level =
     kept_use (lms_use (key_at top s level) (message_at message s level) (signature_at s level))
 
--- an XMSS signature's use
 abbrev pub xmss_use : XmssPublic → (message : List ℕ) → XmssSignature → Use
 xmss_use key message s = record {
   identifier = public_bytes key;

@@ -32,7 +32,6 @@ fn key_of(records: &[Record]) -> Option<&Key>
     }
 }
 
-// The records' entries, in their order.
 fn entries_of(alloc: Global, records: &[Record]) -> Result<Vec<Entry>, AllocError>
     ensures listed { IfOk result (λ entries. entries.items ≡ map entry_of records.now) }
     ensures refused { IfErr result (λ _. 0 < length records.now) }
@@ -44,7 +43,6 @@ fn entries_of(alloc: Global, records: &[Record]) -> Result<Vec<Entry>, AllocErro
     Ok(entries)
 }
 
-// Lists records that were loaded.
 fn list_records(alloc: Global, records: &[Record]) -> Result<Listing, AuditFault>
     ensures { ListsRecords records.now result }
 {

@@ -61,7 +61,6 @@ pub(crate) fn take_up(alloc: Global, records: &[Record]) -> Result<Ledger, Audit
     })
 }
 
-/// Reads slot `slot`'s tag.
 pub(crate) fn read_tag<D: Disk + Drop>(
     store: &mut FileStore<D>,
     slot: u32,
