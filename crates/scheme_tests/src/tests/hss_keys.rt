@@ -405,7 +405,6 @@ fn keys_are_read(rt: HostRuntime) {
     assert!(rt; HssPublic::read(&bytes) == Err(unknown));
 }
 
-// Whether level i's signature is these bytes.
 fn has_level(view: &HssSigView<'_>, i: u8, bytes: &[u8]) -> bool {
     i < view.levels() && view.level(i).bytes() == bytes
 }

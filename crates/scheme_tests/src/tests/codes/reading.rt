@@ -183,7 +183,6 @@ fn messages_are_read_to_their_end(rt: HostRuntime) {
     }
 }
 
-// A file that is read at offsets.
 trait OffsetFile {
     ghost use Rattle.std.specs.Prelude.{ℕ, length};
     ghost use Rattle.std.specs.Io.{ReadsAtMost};

@@ -93,13 +93,11 @@ fn writes_go_on_until_a_failure(rt: HostRuntime) {
     }
 }
 
-// A file that is written at offsets.
 trait OffsetFile {
     ghost use Rattle.std.specs.Prelude.{ℕ, List};
     ghost use Rattle.std.specs.Io.{WritesAtMost};
     ghost use Rattle.typecodes.specs.Message.{ReadOutcome, read_outcome};
 
-    // what a write of these bytes at an offset does
     ghost writes: { Self → (at : ℕ) → List ℕ → ReadOutcome → Self → Type 0 };
 
     fn write_at(&mut self, at: u64, bytes: &[u8]) -> io::Result<usize>

@@ -130,7 +130,6 @@ pub(crate) fn is_path(nodes: &[[u8; 32]], q: u32) -> bool {
     true
 }
 
-/// Whether leaf q with this path leads to this root.
 pub(crate) fn leads_to(q: u32, nodes: &[[u8; 32]], root: &[u8; 32]) -> bool {
     if nodes.len() > 25 || q >= 2u32.pow(nodes.len() as u32) {
         return false;
