@@ -11,7 +11,6 @@ use Rattle.typecodes.proofs.Read.{read-cut, read-fits}
 use Rattle.typecodes.proofs.Spelling.{no_value}
 use Rattle.typecodes.proofs.Steps.{reading, steps}
 
--- a block has its length
 pub block-length : (n : ℕ) (bytes : List ℕ) (place next : ℕ) (taken : List ℕ) → read (block n) bytes place ≡ Ok (taken, next) → length taken ≡ n
 block-length n bytes place next taken found =
     elim (cases_lt (length bytes) (place + n)) [

@@ -67,7 +67,6 @@ carried_list (Moved ∷ more) moved keyed = absurd (let is : false ≡ true = ke
 front_begins : (list : List Record) (n : ℕ) → IsCarriedList list → (version_in (take (suc n) list) ≡ Two) × (begins_with_key (take (suc n) list) ≡ true)
 front_begins list n carries = subst (λ (l : List Record). (version_in (take (suc n) l) ≡ Two) × (begins_with_key (take (suc n) l) ≡ true)) (sym carries.is) (carries.two, refl)
 
--- one record more
 pub front_more : (list : List Record) (k : ℕ) (entry : Record) → slice_get list k ≡ Some entry → take (k + 1) list ≡ take k list ++ entry ∷ []
 front_more list k entry is = take_more list k entry (slice_get_within list k entry is) ∙ ap (λ (e : Record). take k list ++ e ∷ []) (get_or_from_slice_get list k entry entry is)
 

@@ -21,7 +21,6 @@ use Rattle.state_file.specs.Shown.{key-begins, key-first, version_first}
 
 -- ---- slots
 
--- a gate in the content is open or closed
 pub open_or_closed : (content : List ℕ) (k : ℕ) → 256 * k < length content → IsOpen content k ⊎ IsClosed content k
 open_or_closed content k reaches =
     elim (slice_get_cases content (256 * k)).1 [
@@ -38,11 +37,9 @@ open-reaches content k opened = slice_get_within content (256 * k) open_value op
 pub closed-reaches : (content : List ℕ) (k : ℕ) → IsClosed content k → 256 * k < length content
 closed-reaches content k shut = shut.0
 
--- a slot holds at most one record
 one_record_at : (version : Version) (content : List ℕ) (k : ℕ) (entry other : Record) → Holds version content k entry → Holds version content k other → entry ≡ other
 one_record_at version content k entry other first second = one_value (slot_record version) entry other (fields_at content k) first.spelled second.spelled
 
--- a slot holds a record, or none
 holds_or_not : (version : Version) (content : List ℕ) (k : ℕ) → ((entry : Record) × Holds version content k entry) ⊎ ((entry : Record) → Holds version content k entry → ⊥)
 holds_or_not version content k =
     let fields = fields_at content k in
@@ -55,7 +52,6 @@ holds_or_not version content k =
       | inr (fault, faulty) ↦ inr (λ entry holds. no_value (slot_record version) entry fields 0 fault holds.spelled faulty)
     ]
 
--- an open slot is whole, or not
 pub whole_or_not : (version : Version) (content : List ℕ) (k : ℕ) → IsOpen content k → IsWhole version content k ⊎ (IsWhole version content k → ⊥)
 whole_or_not version content k opened =
     elim (cases_lt k most_records) [
@@ -71,7 +67,6 @@ whole_or_not version content k opened =
 
 -- ---- beginnings
 
--- no slot yet
 pub begins-none : (version : Version) (content : List ℕ) → MayHaveKey content → Begins version content []
 begins-none version content may = record {
   few = omega arith;
@@ -87,7 +82,6 @@ snoc_get [] x (suc k) y is = absurd (cc)
 snoc_get (first ∷ xs) x zero y is = inl is
 snoc_get (first ∷ xs) x (suc k) y is = elim (snoc_get xs x k y is) [ inl there ↦ inl there | inr last ↦ inr (ap suc last.0, last.1) ]
 
--- one whole slot more
 pub begins-more : (version : Version) (content : List ℕ) (records : List Record) → Begins version content records → (whole : IsWhole version content (length records)) → Begins version content (records ++ whole.entry ∷ [])
 begins-more version content records begins whole =
     let count : length (records ++ whole.entry ∷ []) ≡ length records + 1 = length-append records (whole.entry ∷ []) in record {
@@ -103,7 +97,6 @@ begins-more version content records begins whole =
       ];
     }
 
--- its slots are whole
 pub begins-whole : (version : Version) (content : List ℕ) (records : List Record) (k : ℕ) → Begins version content records → k < length records → IsWhole version content k
 begins-whole version content records k begins below =
     elim (slice_get_cases records k).1 [
@@ -148,7 +141,6 @@ begins-all version content records begins may key closed =
           absurd (not_both content 0 may.opened (subst (IsClosed content) none closed))
     ]
 
--- spelled records begin the content
 pub spelled-begins : (content : List ℕ) (records : List Record) → SpellsRecords content records → Begins (version_in records) content records
 spelled-begins content records is = record {
   few = is.few;
@@ -201,7 +193,6 @@ opening_with_key content may =
       | inr other ↦ (no_key_file, record { may = may; other = other })
     ]
 
--- every content opens as something
 pub some_opening : (content : List ℕ) → (opening : ContentKind) × OpensAs content opening
 some_opening content =
     elim (cases_lt (length content) 257) [
@@ -214,27 +205,22 @@ some_opening content =
 
 -- ---- and one thing only
 
--- `HasNoKey` excludes `MayHaveKey`
 no_key_may : (content : List ℕ) → HasNoKey content → MayHaveKey content → ⊥
 no_key_may content (inl short) may = omega (arith, short, may.long)
 no_key_may content (inr closed) may = not_both content 0 may.opened closed
 
--- where records are spelled, there may be a key
 spelled-may : (content : List ℕ) (records : List Record) → SpellsRecords content records → MayHaveKey content
 spelled-may content records is =
     let some = slice_get_within records 0 (KeyRecord is.first.0) is.first.1 in
     record { long = omega (arith, some, closed-reaches content (length records) is.closed); opened = is.opened 0 some }
 
--- their first slot is a Key's, of their version
 spelled-key : (content : List ℕ) (records : List Record) → SpellsRecords content records → (begins_key (fields_at content 0) ≡ true) × (version_of (fields_at content 0) ≡ Some (version_in records))
 spelled-key content records is =
     let (begins, known, _) = key-begins (version_in records) is.first.0 (fields_at content 0) (is.holds 0 (KeyRecord is.first.0) is.first.1).spelled in (begins, known)
 
--- a content shows one version
 same_version : (content : List ℕ) (a b : Version) → version_of (fields_at content 0) ≡ Some a → version_of (fields_at content 0) ≡ Some b → a ≡ b
 same_version content a b first second = same_Some a b (sym first ∙ second)
 
--- spelled lists have one length
 not_shorter : (content : List ℕ) (xs ys : List Record) → SpellsRecords content xs → SpellsRecords content ys → length xs < length ys → ⊥
 not_shorter content xs ys first second shorter = not_both content (length xs) (second.opened (length xs) shorter) first.closed
 
@@ -246,7 +232,6 @@ one_length content xs ys first second =
       | inr (inr longer) ↦ absurd (not_shorter content ys xs second first longer)
     ]
 
--- and are one
 pub one_list : (content : List ℕ) (xs ys : List Record) → SpellsRecords content xs → SpellsRecords content ys → xs ≡ ys
 one_list content xs ys first second =
     let count = one_length content xs ys first second in
@@ -256,7 +241,6 @@ one_list content xs ys first second =
     (subst (λ v. Holds v content k (get_or xs k d)) version (first.holds k (get_or xs k d) (slice_get-get_or xs k d below)))
     (second.holds k (get_or ys k d) (slice_get-get_or ys k d (omega (arith, below, count)))))
 
--- with spelled records no slot is damaged
 spelled-whole : (content : List ℕ) (records : List Record) (k : ℕ) → SpellsRecords content records → IsDamagedAt content k → ⊥
 spelled-whole content records k is is_damaged =
     let version = same_version content (version_in records) is_damaged.version (spelled-key content records is).1 is_damaged.known in
@@ -266,7 +250,6 @@ spelled-whole content records k is is_damaged =
       | inr (inr above) ↦ not_both content (length records) (is_damaged.before (length records) above).opened is.closed
     ]
 
--- one slot is the first damaged one
 one_damaged : (content : List ℕ) (j k : ℕ) → IsDamagedAt content j → IsDamagedAt content k → j ≡ k
 one_damaged content j k first second =
     let version = same_version content first.version second.version first.known second.known in
@@ -276,7 +259,6 @@ one_damaged content j k first second =
       | inr (inr above) ↦ absurd (second.damaged (subst (λ v. IsWhole v content k) version (first.before k above)))
     ]
 
--- a version isn't both known and unknown
 known_or_not : (found : Option Version) (version : Version) → found ≡ Some version → found ≡ None → ⊥
 known_or_not found version known unknown = absurd (let clash = sym known ∙ unknown in cc)
 
@@ -307,7 +289,6 @@ one_opening content (damaged j) no_key_file a b = absurd (true≢false (sym a.ke
 one_opening content (damaged j) unknown_version a b = absurd (known_or_not _ a.version a.known b.other)
 one_opening content (damaged j) (damaged k) a b = ap damaged (one_damaged content j k a b)
 
--- a content that stands for a list spells it, or has no key
 pub standing : (records : List Record) (content : List ℕ) (opening : ContentKind) → StandsFor records content → OpensAs content opening → (opening ≡ no_key) ⊎ (opening ≡ spelled records)
 standing [] content opening none opens = inl (one_opening content opening no_key opens none)
 standing (entry ∷ entries) content opening spells opens = inr (one_opening content opening (spelled (entry ∷ entries)) opens spells)
@@ -315,6 +296,5 @@ standing (entry ∷ entries) content opening spells opens = inr (one_opening con
 no_key_or_spelled : (records : List Record) → no_key ≡ spelled records → ⊥
 no_key_or_spelled records same = cc
 
--- a content without a key can't sign
 pub no_key_cannot : (content : List ℕ) → HasNoKey content → CanSign content → ⊥
 no_key_cannot content none can = no_key_or_spelled can.records (one_opening content no_key (spelled can.records) none can.spelled)

@@ -24,7 +24,6 @@ none_file content closed = record {
   tagged = λ k below. absurd (omega (arith, below));
 }
 
--- no slot yet
 pub copied_none : (list : List Record) (k : ℕ) (tag content : List ℕ) → k ≡ 0 → tag ≡ first_tag → IsClosed content 0 → IsCopied list k tag content
 copied_none list k tag content zero_is first closed = record { none = λ is. (closed, first); some = λ after. absurd (omega (arith, zero_is, after)) }
 
@@ -67,7 +66,6 @@ module _ (list : List Record) (carries : IsCarriedList list) (entry : Record) (c
         );
       }
 
--- one slot more
 pub copied_more : (list : List Record) (entry : Record) (k more : ℕ) (content new fields tag next : List ℕ) → IsCarriedList list → length fields ≡ 223 → length next ≡ 32 → length list ≤ most_records → Spells (slot_record Two) entry fields → next ≡ tag_of tag fields
     → more ≡ k + 1 → slice_get list k ≡ Some entry → IsCopied list k tag content → (k ≡ 0 → IsClosed content 0 → IsClosedAfter (open_value ∷ (fields ++ next)) (opened new))
     → ((front : List ℕ) → 0 < k → length front ≡ 256 * k → IsClosedAfter front (opened content) → IsClosedAfter (front ++ open_value ∷ (fields ++ next)) (opened new)) → IsCopied list more next new
@@ -78,7 +76,6 @@ copied_more list entry (suc j) more content new fields tag next carries fields_l
     subst (λ n. IsCopied list n next new) (sym one_more)
     (copied_next list carries entry content new fields tag next fields_len next_len few spelled tagged (suc j) (omega arith) is copied (λ front len holds. others front (omega arith) len holds))
 
--- all slots
 pub copied_all : (list : List Record) (k : ℕ) (tag content : List ℕ) → IsCarriedList list → k ≡ length list → IsCopied list k tag content → IsFileOf list (opened content)
 copied_all list k tag content carries all copied =
     let some : 0 < k = omega (arith, all, ap length carries.is) in

@@ -27,7 +27,6 @@ both end a b c some first second = record {
   no_longer = omega (arith, some, first.no_longer, second.no_longer);
 }
 
--- a file of what is carried over spells it
 pub carried_spelled : (list : List Record) (content : List ℕ) → IsCarriedList list → IsFileOf list content → SpellsRecords content list
 carried_spelled list content carries file =
     subst (λ (l : List Record). SpellsRecords content l) (sym carries.is) (file_stands (KeyRecord carries.key ∷ carries.rest) content (subst (λ (l : List Record). IsFileOf l content) carries.is file))

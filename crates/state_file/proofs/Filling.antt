@@ -25,7 +25,6 @@ ends_within : (whole : Range) (ranges : List Range) (len : ℕ) → AreWithin wh
 ends_within whole [] len within = omega arith
 ends_within whole (range ∷ ranges) len within = omega (arith, within.1, ends_within whole ranges len within.2)
 
--- a crash changes only what was written after the first gate
 pub unfinished_leaves : (end : ℕ) (base : List ℕ) (state : DiskState) (c : List ℕ) → IsUnfinished end base state → MayLeave state c → ChangesOnly (after_first_gate end ∷ []) base c
 unfinished_leaves end base state c unfinished left = subst (λ (b : List ℕ). ChangesOnly (after_first_gate end ∷ []) b c) unfinished.same_base (record {
   kept = λ offset inside outside. left.kept offset inside (outside_all (after_first_gate end) state.ranges offset unfinished.within outside.0);
@@ -33,7 +32,6 @@ unfinished_leaves end base state c unfinished left = subst (λ (b : List ℕ). C
   no_longer = omega (arith, left.no_longer, ends_within (after_first_gate end) state.ranges (length state.base) unfinished.within);
 })
 
--- so the first gate stays closed
 pub still_closed : (end : ℕ) (base c : List ℕ) → IsClosed base 0 → ChangesOnly (after_first_gate end ∷ []) base c → IsClosed c 0
 still_closed end base c closed changes =
     let same : slice_index c 0 ≡ slice_index base 0 = changes.kept 0 closed.0 (inl (omega arith), tt) in
@@ -100,7 +98,6 @@ put_parts new bytes at put =
     let width : at + length bytes - at ≡ length bytes = omega arith in
     sym (take-append-drop (length bytes) tail) ∙ ap (λ (l : List ℕ). l ++ drop (length bytes) tail) (ap (λ n. take n tail) (sym width) ∙ put)
 
--- a slot was written over the closed gate
 over_gate : (front body content new bytes : List ℕ) (at : ℕ) → length front ≡ at → IsClosedAfter front content → bytes ≡ open_value ∷ (body ++ 0 ∷ []) → ChangesOnly (range_of at bytes ∷ []) content new → slice_range new at (at + length bytes) ≡ bytes
     → IsClosedAfter (front ++ open_value ∷ body) new
 over_gate front body content new bytes at len holds is changes put =

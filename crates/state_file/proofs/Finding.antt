@@ -23,11 +23,9 @@ use Rattle.state_file.specs.FileStore.{synced_left}
 -- ---- calls that only read
 
 module _ {D : Type 0} (state : D → DiskState) (moment : D → ℕ) (left_since : D → ℕ → List ℕ → Type 0) where
-  -- no call
   pub reads_none : (old : D) → ((c : List ℕ) → left_since old (moment old) c → MayLeave (state old) c) → OnlyReads state moment left_since old old
   reads_none old only = record { stays = refl; leaves = started moment left_since old (MayLeave (state old)) only }
 
-  -- one call
   pub reads_one : (old new : D) → ((c : List ℕ) → left_since old (moment old) c → MayLeave (state old) c) → state new ≡ state old
       → Elapses (moment old) (moment new) (left_since old) (left_since new) (MayLeave (state new)) → OnlyReads state moment left_since old new
   reads_one old new only stays time = record {
@@ -36,7 +34,6 @@ module _ {D : Type 0} (state : D → DiskState) (moment : D → ℕ) (left_since
         (λ c left. subst (λ (s : DiskState). MayLeave s c) stays left);
   }
 
-  -- a run, and one more
   pub reads_on : (old mid new : D) → OnlyReads state moment left_since old mid → OnlyReads state moment left_since mid new → OnlyReads state moment left_since old new
   reads_on old mid new first second = record {
     stays = second.stays ∙ first.stays;
@@ -65,11 +62,9 @@ gate_closed content k within other = closed_gate content k within (λ is_open. t
 
 -- ---- slots
 
--- a slot that was read is whole
 pub has_whole : (version : Version) (content : List ℕ) (k : ℕ) (entry : Record) (tag : List ℕ) → IsOpen content k → HasSlot version content k entry tag → IsWhole version content k
 has_whole version content k entry tag opened slot = record { opened = opened; few = slot.few; ends = slot.ends; entry = entry; holds = slot.holds }
 
--- its bytes spell a record
 pub slot_found : (version : Version) (content previous fields tag : List ℕ) (k : ℕ) (entry : Record) → k < most_records → 256 * (k + 1) < length content → previous ≡ previous_tag content k → fields ≡ fields_at content k → tag ≡ tag_at content k
     → Spells (slot_record version) entry fields → tag ≡ tag_of previous fields → HasSlot version content k entry tag
 slot_found version content previous fields tag k entry few ends before fields_are tag_is spelled tagged = record {
@@ -82,14 +77,12 @@ slot_found version content previous fields tag k entry few ends before fields_ar
   tagged = tag_is;
 }
 
--- the record that was read
 pub holds_entry : (version : Version) (content : List ℕ) (k : ℕ) (found : Option Record) (entry : Record) → HasEntry version content k found → found ≡ Some entry → Holds version content k entry
 holds_entry version content k found entry has is = subst (HasEntry version content k) is has
 
 pub holds_none : (version : Version) (content : List ℕ) (k : ℕ) (found : Option Record) → HasEntry version content k found → found ≡ None → (entry : Record) → Holds version content k entry → ⊥
 holds_none version content k found has is = subst (HasEntry version content k) is has
 
--- a slot whose bytes spell none isn't whole
 pub slot_damaged : (version : Version) (content previous fields tag : List ℕ) (k : ℕ) → previous ≡ previous_tag content k → fields ≡ fields_at content k → tag ≡ tag_at content k
     → ((entry : Record) → Spells (slot_record version) entry fields → tag ≡ tag_of previous fields → ⊥) → IsWhole version content k → ⊥
 slot_damaged version content previous fields tag k before fields_are tag_is none whole =
@@ -151,7 +144,6 @@ the_first : (records : List Record) (key : Record) → slice_get records 0 ≡ S
 the_first [] key is = absurd cc
 the_first (entry ∷ rest) key is = (rest, let same : entry ≡ key = cc in ap (λ e. e ∷ rest) same)
 
--- spelled records are a file's
 pub spelled_file : (records : List Record) (content : List ℕ) → SpellsRecords content records → IsFileOf records content
 spelled_file records content is =
     let within : 256 * length records < length content = is.closed.0 in
@@ -173,7 +165,6 @@ spelled_file records content is =
     missing [] k below past = omega (arith, below)
     missing (entry ∷ rest) k below past = let clash = sym (slice_get-get_or (entry ∷ rest) k entry below) ∙ past in cc
 
--- found records are kept
 pub found_kept : (version : Version) (records : List Record) (tag content : List ℕ) (after : DiskState) → after ≡ settled content → IsFound version content records tag → IsSyncedFile records tag after
 found_kept version records tag content after same found = subst (IsSyncedFile records tag) (sym same) (record {
   synced = refl;
@@ -186,7 +177,6 @@ found_kept version records tag content after same found = subst (IsSyncedFile re
 pub fault_reported : {A : Type 0} (P : OpenFault → Type 0) (result : Result A OpenFault) (fault : OpenFault) → result ≡ Err fault → P fault → IfErr result P
 fault_reported P result fault is reported = subst (λ (r : Result _ OpenFault). IfErr r P) (sym is) reported
 
--- the next gate is in the content
 pub gate_within : (version : Version) (first now : DiskState) (count : ℕ) (records : List Record) (tag : List ℕ) → now ≡ first → count ≡ length records → BeginsFound version first.content count records tag → 256 * count < length now.content
 gate_within version first now count records tag same counted found = subst (λ (s : DiskState). 256 * count < length s.content) (sym same) (omega (arith, found.begins.ends, counted))
 

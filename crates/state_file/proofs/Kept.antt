@@ -22,7 +22,6 @@ pub version_stays : (records more : List Record) → 0 < length records → vers
 version_stays [] more some = absurd (omega (arith, some))
 version_stays (entry ∷ rest) more some = refl
 
--- contents with the same beginning have the same parts in it
 same_part : (m n w : ℕ) (c content : List ℕ) → take m c ≡ take m content → n + w ≤ m → take w (drop n c) ≡ take w (drop n content)
 same_part m n w c content same fits =
     sym (drop-take n w c) ∙ ap (λ (l : List ℕ). drop n l) (sym (take-take (n + w) m c fits) ∙ ap (λ (l : List ℕ). take (n + w) l) same ∙ take-take (n + w) m content fits) ∙ drop-take n w content
@@ -34,7 +33,6 @@ same_previous : (m : ℕ) (c content : List ℕ) (k : ℕ) → take m c ≡ take
 same_previous m c content zero same fits = refl
 same_previous m c content (suc k) same fits = same_part m (256 * k + 224) 32 c content same (omega arith)
 
--- a file is closed after its slots
 pub file_ends : (records : List Record) (content : List ℕ) → IsFileOf records content → IsClosedAfter (take (256 * length records) content) content
 file_ends records content file =
     let n = 256 * length records in
@@ -140,7 +138,6 @@ module _ (records : List Record) (content c : List ℕ) (entry : Record) (fields
   count : length (records ++ entry ∷ []) ≡ length records + 1
   count = length_push records entry
 
-  -- an old slot, or the new one
   old_or_new : (k : ℕ) → k < length (records ++ entry ∷ []) → (k < length records) ⊎ (k ≡ length records)
   old_or_new k below = elim (cases_lt k (length records)) [ inl old ↦ inl old | inr new ↦ inr (omega (arith, count)) ]
 
@@ -202,17 +199,14 @@ module _ (records : List Record) (content c : List ℕ) (entry : Record) (fields
   pub file_last : previous_tag c (length (records ++ entry ∷ [])) ≡ tag
   file_last = ap (λ m. previous_tag c m) (count ∙ add-one (length records)) ∙ last_tag
 
--- a list with a Key in front keeps it
 pub follows_key : (records : List Record) (entry : Record) → begins_with_key records ≡ true → CanFollow records entry → begins_with_key (records ++ entry ∷ []) ≡ true
 follows_key [] entry keyed first = first
 follows_key (one ∷ rest) entry keyed first = keyed
 
--- a record is read from its own bytes
 pub read_record : (version : Version) (entry : Record) (fields : List ℕ) → length fields ≡ 223 → Spells (slot_record version) entry fields → read (slot_record version) fields 0 ≡ Ok (entry, 223)
 read_record version entry fields len spelled =
     spelled-read (slot_record version) entry fields [] fields 0 (omega arith) (sym (append-nil fields)) spelled ∙ ap (λ (m : ℕ). Ok (entry, m)) (let end : 0 + length fields ≡ 223 = omega arith in end)
 
--- the disk of a kept file is at rest after its slots
 pub kept_rests : (records : List Record) (tag : List ℕ) (state : DiskState) → IsSyncedFile records tag state → IsAtRest (take (256 * length records) state.content) state
 kept_rests records tag state kept = record { synced = kept.synced; ends = file_ends records state.content kept.file }
 
@@ -261,7 +255,6 @@ appended_leaves moment left_since old new records last state count entry fields 
     (added_leaves records last state count entry fields tag (fields ++ tag) counted room key fields_len tag_len refl spelled tagged kept)
     (leaves (take (256 * length records) state.content) (kept_rests records last state kept) (kept_size records last state count kept counted))
 
--- slot k of a kept file holds record k
 pub kept_holds : (records : List Record) (tag : List ℕ) (state : DiskState) (k : ℕ) → IsSyncedFile records tag state → k < length records → (entry : Record) × (slice_get records k ≡ Some entry) × Holds (version_in records) state.content k entry
 kept_holds [] tag state k kept below = absurd (omega arith)
 kept_holds (first ∷ rest) tag state k kept below =

@@ -9,7 +9,6 @@ use Rattle.state_file.specs.declared.record.Record.TheVariants.{Key as KeyRecord
 use Rattle.state_file.specs.declared.record.Secret.{Secret}
 use Rattle.state_file.specs.Laws.{Fits, IsCurrent, IsLastExtend, IsLegal, Names, bottom_of}
 
--- one Extend is the last
 one_last : (records : List Record) (k level i j : ℕ) → IsLastExtend records k level i → IsLastExtend records k level j → i ≡ j
 one_last records k level i j a b =
     elim (cases_order i j) [
@@ -18,7 +17,6 @@ one_last records k level i j a b =
       | inr (inr above) ↦ absurd (b.last i a.extend above a.before a.stands a.of_level)
     ]
 
--- a level has at most one current tree
 pub one_current : (records : List Record) (k level a b : ℕ) → IsCurrent records k level a → IsCurrent records k level b → a ≡ b
 one_current records k zero a b first second = first ∙ sym second
 one_current records k (suc level) a b first second = one_last records k (suc level) a b first.0 second.0
@@ -30,7 +28,6 @@ get-front [] ys k below = absurd (omega (arith, below))
 get-front (x ∷ xs) ys zero below = refl
 get-front (x ∷ xs) ys (suc k) below = get-front xs ys k (omega (arith, below))
 
--- an item of the front is one of the whole list
 got : {A : Type 0} (xs ys : List A) (k : ℕ) (x : A) → slice_get xs k ≡ Some x → slice_get (xs ++ ys) k ≡ Some x
 got xs ys k x is = get-front xs ys k (slice_get_within xs k x is) ∙ is
 
@@ -82,7 +79,6 @@ fits-front key xs ys k (Retire upto) within ((tree, current), inside) =
     ((tree, current-front xs ys k (bottom_of key.secret) tree (omega (arith, within)) current), inside)
 fits-front key xs ys k Moved within (one, is) = (one, omega (arith, within, is, length-append xs ys))
 
--- a beginning of a legal list is legal
 pub legal_beginning : (xs ys : List Record) → 0 < length xs → IsLegal (xs ++ ys) → IsLegal xs
 legal_beginning xs ys some legal =
     let inside : (k : ℕ) (entry : Record) → slice_get xs k ≡ Some entry → k ≤ length xs = λ k entry is. omega (arith, slice_get_within xs k entry is) in record {

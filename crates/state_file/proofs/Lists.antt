@@ -34,7 +34,6 @@ module _ {S D : Type 0} (disk_of : S → D) (moment : D → ℕ) (left_since : D
     before = λ t list early left. ⊎_elim (λ was. inl (left.0, was, left.2)) (λ now. inr (⊎_elim (λ e. e) (λ e. e) (one_of_two a a list left.0 (inl now) left.2))) (leaves.before t left.0 early left.1);
   }
 
--- calls that only read
 pub reads_leave : {D : Type 0} (state : D → DiskState) (moment : D → ℕ) (left_since : D → ℕ → List ℕ → Type 0) (old new : D) (records : List Record) (tag : List ℕ) → IsSyncedFile records tag (state old)
     → OnlyReads state moment left_since old new → LeavesOnly moment left_since old new (StandsFor records)
 reads_leave state moment left_since old new records tag kept reads =

@@ -68,7 +68,6 @@ opens first log log_new at bytes old new overlaid is = record {
   same_base = ap (base_of first) (ap reverse is ∙ newest_first log (Wrote at (at + length bytes)));
 }
 
--- a part of a range is in the range
 widened : (at n : ℕ) (bytes old new : List ℕ) → ChangesOnly (range_of at (take n bytes) ∷ []) old new → ChangesOnly (range_of at bytes ∷ []) old new
 widened at n bytes old new changes =
     let part : length (take n bytes) ≡ min n (length bytes) = length-take n bytes in
@@ -87,11 +86,9 @@ left_more first log log_new at n bytes old new left overlaid is =
     subst (λ (l : List Entry). ChangesOnly (ranges_of l) (base_of first l) new) (sym e)
     (changes_more (range_of at bytes) (ranges_of (reverse log)) (base_of first (reverse log)) old new left changes)
 
--- a part of bytes is bytes
 part_is_bytes : (n : ℕ) (bytes : List ℕ) → AreBytes bytes → AreBytes (take n bytes)
 part_is_bytes n bytes are = AreBytes-front (take n bytes) (drop n bytes) (subst AreBytes (sym (take-append-drop n bytes)) are)
 
--- bytes over bytes are bytes
 overlay_is_bytes : (at : ℕ) (bytes old new : List ℕ) → AreBytes bytes → AreBytes old → Overlays at bytes old new → AreBytes new
 overlay_is_bytes at bytes old new are were overlaid i =
     elim (cases_lt i (length new)) [
@@ -109,6 +106,5 @@ overlay_is_bytes at bytes old new are were overlaid i =
       ]
     ]
 
--- also if they are written in part
 pub part_overlay_is_bytes : (at n : ℕ) (bytes old new : List ℕ) → AreBytes bytes → AreBytes old → Overlays at (take n bytes) old new → AreBytes new
 part_overlay_is_bytes at n bytes old new are = overlay_is_bytes at (take n bytes) old new (part_is_bytes n bytes are)

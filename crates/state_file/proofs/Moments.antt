@@ -16,7 +16,6 @@ module _ {D C : Type 0} (moment : D → ℕ) (left_since : D → ℕ → C → T
     before = λ t c early left. ⊎_elim (so_far.before t c early) (λ now. inr (here c now)) (time.nothing_else t c (omega (arith, early, so_far.later)) left);
   }
 
-  -- a weaker P
   pub weaker : (old new : D) (P Q : C → Type 0) → ((c : C) → P c → Q c) → LeavesOnly moment left_since old new P → LeavesOnly moment left_since old new Q
   weaker old new P Q implies leaves = record {
     later = leaves.later;

@@ -11,7 +11,6 @@ use Rattle.state_file.specs.Place.{IsFreePlace}
 use Rattle.state_file.specs.declared.record.Record.{Record}
 use Rattle.state_file.specs.declared.record.Record.TheVariants.{Key as KeyRecord, Extend, Bound, Retire, Moved}
 
--- `with_moved` ends with a Moved
 pub ends_moved : (records : List Record) → has_moved (with_moved records) ≡ true
 ends_moved records = elim (has_moved records) as (λ (is : Bool). has_moved records ≡ is → has_moved (if is then records else records ++ Moved ∷ []) ≡ true) [
   | true ↦ λ is. is
@@ -33,18 +32,15 @@ spelled_stands : (records : List Record) (content : List ℕ) → SpellsRecords 
 spelled_stands [] content spelled = absurd (let is = spelled.first.1 in cc)
 spelled_stands (entry ∷ entries) content spelled = spelled
 
--- a content that stands for such a list can't sign
 pub moved_signs_nothing : (records : List Record) (content : List ℕ) → has_moved records ≡ true → StandsFor records content → CanSign content → ⊥
 moved_signs_nothing records content moved stands can =
     let same : can.records ≡ records = stands_one can.records records content (spelled_stands can.records content can.spelled) stands in
     can.stays (last_moved can.records (ap has_moved same ∙ moved))
 
--- such a list has records, and a content that stands for it spells them
 pub moved_spelled : (records : List Record) (content : List ℕ) → has_moved records ≡ true → StandsFor records content → SpellsRecords content records
 moved_spelled [] content moved stands = absurd (let is : false ≡ true = moved in cc)
 moved_spelled (entry ∷ entries) content moved stands = stands
 
--- a crash on a free place leaves no key
 pub free_leaves : (short : Bool) (state : DiskState) (c : List ℕ) → IsFreePlace short state → MayLeave state c → HasNoKey c
 free_leaves short state c free left =
     let same : c ≡ state.content = synced_left state.content c (subst (λ (s : DiskState). MayLeave s c) free.synced left) in

@@ -44,7 +44,6 @@ one_way-byte_within least most =
     one_way-bind byte (λ n. only_if (nat_le least n && nat_le n most) 1 n) (λ n. n) one_way-byte
     (λ n. one_way-only_if (nat_le least n && nat_le n most) 1 n) (λ n. shows-only_if (nat_le least n && nat_le n most) 1 n (λ m. m))
 
--- zeros of one length are one list
 same_zeros : (a b : List ℕ) → length a ≡ length b → list_all (λ x. x == 0) a ≡ true → list_all (λ x. x == 0) b ≡ true → a ≡ b
 same_zeros [] [] len _ _ = refl
 same_zeros [] (y ∷ b) len _ _ = absurd (omega (arith, len))
@@ -321,7 +320,6 @@ way-secret version secret =
     way-bind (zeros 2) _ (λ _. tt) _ (one_way-zeros 2) (λ rest.
     way-done _ _ (refl, (refl, refl))))
 
--- a Key's secret is of its scheme
 way-scheme : (version : Version) (scheme : ℕ) → Way (after_scheme version scheme) (λ entry. scheme_of (secret_in entry) ≡ scheme)
 unfolding after_scheme
 way-scheme version scheme = record {

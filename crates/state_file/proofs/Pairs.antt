@@ -11,7 +11,6 @@ use Rattle.state_file.specs.Slot.{pair_field, pairs}
 abbrev rest_of : ℕ → LmsPair → Layout (List LmsPair)
 rest_of n first = pairs n >>= λ rest. done (first ∷ rest)
 
--- what follows a pair
 pub pairs-next : (n : ℕ) (bytes : List ℕ) (place next : ℕ) (before : List LmsPair) (pair : LmsPair) → read pair_field bytes place ≡ Ok (pair, next)
     → and_then (read (pairs (suc n)) bytes place) (λ rest. Ok (before ++ rest.0, rest.1)) ≡ and_then (read (pairs n) bytes next) (λ rest. Ok ((before ++ pair ∷ []) ++ rest.0, rest.1))
 unfolding pairs
@@ -24,7 +23,6 @@ pairs-next n bytes place next before pair found =
     combined (Ok x) = ap (λ all. Ok (all, x.1)) (sym (append_assoc before (pair ∷ []) x.0))
     combined (Err fault) = refl
 
--- a fault of a pair is the whole's
 pub pairs-fault : (n : ℕ) (bytes : List ℕ) (place : ℕ) (before : List LmsPair) (fault : ReadFault) → read pair_field bytes place ≡ Err fault
     → and_then (read (pairs (suc n)) bytes place) (λ rest. Ok (before ++ rest.0, rest.1)) ≡ Err fault
 unfolding pairs
@@ -32,7 +30,6 @@ pairs-fault n bytes place before fault found =
     ap (λ all. and_then all (λ rest. Ok (before ++ rest.0, rest.1)))
     (read-bind pair_field (rest_of n) bytes place ∙ ap (λ first. and_then first (λ x. read (rest_of n x.0) bytes x.1)) found)
 
--- the same, by how many pairs were read
 pub pairs-next_of : (count i : ℕ) (bytes : List ℕ) (place next : ℕ) (before : List LmsPair) (pair : LmsPair) → i < count → read pair_field bytes place ≡ Ok (pair, next)
     → and_then (read (pairs (count - i)) bytes place) (λ rest. Ok (before ++ rest.0, rest.1)) ≡ and_then (read (pairs (count - (i + 1))) bytes next) (λ rest. Ok ((before ++ pair ∷ []) ++ rest.0, rest.1))
 pairs-next_of count i bytes place next before pair more found =
@@ -45,7 +42,6 @@ pairs-fault_of count i bytes place before fault more found =
     let left : count - i ≡ suc (count - (i + 1)) = omega arith in
     ap (λ n. and_then (read (pairs n) bytes place) (λ rest. Ok (before ++ rest.0, rest.1))) left ∙ pairs-fault (count - (i + 1)) bytes place before fault found
 
--- all were read
 pub pairs-all_of : (count i : ℕ) (bytes : List ℕ) (place : ℕ) (before : List LmsPair) → count ≤ i
     → and_then (read (pairs (count - i)) bytes place) (λ rest. Ok (before ++ rest.0, rest.1)) ≡ Ok (before, place)
 unfolding pairs
@@ -53,7 +49,6 @@ pairs-all_of count i bytes place before all =
     let left : count - i ≡ 0 = omega arith in
     ap (λ n. and_then (read (pairs n) bytes place) (λ rest. Ok (before ++ rest.0, rest.1))) left ∙ ap (λ all. Ok (all, place)) (append-nil before)
 
--- a call that answers the fault gives what reading gives
 pub gives-fault : {V X : Type 0} (view : X → V) (result : Result X ReadFault) (reading : Result V ReadFault) (fault : ReadFault) → result ≡ Err fault → reading ≡ Err fault → Gives view result reading
 gives-fault view (Ok x) reading fault is faulty = absurd (cc)
 gives-fault view (Err other) reading fault is faulty = let same : other ≡ fault = cc in faulty ∙ ap Err (sym same)

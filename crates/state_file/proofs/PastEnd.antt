@@ -15,7 +15,6 @@ kept_within (Err PastEnd) end len before after counts past within = absurd (let 
 pub still_within : (n : ℕ) (old new : DiskState) → new ≡ old → n ≤ length old.content → n ≤ length new.content
 still_within n old new same within = subst (λ (s : DiskState). n ≤ length s.content) (sym same) within
 
--- the bytes that were read, as a part of the content
 pub range_taken : (content bytes : List ℕ) (at from len size : ℕ) → at ≡ from → len ≡ size → bytes ≡ slice_range content at (at + len) → bytes ≡ take size (drop from content)
 range_taken content bytes at from len size offset width is =
     let count : at + len - at ≡ size = omega arith in is ∙ ap (λ n. take n (drop at content)) count ∙ ap (λ n. take size (drop n content)) offset

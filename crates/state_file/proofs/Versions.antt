@@ -7,7 +7,6 @@ use Rattle.state_file.specs.declared.record.Version.TheVariants.{One, Two}
 use Rattle.state_file.specs.Slot.{FitsVersion, version_code, version_in}
 use Rattle.state_file.specs.Store.{CanFollow}
 
--- a code names one version
 pub one_code : (a b : Version) → version_code a ≡ version_code b → a ≡ b
 one_code One One same = refl
 one_code One Two same = absurd (omega (arith, same))

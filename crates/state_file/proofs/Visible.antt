@@ -10,14 +10,12 @@ use Rattle.state_file.specs.Slot.{are_visible}
 visible_test : ℕ → Bool
 visible_test b = nat_le 0x21 b && nat_le b 0x7e
 
--- a name is visible
 pub visible-name : (bytes : List ℕ) → IsName bytes → are_visible bytes ≡ true
 visible-name bytes name =
     list_all-from_AllPass (λ b. nat_le 0x21 b && nat_le b 0x7e) bytes (λ k d within.
     let (low, high) = name.visible k d within in
     and_from _ _ (le-leb _ _ low) (le-leb _ _ high))
 
--- 1 to 128 visible characters are a name
 pub name-visible : (bytes : List ℕ) → 1 ≤ length bytes → length bytes ≤ 128 → are_visible bytes ≡ true → IsName bytes
 name-visible bytes some few visible = record {
   some = some;
@@ -27,7 +25,6 @@ name-visible bytes some few visible = record {
       (leb-true _ _ low, leb-true _ _ high);
 }
 
--- so bytes make a name exactly if they are visible
 pub visible_or_not : {E : Type 0} (bytes : List ℕ) (made : Result (List ℕ) E) → 1 ≤ length bytes → length bytes ≤ 128 → (IsOk made ↔ IsName bytes) → IfOk made (λ name. name ≡ bytes)
     → MatchOption (result_ok made) (are_visible bytes ≡ false) (λ name. (are_visible bytes ≡ true) × (name ≡ bytes))
 visible_or_not bytes (Ok name) some few reported same = (visible-name bytes (reported.0 refl), same)

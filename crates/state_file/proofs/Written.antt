@@ -23,11 +23,9 @@ use Rattle.state_file.proofs.Visible.{visible-name}
 use Rattle.state_file.specs.Slot.{are_visible, byte, byte_within, exactly, name_field, only_if, pair_field, pairs, version_code, version_field, zeros}
 use Rattle.state_file.specs.Fields.{AppendsSpelling}
 
--- nothing more
 pub writes-done : {V : Type 0} (v : V) (at : List ℕ) → AppendsSpelling (done v) v at at
 writes-done v at = record { part = []; after = sym (append-nil at); spelled = (refl, refl) }
 
--- a field, and what follows it
 pub writes-bind : {A B : Type 0} (first : Layout A) (next : A → Layout B) (v : A) (w : B) (a b c : List ℕ) → AppendsSpelling first v a b → AppendsSpelling (next v) w b c → AppendsSpelling (first >>= next) w a c
 writes-bind first next v w a b c x y = record {
   part = x.part ++ y.part;
@@ -35,20 +33,17 @@ writes-bind first next v w a b c x y = record {
   spelled = from_turn first next v w x.part y.part x.spelled y.spelled;
 }
 
--- a type, by its code
 pub writes-typed : {T : Type 0} (code : T → ℕ) (types : List T) (t : T) (a b : List ℕ) → named code types (code t) ≡ Some t → AppendsSpelling number (code t) a b → AppendsSpelling (typed code types) t a b
 writes-typed code types t a b is x =
     writes-bind number (λ c. known (named code types c)) (code t) t a b b x
     (let P : Option _ → Type 0 = λ found. AppendsSpelling (known found) t b b in subst P (sym is) (writes-done t b))
 
--- a block that passes its test
 pub spells-only_if : {V : Type 0} (n : ℕ) (test : List ℕ → Bool) (value : List ℕ → V) (bytes : List ℕ) → length bytes ≡ n → test bytes ≡ true
     → Spells (block n >>= λ b. only_if (test b) n (value b)) (value bytes) bytes
 spells-only_if n test value bytes len passes =
     let P : Bool → Type 0 = λ t. Spells (only_if t n (value bytes)) (value bytes) [] in
     (bytes, [], sym (append-nil bytes), len, subst P (sym passes) (refl, refl))
 
--- zeros are zero
 zeros-zero : (n m : ℕ) → list_all (λ b. b == 0) (take n (replicate m 0)) ≡ true
 zeros-zero zero m = refl
 zeros-zero (suc n) zero = refl
@@ -67,7 +62,6 @@ writes-zeros n m old new few is = record {
   spelled = spells-only_if n (λ bytes. list_all (λ b. b == 0) bytes) (λ _. tt) (take n (replicate m 0)) (zeros-length n m few) (zeros-zero n m);
 }
 
--- expected bytes
 pub writes-exactly : (bytes old new : List ℕ) → new ≡ old ++ bytes → AppendsSpelling (exactly (length bytes) bytes) tt old new
 unfolding exactly
 writes-exactly bytes old new is = record {
@@ -76,7 +70,6 @@ writes-exactly bytes old new is = record {
   spelled = spells-only_if (length bytes) (λ read. pointwise (λ a b. a == b) read bytes) (λ _. tt) bytes refl ((bytes_decides bytes bytes).1 refl);
 }
 
--- a byte
 pub writes-byte : (n : ℕ) (old new : List ℕ) → new ≡ old ++ n ∷ [] → AppendsSpelling byte n old new
 unfolding byte
 writes-byte n old new is = record {
@@ -85,7 +78,6 @@ writes-byte n old new is = record {
   spelled = (n ∷ [], [], refl, refl, (omega arith, refl));
 }
 
--- a value that passes its test, once its bytes are written
 pub writes-only_if : {V : Type 0} (test : Bool) (n : ℕ) (v : V) (at : List ℕ) → test ≡ true → AppendsSpelling (only_if test n v) v at at
 writes-only_if test n v at passes = let P : Bool → Type 0 = λ t. AppendsSpelling (only_if t n v) v at at in subst P (sym passes) (writes-done v at)
 
@@ -95,14 +87,12 @@ writes-byte_within least most n old new low high written =
     writes-bind byte (λ m. only_if (nat_le least m && nat_le m most) 1 m) n n old new new written
     (writes-only_if (nat_le least n && nat_le n most) 1 n new (and_from _ _ (le-leb _ _ low) (le-leb _ _ high)))
 
--- a version
 pub writes-version : (version : Version) (old new : List ℕ) → new ≡ old ++ big_bytes 2 (version_code version) → AppendsSpelling (version_field version) tt old new
 unfolding version_field
 writes-version version old new is =
     let len : length (big_bytes 2 (version_code version)) ≡ 2 = refl in
     subst (λ n. AppendsSpelling (exactly n (big_bytes 2 (version_code version))) tt old new) len (writes-exactly (big_bytes 2 (version_code version)) old new is)
 
--- the types of the tables
 pub writes-lms_type : (t : LmsType) (old new : List ℕ) → AppendsSpelling number (lms_code t) old new → AppendsSpelling lms_type t old new
 unfolding lms_type
 writes-lms_type t old new written =
@@ -121,7 +111,6 @@ writes-xmss_type t old new written =
     let P : XmssType → Type 0 = λ t. xmss_of_code (xmss_code t) ≡ Some t in
     writes-typed xmss_code xmss_types t old new (elim t as P [ X10 ↦ refl | X16 ↦ refl | X20 ↦ refl ]) written
 
--- one pair more
 pairs-snoc : (n : ℕ) (xs : List LmsPair) (pair : LmsPair) (a b : List ℕ) → Spells (pairs n) xs a → Spells pair_field pair b → Spells (pairs (suc n)) (xs ++ pair ∷ []) (a ++ b)
 unfolding pairs
 pairs-snoc zero xs pair a b spelled last =
@@ -145,17 +134,14 @@ writes-snoc n xs pair a b c x y = record {
   spelled = pairs-snoc n xs pair x.part y.part x.spelled y.spelled;
 }
 
--- the next of all pairs
 pub writes-next : (all : List LmsPair) (i : ℕ) (d : LmsPair) (a b c : List ℕ) → i < length all → AppendsSpelling (pairs i) (take i all) a b → AppendsSpelling pair_field (get_or all i d) b c → AppendsSpelling (pairs (i + 1)) (take (i + 1) all) a c
 writes-next all i d a b c within x y =
     subst (λ (p : ℕ × List LmsPair). AppendsSpelling (pairs p.0) p.1 a c) (λ j. (sym (add-one i) j, sym (take_more all i d within) j)) (writes-snoc i (take i all) (get_or all i d) a b c x y)
 
--- no pair
 pub writes-none : (at : List ℕ) → AppendsSpelling (pairs 0) [] at at
 unfolding pairs
 writes-none at = writes-done [] at
 
--- a name
 pub writes-name : (most : ℕ) (name : List ℕ) (old a b c : List ℕ) → IsName name → AppendsSpelling (byte_within 1 most) (length name) old a → b ≡ a ++ name → AppendsSpelling (zeros (most - length name)) tt b c → AppendsSpelling (name_field most) name old c
 unfolding name_field
 writes-name most name old a b c is count bytes rest =

@@ -13,7 +13,6 @@ pub record Range : Type 0 where
 abbrev pub range_of : ℕ → List ℕ → Range
 range_of at bytes = record { from = at; to = at + length bytes }
 
--- the offset is in none of the ranges
 abbrev pub IsOutside : ℕ → List Range → Type 0
 IsOutside offset [] = Unit {0}
 IsOutside offset (range ∷ ranges) = ((offset < range.from) ⊎ (range.to ≤ offset)) × IsOutside offset ranges
@@ -73,7 +72,6 @@ abbrev pub Counts : {A E : Type 0} (is_counted : E → Bool) (before after : ℕ
 Counts is_counted before after (Ok _) = after ≡ before
 Counts is_counted before after (Err fault) = after ≡ (if is_counted fault then before + 1 else before)
 
--- Each refusal of a disk is a failure.
 abbrev pub is_failure : DiskFault → Bool
 is_failure fault = true
 

@@ -9,7 +9,6 @@ pub record Advances {X E : Type 0} (n : ℕ) (result : Result X E) (old new : Cu
   pub len : OnOk result (new.place ≡ old.place + n)
   pub bytes : new.bytes ≡ old.bytes
 
--- the value's spelling was appended
 pub record AppendsSpelling {V : Type 0} (layout : Layout V) (value : V) (old new : List ℕ) : Type 0 where
   pub part : List ℕ
   pub after : new ≡ old ++ part

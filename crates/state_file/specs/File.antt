@@ -24,7 +24,6 @@ use Rattle.state_file.specs.Store.{begins_with_key}
 abbrev pub gate : List ℕ → ℕ → Option ℕ
 gate content k = slice_get content (256 * k)
 
--- the value of an open gate
 abbrev pub open_value : ℕ
 open_value = 0xA5
 
@@ -105,7 +104,6 @@ pub record IsNoKeyFile (content : List ℕ) : Type 0 where
   pub may : MayHaveKey content
   pub other : begins_key (fields_at content 0) ≡ false
 
--- The first slot holds a Key of an unknown version.
 pub record HasUnknownVersion (content : List ℕ) : Type 0 where
   pub may : MayHaveKey content
   pub key : begins_key (fields_at content 0) ≡ true

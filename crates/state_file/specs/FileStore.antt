@@ -26,11 +26,9 @@ use Rattle.state_file.specs.declared.file.opening.OpenFault.{OpenFault}
 use Rattle.state_file.specs.declared.record.Key.{Key}
 use Rattle.state_file.specs.declared.record.Record.TheVariants.{Key as KeyRecord, Extend, Bound, Retire, Moved}
 
--- its disk
 abbrev pub disk_of : {D : Type 0} {bound : _} → FileStore D bound → D
 disk_of store = store.disk
 
--- its records
 abbrev pub records_of : {D : Type 0} {bound : _} → FileStore D bound → List Record
 records_of store = store.records
 
@@ -38,7 +36,6 @@ records_of store = store.records
 abbrev pub has_stopped : {D : Type 0} {bound : _} → FileStore D bound → Bool
 has_stopped store = store.stopped
 
--- `WhileRunning`, for a store over a disk.
 abbrev pub WhileStoreRuns : {D : Type 0} {bound : _} (d : disk.Ghosts D) (store : FileStore D bound) → Type 0 → Type 0
 WhileStoreRuns d store Then = WhileRunning (d.honest (disk_of store)) (has_stopped store) Then
 
@@ -108,11 +105,9 @@ pub fields_length : (content : List ℕ) (k : ℕ) → 256 * (k + 1) ≤ length 
 fields_length content k fits =
     length-take-le 223 (drop (256 * k + 1) content) (omega (arith, length-drop (256 * k + 1) content))
 
--- an open gate has the open value
 pub open_byte : (content : List ℕ) (k : ℕ) → IsOpen content k → slice_index content (256 * k) ≡ open_value
 open_byte content k is_open = get_or_from_slice_get content (256 * k) open_value 0 is_open
 
--- and a gate with this value is open
 pub open_by_byte : (content : List ℕ) (k : ℕ) → 256 * k < length content → slice_index content (256 * k) ≡ open_value
     → IsOpen content k
 open_by_byte content k within is = slice_get-get_or content (256 * k) 0 within ∙ ap Some is
@@ -128,7 +123,6 @@ the_key (Bound bound) is = absurd cc
 the_key (Retire upto) is = absurd cc
 the_key Moved is = absurd cc
 
--- a file stands for its records
 pub file_stands : (records : List Record) (content : List ℕ) → IsFileOf records content → StandsFor records content
 file_stands [] content file = inr file.closed
 file_stands (entry ∷ entries) content file = record {
@@ -150,11 +144,9 @@ pub kept_stands : (records : List Record) (tag : List ℕ) (state : DiskState) �
     → StandsFor records state.content
 kept_stands records tag state kept = file_stands records state.content kept.file
 
--- no gate is both open and closed
 pub not_both : (content : List ℕ) (k : ℕ) → IsOpen content k → IsClosed content k → ⊥
 not_both content k is_open shut = shut.1 (open_byte content k is_open)
 
--- a content's version is its first slot's
 spells_version : (a b : List Record) (content : List ℕ) → SpellsRecords content a → SpellsRecords content b
     → version_in a ≡ version_in b
 spells_version a b content first second =
@@ -183,7 +175,6 @@ no_key_spells content entry entries none spells =
     (λ shut. not_both content 0 (spells.opened 0 (omega arith)) shut)
     none
 
--- a content stands for one list
 pub stands_one : (a b : List Record) (content : List ℕ) → StandsFor a content → StandsFor b content → a ≡ b
 stands_one [] [] content first second = refl
 stands_one [] (b ∷ bs) content first second = absurd (no_key_spells content b bs first second)
@@ -198,14 +189,12 @@ one_of_two a b list content (inr stands) (inl one) = inr (stands_one list b cont
 one_of_two a b list content (inl stands) (inr none) = absurd (none a stands)
 one_of_two a b list content (inr stands) (inr none) = absurd (none b stands)
 
--- a crash leaves synced content
 pub synced_left : (content c : List ℕ) → MayLeave (settled content) c → c ≡ content
 synced_left content c changes =
     same_lists c content (omega (arith, changes.no_shorter, changes.no_longer)) (λ k d inside.
     get_or_default c k d 0 inside ∙ changes.kept k (omega (arith, changes.no_shorter, changes.no_longer)) tt
     ∙ get_or_default content k 0 d (omega (arith, changes.no_shorter, changes.no_longer)))
 
--- so it leaves the kept records
 pub kept_leaves : (records : List Record) (tag : List ℕ) (state : DiskState) (c : List ℕ)
     → IsSyncedFile records tag state → MayLeave state c → StandsFor records c
 kept_leaves records tag state c kept left =

@@ -19,7 +19,6 @@ offsets_below end = record { from = 0; to = end }
 abbrev pub after_first_gate : ℕ → Range
 after_first_gate end = record { from = 1; to = end }
 
--- each range lies in this one
 abbrev pub AreWithin : Range → List Range → Type 0
 AreWithin whole [] = Unit {0}
 AreWithin whole (range ∷ ranges) = (whole.from ≤ range.from) × (range.to ≤ whole.to) × AreWithin whole ranges

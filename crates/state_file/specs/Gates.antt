@@ -13,7 +13,6 @@ pub record IsAtRest (front : List ℕ) (state : DiskState) : Type 0 where
   pub synced : IsSynced state
   pub ends : IsClosedAfter front state.content
 
--- slot k, and the gate after it
 abbrev pub slot_and_gate : ℕ → Range
 slot_and_gate k = record { from = 256 * k; to = 256 * k + 257 }
 

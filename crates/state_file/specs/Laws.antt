@@ -27,13 +27,11 @@ levels_of (Xmss secret) = 1
 abbrev pub bottom_of : Secret → ℕ
 bottom_of secret = levels_of secret - 1
 
--- the leaves of a tree of an HSS level
 abbrev pub leaves_in : List LmsPair → ℕ → ℕ
 leaves_in [] level = 0
 leaves_in (pair ∷ rest) zero = 2 ^ height_of pair.tree
 leaves_in (pair ∷ rest) (suc level) = leaves_in rest level
 
--- the leaves of a tree of a level
 abbrev pub leaves_at : Secret → ℕ → ℕ
 leaves_at (Lms secret) level = 2 ^ height_of secret.pair.tree
 leaves_at (Hss levels identifier seed) level = leaves_in levels level
@@ -104,7 +102,6 @@ Fits key records k (Retire upto) =
     × (upto ≤ leaves_at key.secret (bottom_of key.secret))
 Fits key records k Moved = (key.version ≡ One) × (k + 1 ≡ length records)
 
--- A list is legal.
 pub record IsLegal (records : List Record) : Type 0 where
   -- it begins with a Key
   pub key : Key
@@ -129,12 +126,10 @@ pub record IsLegal (records : List Record) : Type 0 where
 
 -- ---- files that were moved
 
--- whether the record is a Moved
 abbrev pub is_moved : Option Record → Bool
 is_moved (Some Moved) = true
 is_moved _ = false
 
--- whether the last record is a Moved
 abbrev pub has_moved : List Record → Bool
 has_moved records = is_moved (slice_get records (length records - 1))
 

@@ -90,7 +90,6 @@ stop_in disk = disk.plan.stop
 abbrev pub fail_in : MemoryDisk → Option ℕ
 fail_in disk = disk.plan.fail
 
--- A call came: stop and failure are one call nearer.
 pub record PlanAfterCall (old new : MemoryDisk) : Type 0 where
   pub stop : stop_in new ≡ stop_after (stop_in old)
   pub fail : fail_in new ≡ fail_after (fail_in old)
@@ -99,11 +98,9 @@ pub record PlanAfterCall (old new : MemoryDisk) : Type 0 where
 abbrev pub next_fate : MemoryDisk → Fate
 next_fate disk = fate_of disk.plan.stop disk.plan.fail
 
--- calls that were refused
 abbrev pub failures_in : MemoryDisk → ℕ
 failures_in disk = disk.failures
 
--- those of them that were reads past the end
 abbrev pub past_ends_in : MemoryDisk → ℕ
 past_ends_in disk = disk.past_ends
 

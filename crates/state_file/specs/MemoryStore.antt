@@ -11,7 +11,6 @@ use Rattle.state_file.specs.declared.store.StoreFault.TheVariants.{DeviceFailed,
 use Rattle.std.proofs.Common.{sym, ◌∙◌, arith}
 use Rattle.std.proofs.lemmas.List.{take_all}
 
--- its records
 abbrev pub records_in : MemoryStore → List Record
 records_in store = store.records.items
 
@@ -27,11 +26,9 @@ cut_of store = store.cut
 abbrev pub is_stopped : MemoryStore → Bool
 is_stopped store = store.stopped
 
--- failures of its device
 abbrev pub failures_of : MemoryStore → ℕ
 failures_of store = store.failures
 
--- refusals of memory
 abbrev pub refusals_of : MemoryStore → ℕ
 refusals_of store = store.refusals
 
@@ -43,13 +40,11 @@ loads_in store = store.loads
 abbrev pub given_in : MemoryStore → List Record
 given_in store = store.given
 
--- Records, limit and refusals of memory stay.
 pub record KeepsRecords (old new : MemoryStore) : Type 0 where
   pub records : records_in new ≡ records_in old
   pub limit : limit_of new ≡ limit_of old
   pub refusals : refusals_of new ≡ refusals_of old
 
--- No load came.
 pub record KeepsLoads (old new : MemoryStore) : Type 0 where
   pub loads : loads_in new ≡ loads_in old
   pub given : given_in new ≡ given_in old

@@ -5,7 +5,6 @@ use Rattle.state_file.specs.declared.migration.MigrateFault.TheVariants.{Stopped
 use Rattle.state_file.specs.declared.migration.MigrateFault.TheVariants.{Version as VersionFault, Damaged, Illegal}
 use Rattle.state_file.specs.declared.migration.MigrateFault.TheVariants.{DeviceFailed, OutOfMemory, KeyThere, Full}
 
--- the number of a fault
 abbrev pub number_of : MigrateFault → ℕ
 number_of Stopped = 26
 number_of NoKey = 40

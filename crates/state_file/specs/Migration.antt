@@ -22,7 +22,6 @@ use Rattle.state_file.specs.declared.store.file_store.FileStore.{FileStore}
 
 -- ---- a place
 
--- a place's disk
 abbrev pub place_disk : {E : Type 0} {bound : _} → Place E bound → E
 place_disk place = place.disk
 
@@ -43,7 +42,6 @@ pub record ChecksPlace {E : Type 0} {bound : _} (e : disk.Ghosts E) (given : E)
 
 -- ---- a file that is sealed
 
--- the store of a sealed file
 abbrev pub store_of : {D : Type 0} {bound : _} → Sealed D bound → FileStore D bound
 store_of sealed = sealed.store
 

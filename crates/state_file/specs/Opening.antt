@@ -23,7 +23,6 @@ pub data ContentKind : Type 0 where
   unknown_version : ContentKind
   damaged : ℕ → ContentKind
 
--- what opening a content finds
 abbrev pub OpensAs : List ℕ → ContentKind → Type 0
 OpensAs content (spelled records) = SpellsRecords content records
 OpensAs content no_key = HasNoKey content
@@ -41,7 +40,6 @@ ReportsContent content VersionFault = OpensAs content unknown_version
 ReportsContent content (Damaged k) = OpensAs content (damaged k)
 ReportsContent content DeviceFailed = Unit {0}
 
--- what each refusal says of an honest disk
 abbrev pub ReportsDisk : {D A : Type 0} (d : disk.Ghosts D) → D → Result A OpenFault → Type 0
 ReportsDisk d old answer = IsTrue (d.honest old) → IfErr answer (ReportsContent (d.state old).content)
 
@@ -100,7 +98,6 @@ ReportsSlot version content slot VersionFault = ⊥
 ReportsSlot version content slot (Damaged k) = (k ≡ slot) × (IsWhole version content slot → ⊥)
 ReportsSlot version content slot DeviceFailed = Unit {0}
 
--- the records that were found, their version, and the last tag
 pub record IsFound (version : Version) (content : List ℕ) (records : List Record) (tag : List ℕ) : Type 0 where
   pub of_version : version ≡ version_in records
   pub spelled : SpellsRecords content records

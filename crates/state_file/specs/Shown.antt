@@ -87,7 +87,6 @@ shows-if of kind n chosen other chosen_shows other_shows =
       | false ↦ λ _. other_shows
     ] refl
 
--- a kind's fields spell records of this kind
 pub fields-show : (version : Version) (kind : ℕ) → Shows (fields_of version kind) kind_of kind
 fields-show version kind =
     shows-if kind_of kind 1 _ _ (kind-key version).shows
@@ -96,7 +95,6 @@ fields-show version kind =
     (shows-if kind_of kind 4 _ _ kind-retire.shows (shows-if kind_of kind 5 _ _ kind-moved.shows
     (λ v bytes spelled. absurd spelled)))))
 
--- a scheme's fields spell secrets of this scheme
 scheme-lms : OfKind scheme_of lms_fields 1
 unfolding lms_fields
 scheme-lms =
@@ -126,7 +124,6 @@ schemes-show scheme =
 
 -- ---- single fields
 
--- a byte is its number
 pub byte-is : (n : ℕ) (bytes : List ℕ) → Spells byte n bytes → bytes ≡ n ∷ []
 unfolding byte
 byte-is n bytes ([], rest, is, len, spelled) = absurd (omega (arith, len))
@@ -135,13 +132,11 @@ byte-is n bytes (x ∷ [], rest, is, len, spelled) =
     is ∙ ap (λ l. x ∷ l) spelled.1 ∙ ap (λ m. m ∷ []) same
 byte-is n bytes (x ∷ y ∷ more, rest, is, len, spelled) = absurd (omega (arith, len))
 
--- a field that passes its test
 pub only_if-is : {V : Type 0} (test : Bool) (n : ℕ) (v w : V) (bytes : List ℕ) → Spells (only_if test n v) w bytes
     → (test ≡ true) × (bytes ≡ [])
 only_if-is true n v w bytes spelled = (refl, spelled.1)
 only_if-is false n v w bytes spelled = absurd spelled
 
--- expected bytes
 pub exactly-is : (n : ℕ) (expected bytes : List ℕ) (u : Unit {0}) → Spells (exactly n expected) u bytes
     → bytes ≡ expected
 unfolding exactly
@@ -149,7 +144,6 @@ exactly-is n expected bytes u (front, rest, is, len, spelled) =
     let (same, nothing) = only_if-is (pointwise (λ a b. a == b) front expected) n tt u rest spelled in
     is ∙ ap (λ l. front ++ l) nothing ∙ append-nil front ∙ (bytes_decides front expected).0 same
 
--- a version
 pub version-is : (version : Version) (bytes : List ℕ) (u : Unit {0}) → Spells (version_field version) u bytes
     → bytes ≡ big_bytes 2 (version_code version)
 unfolding version_field
@@ -202,7 +196,6 @@ key-begins version key fields spelled =
     let own = (version-key version).shows (KeyRecord key) rest after in
     (ap begins_key bytes, ap version_of bytes ∙ version_known version others, own)
 
--- a record whose fields begin so is a Key
 pub key-first : (version : Version) (entry : Record) (fields : List ℕ) → Spells (slot_record version) entry fields
     → begins_key fields ≡ true → (key : Key) × (entry ≡ KeyRecord key)
 key-first version entry fields spelled begins =
@@ -218,13 +211,11 @@ key-first version entry fields spelled begins =
     of_kind (Retire upto) same = absurd (omega (arith, same))
     of_kind Moved same = absurd (omega (arith, same))
 
--- a list's version is its first record's
 pub version_first : (records : List Record) (key : Key) → slice_get records 0 ≡ Some (KeyRecord key)
     → version_in records ≡ key.version
 version_first [] key is = absurd cc
 version_first (entry ∷ rest) key is = ap version_begun (same_Some entry (KeyRecord key) is)
 
--- the first slot shows it
 pub spelled_version : (records : List Record) (content : List ℕ) → SpellsRecords content records
     → version_of (fields_at content 0) ≡ Some (version_in records)
 spelled_version records content is =

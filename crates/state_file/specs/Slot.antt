@@ -26,19 +26,15 @@ no_record n = refuse n UnknownType
 abbrev pub only_if : {V : Type 0} → Bool → ℕ → V → Layout V
 only_if test n value = if test then done value else no_record n
 
--- a number of 1 byte
 unfoldable pub byte : Layout ℕ
 byte = field 1 (λ bytes. done (big_number 1 bytes))
 
--- a number of 1 byte, within bounds
 unfoldable pub byte_within : ℕ → ℕ → Layout ℕ
 byte_within least most = byte >>= λ n. only_if (nat_le least n && nat_le n most) 1 n
 
--- these n bytes
 unfoldable pub exactly : ℕ → List ℕ → Layout (Unit {0})
 exactly n bytes = block n >>= λ read. only_if (pointwise (λ a b. a == b) read bytes) n tt
 
--- n zeros
 unfoldable pub zeros : ℕ → Layout (Unit {0})
 zeros n = block n >>= λ bytes. only_if (list_all (λ b. b == 0) bytes) n tt
 
@@ -52,7 +48,6 @@ abbrev pub version_code : Version → ℕ
 version_code One = 1
 version_code Two = 2
 
--- the known versions
 abbrev pub versions : List Version
 versions = One ∷ Two ∷ []
 
@@ -67,7 +62,6 @@ pair_field = do
   ots ← ots_type
   done (record { tree = tree; ots = ots })
 
--- n pairs
 unfoldable pub pairs : ℕ → Layout (List LmsPair)
 pairs zero = done []
 pairs (suc n) = do
@@ -124,7 +118,6 @@ secret_fields scheme =
     else (if scheme == 3 then xmss_fields
     else no_record 1))
 
--- a Key: the magic, the version, the scheme, the secret, the root
 unfoldable pub key_fields : Version → Layout Record
 key_fields version = do
   begins ← exactly 8 magic
@@ -137,7 +130,6 @@ key_fields version = do
 
 -- ---- the other kinds
 
--- the rest of an Extend: I, SEED, C, Q and the root
 abbrev pub after_parent_leaf : (level parent_leaf : ℕ) → Layout Record
 after_parent_leaf level parent_leaf = do
   identifier ← block 16
@@ -156,7 +148,6 @@ after_parent_leaf level parent_leaf = do
     root = root;
   }))
 
--- an Extend: the level, the parent leaf, and the rest
 unfoldable pub extend_fields : Layout Record
 extend_fields = do
   level ← byte
@@ -221,13 +212,11 @@ fields_of version kind =
 unfoldable pub slot_record : Version → Layout Record
 slot_record version = byte >>= fields_of version
 
--- a secret's scheme
 abbrev pub scheme_of : Secret → ℕ
 scheme_of (Lms secret) = 1
 scheme_of (Hss levels identifier seed) = 2
 scheme_of (Xmss secret) = 3
 
--- a record's kind
 abbrev pub kind_of : Record → ℕ
 kind_of (KeyRecord key) = 1
 kind_of (ExtendRecord extend) = 2

@@ -14,7 +14,6 @@ is_key (Bound bound) = false
 is_key (Retire upto) = false
 is_key Moved = false
 
--- the first record, if any, is a Key
 abbrev pub begins_with_key : List Record → Bool
 begins_with_key [] = true
 begins_with_key (entry ∷ entries) = is_key entry
@@ -76,7 +75,6 @@ unreadable_slot DeviceFailed = []
 unreadable_slot OutOfMemory = []
 unreadable_slot Full = []
 
--- the answer is a fault of this kind
 abbrev pub is_fault : {A E : Type 0} → (is_kind : E → Bool) → Result A E → Bool
 is_fault is_kind (Ok _) = false
 is_fault is_kind (Err fault) = is_kind fault

@@ -82,7 +82,6 @@ pub trait Disk {
         ensures past_ends { past_ends self.new ≡ past_ends self.old }
         ensures call { CallsDisk honest state moment left_since failures self.old self.new result };
 
-    // A read gives bytes.
     ghost gives_bytes: { (disk : Self) → IsTrue (honest disk) → AreBytes (state disk).content };
 
     // A crash may leave what a read gives.

@@ -80,7 +80,6 @@ pub(crate) fn block(fields: &[u8; 223], tag: &[u8; 32]) -> [u8; 256]
     bytes
 }
 
-// Copies `first` and then `second`, which fill `into`.
 fn copy_both(into: &mut [u8], first: &[u8], second: &[u8])
     requires { length into.old ≡ length first.now + length second.now }
     ensures { into.new ≡ first.now ++ second.now }

@@ -63,7 +63,6 @@ pub(crate) struct Found {
     pub(crate) records: RecordList,
 }
 
-// A slot's record and tag.
 #[derive(Drop)]
 struct Slot {
     entry: Record,
@@ -230,7 +229,6 @@ fn check_key<D: Disk>(disk: &mut D, len: u64) -> Result<Version, OpenFault>
 }
 
 impl Found {
-    // No record yet.
     fn none(version: Version) -> Self
         ensures none { (result.count ≡ 0) × (result.tag ≡ first_tag) × (result.records ≡ []) }
         ensures moved { result.moved ≡ has_moved result.records }
@@ -245,7 +243,6 @@ impl Found {
         }
     }
 
-    // One record more.
     fn push(&mut self, slot: &Slot)
         requires { self.old.count < most_records }
         ensures count { self.new.count ≡ self.old.count + 1 }

@@ -45,7 +45,6 @@ pub fn seal<D: Disk + Drop>(
     }
 }
 
-// Appends a Moved, unless the records end with one.
 fn append_moved<D: Disk + Drop>(store: &mut FileStore<D>) -> Result<(), MigrateFault>
     requires { IsTrue (D.honest (disk_of store.old)) → IsLegal (records_of store.old) }
     ensures answer { Seals (records_of store.old) (has_stopped store.old) (records_of store.new) (has_stopped store.new)

@@ -13,7 +13,6 @@ use crate::slot::fields::{
 };
 use typecodes::{Cursor, Name, ReadFault};
 
-// The name, if all bytes are visible characters.
 fn visible_name(bytes: &[u8]) -> Option<Name>
     requires some { 1 ≤ length bytes.now }
     requires few { length bytes.now ≤ 128 }

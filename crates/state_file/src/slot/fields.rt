@@ -23,7 +23,6 @@ pub(crate) fn no_record(place: u32) -> ReadFault
     }
 }
 
-/// The next byte.
 #[tactic(auto, using(typecodes::proofs::Steps::reading), unfolding(crate::specs::Slot::byte))]
 pub(crate) fn read_byte(cursor: &mut Cursor<'_>) -> Result<u8, ReadFault>
     requires { cursor.old.place + 1 < 2 ^ 32 }
@@ -81,7 +80,6 @@ pub(crate) fn read_byte_within(
     Ok(byte)
 }
 
-/// Appends a byte from `least` to `most`.
 pub(crate) fn put_byte_within(out: &mut Fields, n: u8, least: u8, most: u8)
     requires least { least ≤ n }
     requires most { n ≤ most }
@@ -121,7 +119,6 @@ fn are_zero(bytes: &[u8]) -> bool
     bytes.iter().all(|byte| *byte == 0)
 }
 
-/// The next n bytes, if they are zero.
 #[tactic(auto, using(typecodes::proofs::Steps::reading), unfolding(crate::specs::Slot::zeros))]
 pub(crate) fn read_zeros(cursor: &mut Cursor<'_>, n: u32) -> Result<(), ReadFault>
     requires { cursor.old.place + n < 2 ^ 32 }
@@ -136,7 +133,6 @@ pub(crate) fn read_zeros(cursor: &mut Cursor<'_>, n: u32) -> Result<(), ReadFaul
     }
 }
 
-/// Appends n zeros.
 pub(crate) fn put_zeros(out: &mut Fields, n: usize)
     requires { array_vec_len out.old + n ≤ 223 }
     ensures { Puts n (zeros n) tt out.old out.new }

@@ -3,10 +3,8 @@
 ghost use Rattle.std.specs.Prelude.{◌≡◌, ◌==◌};
 ghost use Rattle.state_file.specs.File.{open_value};
 
-/// The value of an open gate.
 pub(crate) const OPEN: u8 = 0xa5;
 
-/// The value that closes a gate.
 pub(crate) const CLOSED: u8 = 0;
 
 /// Whether a gate is open. Any value but `OPEN` is a closed one.

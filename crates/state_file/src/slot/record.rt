@@ -61,7 +61,6 @@ fn put_moved(out: &mut Fields)
     put_zeros(out, 220);
 }
 
-// The number of a record's kind.
 fn kind(entry: &Record) -> u8
     ensures { result ≡ kind_of entry.now }
 {
@@ -107,7 +106,6 @@ fn put_fields(out: &mut Fields, version: Version, entry: &Record)
     }
 }
 
-// The record of these bytes, or their first fault.
 #[tactic(auto, using(crate::proofs::Blocks::whole), unfolding(crate::specs::Slot::slot_record))]
 fn read_all(version: Version, bytes: &[u8]) -> Result<Record, ReadFault>
     ensures { Reads (slot_record version) (λ entry. entry) bytes.now result }

@@ -54,7 +54,6 @@ fn read_pairs(cursor: &mut Cursor<'_>, count: u8) -> Result<[LmsPair; 8], ReadFa
     Ok(all)
 }
 
-// Appends pairs.
 fn put_pairs(out: &mut Fields, all: &[LmsPair])
     requires { array_vec_len out.old + 8 * length all.now ≤ 223 }
     ensures { Puts (8 * length all.now) (pairs (length all.now)) all.now out.old out.new }
@@ -81,7 +80,6 @@ pub(crate) fn read_levels(cursor: &mut Cursor<'_>) -> Result<Levels, ReadFault>
     }
 }
 
-// Appends the levels.
 fn put_levels(out: &mut Fields, levels: &Levels)
     requires { array_vec_len out.old + 65 ≤ 223 }
     ensures { Puts 65 levels_field levels.now out.old out.new }
@@ -222,7 +220,6 @@ pub(crate) fn put_secret(out: &mut Fields, secret: &Secret)
     }
 }
 
-/// The number of a secret's scheme.
 pub(crate) fn scheme(secret: &Secret) -> u8
     ensures { result ≡ scheme_of secret.now }
 {

@@ -31,7 +31,6 @@ use crate::store::{SlotList, Store, StoreFault};
 #[derive(Drop)]
 pub struct FileStore<D: Disk> {
     disk: D,
-    // the file's version
     version: Version,
     count: u32,
     // the last slot's tag
