@@ -14,7 +14,7 @@
 //! let disk = MemoryDisk::of(rt.alloc(), &[])?;
 //! let mut store = FileStore::format(disk).map_err(|refused| refused.fault)?;
 //! store.append(&key)?;
-//! // a stop from here on leaves the record
+//! // a crash from here on leaves the record
 //! let mut store = FileStore::open(store.into_disk()).map_err(|refused| refused.fault)?;
 //! assert!(rt; store.load(0) == Ok(Some(key)));
 //! ```

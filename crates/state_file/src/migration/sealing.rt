@@ -20,7 +20,7 @@ use crate::record::Record;
 use crate::refused::Refused;
 use crate::store::{FileStore, Store, StoreFault};
 
-/// Appends a Moved, unless the records end with one. The caller gives legal records of version 1. The refusals:
+/// Appends a Moved, unless the records end with one. The caller gives legal records of version 1. The only refusals:
 ///
 /// - 26: the store had stopped. It is handed back as it was.
 /// - 52: it is full, and doesn't end with a Moved. It is handed back as it was.
