@@ -1,5 +1,5 @@
--- The root that a signature leads to, from the steps that compute it. lms has such a file for its standard; what both
--- share, the way along a path, stands in merkle.
+-- The root that a signature leads to, from the steps that compute it. There is such a file in lms for its standard;
+-- merkle has what both share, the way along a path.
 use Rattle.std.proofs.Common.{◌≡◌, ℕ, List, sym, subst}
 use Rattle.merkle.specs.Ascent.{PathLeadsTo}
 use Rattle.wots_plus.specs.Key.{ClimbTo}
