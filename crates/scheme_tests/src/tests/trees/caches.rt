@@ -75,8 +75,8 @@ fn paths_in_order_make_each_other_block_once(rt: HostRuntime) -> Result<(), Fail
     Ok(())
 }
 
-// A tree's height, and leaves in turn, each with how many leaves its path makes: two blocks that take turns, one block
-// in a tree of height 3, no block in a tree of one leaf.
+// A tree's height, and leaves in turn, each with how many leaves its path makes. Two blocks take turns; then there is
+// one block, of a tree of height 3; and a tree of one leaf has none.
 const IN_TURN: [(u8, &[(u32, u64)]); 3] = [
     (5, &[(0, 0), (4, 4), (0, 4), (4, 4), (7, 0), (0, 4), (3, 0)]),
     (3, &[(5, 2), (4, 0)]),
@@ -155,8 +155,8 @@ fn caches_have_their_sizes(rt: HostRuntime) -> Result<(), Fail> {
     Ok(())
 }
 
-// A tree's height, the leaf that a cache is made for, another leaf (in another block if there is one), and how many
-// leaves this one's path then makes.
+// A tree's height, the leaf that a cache is made for, and another leaf, in another block if there is one. Last, how
+// many leaves this one's path then makes.
 const LEAVES: [(u8, u32, u32, u64); 14] = [
     (0, 0, 0, 0),
     (1, 0, 1, 1),
@@ -174,8 +174,8 @@ const LEAVES: [(u8, u32, u32, u64); 14] = [
     (10, 1023, 0, 32),
 ];
 
-// Whether a cache for leaf q has made each leaf once, gives the root and q's path without a leaf more, and makes this
-// many for the other leaf's path.
+// Whether a cache for leaf q has made each leaf once, and gives the root and q's path without a leaf more. The other
+// leaf's path makes this many.
 fn begins_with_block(
     alloc: Global,
     height: u8,
