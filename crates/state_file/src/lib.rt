@@ -3,9 +3,13 @@
 //! After every call, and after a crash at any moment in it, a store has the old records, or the old and the new one. A
 //! migration moves records to a file of version 2. No crash leaves both files able to sign.
 //!
-//! The models are `specs/Store.antt`, what each call does to a store's list of records; `specs/Slot.antt`, the bytes of
-//! a record; `specs/File.antt`, a disk's content as a file of records; `specs/Disk.antt`, what a crash may leave of a
-//! disk; and `specs/Migration.antt`.
+//! The models:
+//!
+//! - `specs/Store.antt`: what each call does to a store's list of records.
+//! - `specs/Slot.antt`: the bytes of a record.
+//! - `specs/File.antt`: a disk's content as a file of records.
+//! - `specs/Disk.antt`: what a crash may leave of a disk.
+//! - `specs/Migration.antt`: what each step of a migration does.
 //!
 //! ```rust
 //! use state_file::{FileStore, MemoryDisk, Store};

@@ -41,8 +41,8 @@ impl Record {
         }
     }
 
-    /// Whether a file of this version can hold the record: a Key only of its own version, a Bound if its name isn't too
-    /// long, any other record always.
+    /// Whether a file of this version can hold the record: a Key of this version, a Bound whose name isn't too long,
+    /// any other record.
     pub fn fits(&self, version: Version) -> bool
         ensures fits { result ≡ true → FitsVersion version self.now }
         ensures not { result ≡ false → FitsVersion version self.now → ⊥ }
