@@ -1,9 +1,9 @@
 //! Audits of a key, by those who don't trust its state file or its signer.
 //!
 //! `audit` reads a state file. Are its records legal, what do they say of the key, and do they fit an anchor? An anchor
-//! is how many records there once were, and the last one's tag. Every file of these records has these tags, and they
-//! stay, whatever records follow (`tag_laws`). So an anchor tells whether an older copy replaced the file
-//! (`audit_laws`). The model is `specs/Audit.antt` and `specs/Tags.antt`.
+//! is how many records there once were, and the last one's tag. A record's tag is the same in every file of these
+//! records, and stays, whatever records follow (`tag_laws`). So an anchor tells whether an older copy replaced the
+//! file (`audit_laws`). The model is `specs/Audit.antt` and `specs/Tags.antt`.
 //!
 //! `list` reads a state file as `audit` does, and shows what each record is, without anything secret (`listing_law`,
 //! `specs/Listing.antt`).

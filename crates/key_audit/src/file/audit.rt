@@ -52,7 +52,7 @@ fn report_of(ledger: &Ledger, tag: [u8; 32]) -> Report
 /// - 26 `Stopped`: a call on the store failed before.
 /// - 43 `Damaged(k)`: slot k doesn't decode, or its tag is wrong. This never comes over an honest disk.
 /// - 45 `DeviceFailed`: the disk failed, at a record or a tag. The store has stopped then.
-/// - 46 `OutOfMemory`: memory was refused. There is at least one record; that memory was refused is tested.
+/// - 46 `OutOfMemory`: memory was refused. A clause says that there is a record; that memory was refused is tested.
 /// - 40 `NoKey`: there is no record.
 /// - 44 `Illegal(k)`: record k is the first that may not follow those before it.
 /// - 47 `AnchorCount`: the records are legal, and fewer than the anchor counts, or it counts none.
