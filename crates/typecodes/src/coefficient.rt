@@ -8,7 +8,7 @@ ghost use Rattle.typecodes.specs.Coefficient.{coef_of};
 /// inside s.
 pub fn coef(s: &[u8], i: u32, w: u8) -> u8
     requires width { IsWidth w }
-    requires inside { i * w / 8 < length s.now }
+    requires in_bytes { i * w / 8 < length s.now }
     ensures value { result ≡ coef_of s.now i w }
     ensures below { result < 2 ^ w }
 {

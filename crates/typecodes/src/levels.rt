@@ -28,7 +28,7 @@ impl Model for LevelCount {
 impl LevelCount {
     /// `None` unless the number is 1 to 8.
     pub fn new(number: u8) -> Option<Self>
-        ensures some { IsSome result ↔ IsLevelCount number }
+        ensures some_iff { IsSome result ↔ IsLevelCount number }
         ensures value { IfSome result (λ count. count ≡ number) }
     {
         if number == 0 || number > 8 {
@@ -40,8 +40,8 @@ impl LevelCount {
     /// The number, 1 to 8.
     pub fn get(self) -> u8
         ensures value { result ≡ self }
-        ensures some { 1 ≤ result }
-        ensures few { result ≤ 8 }
+        ensures at_least_1 { 1 ≤ result }
+        ensures at_most_8 { result ≤ 8 }
     {
         self.number
     }
@@ -70,7 +70,7 @@ impl Model for Levels {
 impl Levels {
     /// `None` unless there are 1 to 8 pairs.
     pub fn new(pairs: &[LmsPair]) -> Option<Self>
-        ensures some { IsSome result ↔ AreLevels pairs.now }
+        ensures some_iff { IsSome result ↔ AreLevels pairs.now }
         ensures value { IfSome result (λ levels. levels ≡ pairs.now) }
     {
         let first = *pairs.first()?;
@@ -98,8 +98,8 @@ impl Levels {
     /// The pairs, from the top level down.
     pub fn as_slice(&self) -> &[LmsPair]
         ensures value { result.now ≡ self.now }
-        ensures some { 1 ≤ length result.now }
-        ensures few { length result.now ≤ 8 }
+        ensures non_empty { 1 ≤ length result.now }
+        ensures at_most_8 { length result.now ≤ 8 }
     {
         &self.pairs[..usize::from(self.count)]
     }

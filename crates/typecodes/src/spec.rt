@@ -37,7 +37,7 @@ impl Spec {
         ensures spec { IfOk result IsSpec }
         ensures err { IfErr result (λ _. (spec : S) → IsSpec spec → text.now ≢ spec_text spec) }
         // no other spec has this text
-        ensures alone { (spec : S) → IsSpec spec → text.now ≡ spec_text spec → result ≡ Ok spec }
+        ensures unique { (spec : S) → IsSpec spec → text.now ≡ spec_text spec → result ≡ Ok spec }
     {
         if let Some(pair) = text.strip_prefix("lms:") {
             return Ok(Spec::Lms(parse_pair(pair)?));

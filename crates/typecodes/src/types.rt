@@ -24,7 +24,7 @@ impl OtsType {
     /// Codes 1 to 4 name the types in the order of the widths, others none.
     pub fn from_code(code: u32) -> Option<Self>
         ensures named { result ≡ ots_of_code code }
-        ensures some { IfSome result (λ t. ots_code t ≡ code) }
+        ensures has_code { IfSome result (λ t. ots_code t ≡ code) }
         ensures none { result ≡ None ↔ All (λ t. ots_code t ≢ code) ots_types }
     {
         match code {
@@ -39,7 +39,7 @@ impl OtsType {
     /// The type's code, 1 to 4.
     pub fn code(self) -> u32
         ensures value { result ≡ ots_code self }
-        ensures alone { (other : OtsType) → ots_code other ≡ result → other ≡ self }
+        ensures unique { (other : OtsType) → ots_code other ≡ result → other ≡ self }
     {
         match self {
             OtsType::W1 => 1,
@@ -65,7 +65,7 @@ impl OtsType {
     /// p: the number of chains, 34 to 265.
     pub fn chains(self) -> u16
         ensures value { result ≡ chains_of self }
-        ensures most { result ≤ 265 }
+        ensures at_most_265 { result ≤ 265 }
     {
         match self {
             OtsType::W1 => 265,
@@ -102,7 +102,7 @@ impl LmsType {
     /// Codes 5 to 9 name the types in the order of the heights, others none.
     pub fn from_code(code: u32) -> Option<Self>
         ensures named { result ≡ lms_of_code code }
-        ensures some { IfSome result (λ t. lms_code t ≡ code) }
+        ensures has_code { IfSome result (λ t. lms_code t ≡ code) }
         ensures none { result ≡ None ↔ All (λ t. lms_code t ≢ code) lms_types }
     {
         match code {
@@ -118,7 +118,7 @@ impl LmsType {
     /// The type's code, 5 to 9.
     pub fn code(self) -> u32
         ensures value { result ≡ lms_code self }
-        ensures alone { (other : LmsType) → lms_code other ≡ result → other ≡ self }
+        ensures unique { (other : LmsType) → lms_code other ≡ result → other ≡ self }
     {
         match self {
             LmsType::H5 => 5,
@@ -132,7 +132,7 @@ impl LmsType {
     /// h: the height. The tree has `2^h` leaves.
     pub fn height(self) -> u8
         ensures value { result ≡ height_of self }
-        ensures most { result ≤ 25 }
+        ensures at_most_25 { result ≤ 25 }
     {
         match self {
             LmsType::H5 => 5,
@@ -180,7 +180,7 @@ impl XmssType {
     /// Codes 1 to 3 name the types in the order of the heights, others none.
     pub fn from_code(code: u32) -> Option<Self>
         ensures named { result ≡ xmss_of_code code }
-        ensures some { IfSome result (λ t. xmss_code t ≡ code) }
+        ensures has_code { IfSome result (λ t. xmss_code t ≡ code) }
         ensures none { result ≡ None ↔ All (λ t. xmss_code t ≢ code) xmss_types }
     {
         match code {
@@ -194,7 +194,7 @@ impl XmssType {
     /// The type's code, 1 to 3.
     pub fn code(self) -> u32
         ensures value { result ≡ xmss_code self }
-        ensures alone { (other : XmssType) → xmss_code other ≡ result → other ≡ self }
+        ensures unique { (other : XmssType) → xmss_code other ≡ result → other ≡ self }
     {
         match self {
             XmssType::H10 => 1,
@@ -206,7 +206,7 @@ impl XmssType {
     /// h: the height. The tree has `2^h` leaves.
     pub fn height(self) -> u8
         ensures value { result ≡ xmss_height_of self }
-        ensures most { result ≤ 20 }
+        ensures at_most_20 { result ≤ 20 }
     {
         match self {
             XmssType::H10 => 10,
