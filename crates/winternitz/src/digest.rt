@@ -40,7 +40,7 @@ pub fn digits(width: u8, digest: &[u8; 32]) -> Digits
 // Pushes the first `count` digits of the bytes.
 fn push_digits(all: &mut Digits, width: u8, count: u32, bytes: &[u8])
     requires width { IsWidth width }
-    requires inside { count * width ≤ length bytes.now * 8 }
+    requires in_bytes { count * width ≤ length bytes.now * 8 }
     requires room { array_vec_len all.old + count ≤ 265 }
     ensures items { all.new.items ≡ all.old.items ++ first_digits width count bytes.now }
     ensures len { array_vec_len all.new ≡ array_vec_len all.old + count }

@@ -28,7 +28,7 @@ mod groups;
 pub mod lanes;
 mod laws;
 mod message;
-mod shares;
+mod schedule;
 
 pub use crate::chain::{Step, added, climb};
 pub use crate::climbing::{InLanes, OneByOne};

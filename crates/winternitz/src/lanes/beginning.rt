@@ -81,7 +81,7 @@ impl Beginning {
 fn first_words(first: &[[u8; 20]; LANES]) -> [Words; 5]
     ensures bytes { (j : ℕ) → j < lanes → digest_bytes (lane j result) 5 ≡ slice_index_or first.now j [] }
     ensures fit { (j : ℕ) → j < lanes → (k : ℕ) → k < 5 → slice_index (lane j result) k < 2 ^ 32 }
-    ensures long { length result ≡ 5 }
+    ensures exact_length { length result ≡ 5 }
 {
     let mut words = [[0; 5]; LANES];
     for lane in 0..LANES {
@@ -122,15 +122,15 @@ fn block_words(first: &[Words; 5], numbers: Words, values: &States) -> [Words; 1
         first[2],
         first[3],
         first[4],
-        joined(numbers, values[0]),
-        joined(values[0], values[1]),
-        joined(values[1], values[2]),
-        joined(values[2], values[3]),
-        joined(values[3], values[4]),
-        joined(values[4], values[5]),
-        joined(values[5], values[6]),
-        joined(values[6], values[7]),
-        joined(values[7], constant(0x8000_0000)),
+        shifted_pair(numbers, values[0]),
+        shifted_pair(values[0], values[1]),
+        shifted_pair(values[1], values[2]),
+        shifted_pair(values[2], values[3]),
+        shifted_pair(values[3], values[4]),
+        shifted_pair(values[4], values[5]),
+        shifted_pair(values[5], values[6]),
+        shifted_pair(values[6], values[7]),
+        shifted_pair(values[7], constant(0x8000_0000)),
         constant(0),
         constant(440),
     ]
@@ -138,7 +138,7 @@ fn block_words(first: &[Words; 5], numbers: Words, values: &States) -> [Words; 1
 
 // The last three bytes of a word and the first byte of another.
 #[inline(always)]
-fn joined(x: Words, y: Words) -> Words
+fn shifted_pair(x: Words, y: Words) -> Words
     ensures { (j : ℕ) → j < lanes → slice_index result j ≡ joined_word (slice_index x j) (slice_index y j) }
 {
     add(shifted_left(x, 8), shifted(y, 24))

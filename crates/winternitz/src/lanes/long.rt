@@ -30,7 +30,7 @@ fn pad<const N: usize>(messages: &mut [[u8; N]; LANES], end: usize) -> usize
     ensures bytes { (j : ℕ) → j < lanes
         → take result (slice_index_or messages.new j [])
         ≡ padded_message (take end (slice_index_or messages.old j [])) }
-    ensures long { (j : ℕ) → j < lanes → length (slice_index_or messages.new j []) ≡ N }
+    ensures exact_length { (j : ℕ) → j < lanes → length (slice_index_or messages.new j []) ≡ N }
     ensures within { result ≤ N }
 {
     let (padding, count) = padding_of(end);
@@ -58,7 +58,7 @@ fn put_padding<const N: usize>(message: &mut [u8; N], end: usize, bytes: &[u8])
     requires room { end + length bytes.now ≤ N }
     requires bytes { bytes.now ≡ padding end }
     ensures bytes { take (end + length bytes.now) message.new ≡ padded_message (take end message.old) }
-    ensures long { length message.new ≡ N }
+    ensures exact_length { length message.new ≡ N }
 {
     put(message, end, bytes);
 }

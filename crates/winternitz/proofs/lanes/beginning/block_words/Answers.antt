@@ -10,6 +10,6 @@ returns-clause-rest c = λ j low chain at k chain_low at_low is.
     tail_words (lane_at first 0 j) (lane_at first 1 j) (lane_at first 2 j) (lane_at first 3 j) (lane_at first 4 j) _ _ _ _ _ _ _ _ _ _ _
     (slice_index c.args.numbers j) (lane_at values 0 j) (lane_at values 1 j) (lane_at values 2 j) (lane_at values 3 j)
     (lane_at values 4 j) (lane_at values 5 j) (lane_at values 6 j) (lane_at values 7 j) chain at
-    (c.joined.ensures j low) (c.joined-2.ensures j low) (c.joined-3.ensures j low) (c.joined-4.ensures j low) (c.joined-5.ensures j low)
-    (c.joined-6.ensures j low) (c.joined-7.ensures j low) (c.joined-8.ensures j low) (c.joined-9.ensures j low ∙ ap (joined_word (lane_at values 7 j)) (c.constant.ensures j low))
+    (c.shifted_pair.ensures j low) (c.shifted_pair-2.ensures j low) (c.shifted_pair-3.ensures j low) (c.shifted_pair-4.ensures j low) (c.shifted_pair-5.ensures j low)
+    (c.shifted_pair-6.ensures j low) (c.shifted_pair-7.ensures j low) (c.shifted_pair-8.ensures j low) (c.shifted_pair-9.ensures j low ∙ ap (joined_word (lane_at values 7 j)) (c.constant.ensures j low))
     (c.constant-2.ensures j low) (c.constant-3.ensures j low) is at_low chain_low k

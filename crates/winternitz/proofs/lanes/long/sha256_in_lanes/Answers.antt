@@ -6,4 +6,4 @@ use Rattle.winternitz.proofs.lanes.long.sha256_in_lanes.Goals as goal
 pub returns : goal.returns
 returns g c = λ j low.
     c.digests.ensures j low ∙ ap (λ h. digest_bytes h 8) (c.hash_blocks.ensures j low)
-    ∙ sha256_by_front _ _ _ (c.pad-end.ensures.bytes j low) (omega (arith, c.pad-end.ensures.long j low, c.pad-end.ensures.within))
+    ∙ sha256_by_front _ _ _ (c.pad-end.ensures.bytes j low) (omega (arith, c.pad-end.ensures.exact_length j low, c.pad-end.ensures.within))

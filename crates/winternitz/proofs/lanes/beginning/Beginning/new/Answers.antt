@@ -8,9 +8,9 @@ pub invariant_of-result : goal.invariant_of-result
 invariant_of-result c =
     let words = c.first_words-words.result in
     record {
-      fit = λ j low k within. subst (λ ws. slice_index ws k < 2 ^ 32) (lane_of_five words j c.first_words-words.ensures.long)
+      fit = λ j low k within. subst (λ ws. slice_index ws k < 2 ^ 32) (lane_of_five words j c.first_words-words.ensures.exact_length)
           (c.first_words-words.ensures.fit j low k within);
       begun = λ j low. c.five_rounds.ensures j low
           ∙ ap (λ h. rounds h (lane j words) 5) (c.initial.ensures j low)
-          ∙ ap (λ ws. rounds initial_hash_256 ws 5) (lane_of_five words j c.first_words-words.ensures.long);
+          ∙ ap (λ ws. rounds initial_hash_256 ws 5) (lane_of_five words j c.first_words-words.ensures.exact_length);
     }

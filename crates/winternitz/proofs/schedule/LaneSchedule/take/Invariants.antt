@@ -1,7 +1,7 @@
 -- The later lanes still have at least this many steps.
 use Rattle.std.proofs.Common.{◌≡◌, ℕ, ◌≤◌, ◌<◌, length, slice_index}
 use Rattle.winternitz.specs.Lanes.{lanes}
-use Rattle.winternitz.proofs.shares.Shares.take.Given as goal
+use Rattle.winternitz.proofs.schedule.LaneSchedule.take.Given as goal
 
 abbrev pub invariant-loop-lane : goal.invariant-loop-lane
 invariant-loop-lane l = record {

@@ -1,7 +1,7 @@
 -- The chains so far are at their ends, and the others where they were.
 use Rattle.std.proofs.Common.{◌≡◌, ℕ, ◌<◌, ◌≤◌, [], length, slice_index_or}
 use Rattle.winternitz.specs.Chain.{walk_of}
-use Rattle.winternitz.proofs.groups.climb_rest.Given as goal
+use Rattle.winternitz.proofs.groups.finish_each.Given as goal
 
 abbrev pub invariant-loop-i : goal.invariant-loop-i
 invariant-loop-i g l = record {

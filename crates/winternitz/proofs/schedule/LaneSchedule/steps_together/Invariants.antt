@@ -1,6 +1,6 @@
 -- No more than each of the lanes so far can take.
 use Rattle.std.proofs.Common.{ℕ, ◌+◌, ◌≤◌, ◌<◌, slice_index}
-use Rattle.winternitz.proofs.shares.Shares.steps_together.Given as goal
+use Rattle.winternitz.proofs.schedule.LaneSchedule.steps_together.Given as goal
 
 abbrev pub invariant-loop-lane : goal.invariant-loop-lane
 invariant-loop-lane l = record {

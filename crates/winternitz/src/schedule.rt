@@ -12,14 +12,14 @@ use crate::lanes::LANES;
 
 /// The chains that climb together, one per lane, and by how many steps.
 #[derive(Clone, Copy)]
-pub(crate) struct Turn {
+pub(crate) struct Batch {
     pub(crate) chains: [u16; LANES],
     pub(crate) steps: u8,
 }
 
 /// What each lane still has to do.
 #[derive(Drop)]
-pub(crate) struct Shares {
+pub(crate) struct LaneSchedule {
     // each lane's current chain
     chains: [u16; LANES],
     // how many of its steps are this lane's
@@ -28,12 +28,12 @@ pub(crate) struct Shares {
     left: usize,
 }
 
-impl Shares {
+impl LaneSchedule {
     /// Shares out the steps of chains, each from a place to its end. The caller gives at most 265 chains, and a place
     /// for each.
-    pub(crate) fn of(to: &[u8], at: &[u8]) -> Shares
-        requires few { length to.now ≤ 265 }
-        requires long { length to.now ≤ length at.now }
+    pub(crate) fn of(to: &[u8], at: &[u8]) -> LaneSchedule
+        requires at_most_265 { length to.now ≤ 265 }
+        requires covers { length to.now ≤ length at.now }
     {
         let left = all_steps(to, at) / LANES;
         let mut chains = [0; LANES];
@@ -41,16 +41,16 @@ impl Shares {
         for lane in 0..LANES {
             (chains[lane], own[lane]) = step_at(lane * left, 0, to, at);
         }
-        Shares { chains, own, left }
+        LaneSchedule { chains, own, left }
     }
 
     /// The chains that climb together next, until a lane's chain ends. `None` if every lane has taken its part, or if
     /// two lanes would stand in one chain, as in one longer than a part.
-    pub(crate) fn next_turn(&mut self, to: &[u8], at: &[u8]) -> Option<Turn>
-        requires few { length to.now ≤ 265 }
-        requires long { length to.now ≤ length at.now }
+    pub(crate) fn next_batch(&mut self, to: &[u8], at: &[u8]) -> Option<Batch>
+        requires at_most_265 { length to.now ≤ 265 }
+        requires covers { length to.now ≤ length at.now }
         requires order { (i : ℕ) → i < length to.now → slice_index at.now i ≤ slice_index to.now i }
-        ensures { IfSome result (λ turn. IsWithin turn.chains turn.steps at.now to.now) }
+        ensures { IfSome result (λ batch. IsWithin batch.chains batch.steps at.now to.now) }
     {
         self.pass_ends(to, at);
         if self.left == 0 || !are_apart(&self.chains, to.len()) {
@@ -58,7 +58,7 @@ impl Shares {
         }
         let steps = self.steps_together(to, at);
         self.take(steps);
-        Some(Turn {
+        Some(Batch {
             chains: self.chains,
             steps,
         })
@@ -66,8 +66,8 @@ impl Shares {
 
     // Moves each lane whose chain is at its end to the next chain.
     fn pass_ends(&mut self, to: &[u8], at: &[u8])
-        requires few { length to.now ≤ 265 }
-        requires long { length to.now ≤ length at.now }
+        requires at_most_265 { length to.now ≤ 265 }
+        requires covers { length to.now ≤ length at.now }
     {
         for lane in 0..LANES {
             if self.own[lane] == 0 {
@@ -80,7 +80,7 @@ impl Shares {
     // How many steps the chains take together: until one is at its end, or its lane has taken its part.
     fn steps_together(&self, to: &[u8], at: &[u8]) -> u8
         requires below { (j : ℕ) → j < lanes → slice_index self.now.chains j < length to.now }
-        requires long { length to.now ≤ length at.now }
+        requires covers { length to.now ≤ length at.now }
         requires order { (i : ℕ) → i < length to.now → slice_index at.now i ≤ slice_index to.now i }
         ensures reach { IsWithin self.now.chains result at.now to.now }
         ensures own { (j : ℕ) → j < lanes → result ≤ slice_index self.now.own j }
@@ -109,8 +109,8 @@ impl Shares {
 
 // The steps of all chains.
 fn all_steps(to: &[u8], at: &[u8]) -> usize
-    requires few { length to.now ≤ 265 }
-    requires long { length to.now ≤ length at.now }
+    requires at_most_265 { length to.now ≤ 265 }
+    requires covers { length to.now ≤ length at.now }
     ensures { result ≤ 255 * 265 }
 {
     let mut steps = 0;
@@ -123,8 +123,8 @@ fn all_steps(to: &[u8], at: &[u8]) -> usize
 // The chain where step `nth` of the row lies, counted from chain `first`, and how many of its steps are left from
 // there. Past the row: the number of chains, and 0.
 fn step_at(nth: usize, first: usize, to: &[u8], at: &[u8]) -> (u16, u8)
-    requires few { length to.now ≤ 265 }
-    requires long { length to.now ≤ length at.now }
+    requires at_most_265 { length to.now ≤ 265 }
+    requires covers { length to.now ≤ length at.now }
 {
     let mut before = nth;
     for chain in first..to.len() {

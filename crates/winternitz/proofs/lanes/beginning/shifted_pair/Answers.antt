@@ -3,7 +3,7 @@ use Rattle.std.proofs.Common.{◌∙◌, ap₂}
 use Rattle.sha2.specs.Sha256.{add32}
 use Rattle.winternitz.specs.Lanes.{lanes}
 use Rattle.winternitz.proofs.Rotations.{word_fits}
-use Rattle.winternitz.proofs.lanes.beginning.joined.Goals as goal
+use Rattle.winternitz.proofs.lanes.beginning.shifted_pair.Goals as goal
 
 pub returns : goal.returns
 returns c = λ j low.

@@ -1,7 +1,7 @@
 -- The chains of the last lanes are below the count.
 use Rattle.std.proofs.Common.{ℕ, ◌+◌, ◌≤◌, ◌<◌, slice_index}
 use Rattle.winternitz.specs.Lanes.{lanes}
-use Rattle.winternitz.proofs.shares.are_apart.Given as goal
+use Rattle.winternitz.proofs.schedule.are_apart.Given as goal
 
 abbrev pub invariant-loop-lane : goal.invariant-loop-lane
 invariant-loop-lane l = record {

@@ -1,6 +1,6 @@
 -- The places so far.
 use Rattle.std.proofs.Common.{◌≡◌, ℕ, ◌<◌, length, slice_index}
-use Rattle.winternitz.proofs.groups.places.Given as goal
+use Rattle.winternitz.proofs.groups.padded_places.Given as goal
 
 abbrev pub invariant-loop-i : goal.invariant-loop-i
 invariant-loop-i l = record {

@@ -2,7 +2,7 @@ use Rattle.std.proofs.Common.{ap, ◌∙◌}
 use Rattle.sha2.specs.Sha256.{add_state, compress}
 use Rattle.winternitz.specs.Lanes.{lane_state}
 use Rattle.winternitz.proofs.Vectors.{lanes_window}
-use Rattle.winternitz.proofs.lanes.rounds.finish.Goals as goal
+use Rattle.winternitz.proofs.lanes.rounds.last_48_rounds.Goals as goal
 
 pub returns : goal.returns
 unfolding compress

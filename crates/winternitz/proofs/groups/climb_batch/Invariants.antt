@@ -1,7 +1,7 @@
 -- Each chain that was on its way is on it, by the lanes so far.
 use Rattle.std.proofs.Common.{◌≡◌, ℕ, List, length}
 use Rattle.winternitz.specs.Groups.{IsOnItsWay}
-use Rattle.winternitz.proofs.groups.climb_by.Given as goal
+use Rattle.winternitz.proofs.groups.climb_batch.Given as goal
 
 abbrev pub invariant-loop-lane : goal.invariant-loop-lane
 invariant-loop-lane g l = record {

@@ -1,7 +1,7 @@
 -- The values of the lanes so far.
 use Rattle.std.proofs.Common.{◌≡◌, ℕ, ◌<◌, [], length, slice_index, slice_index_or}
 use Rattle.winternitz.specs.Lanes.{lanes}
-use Rattle.winternitz.proofs.groups.values_of.Given as goal
+use Rattle.winternitz.proofs.groups.gather_values.Given as goal
 
 abbrev pub invariant-loop-lane : goal.invariant-loop-lane
 invariant-loop-lane l = record {
