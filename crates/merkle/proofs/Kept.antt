@@ -13,7 +13,7 @@ use Rattle.merkle.proofs.Listing.{nodes_count, nodes_last}
 
 -- the upper tree and one block are all that is kept, and no more nodes than the bound
 pub keeps_both : {T : Type 0} (leaf : Leaves) (join : Joins) (height index : ℕ) (cache : View T)
-    → cache.height ≡ height → cache.kept ≡ index
+    → cache.height ≡ height → cache.kept_index ≡ index
     → cache.upper ≡ upper_nodes leaf join height → cache.block ≡ block_nodes leaf join height index
     → KeepsNodes leaf join height index cache
 keeps_both leaf join height index cache same_height same_index upper block = record {
@@ -21,7 +21,7 @@ keeps_both leaf join height index cache same_height same_index upper block = rec
   same_index = same_index;
   upper_kept = upper;
   block_kept = block;
-  most =
+  no_more =
       let above : length cache.upper + 1 ≡ 2 ^ (height - block_height height + 1)
       = ap (λ xs. length xs + 1) upper ∙ nodes_count leaf join (block_height height) (height - block_height height) 0 in
       let below : length cache.block + 1 ≡ 2 ^ (block_height height + 1)
@@ -48,9 +48,9 @@ index_inside height q inside =
 -- a cache that already keeps the block
 pub kept_already : {T : Type 0} (leaf_of : T → Leaves) (join_of : T → Joins) (inner cache : View T) (index : ℕ)
     → inner ≡ cache
-    → index ≡ inner.kept
+    → index ≡ inner.kept_index
     → inner.upper ≡ upper_nodes (leaf_of inner.tree) (join_of inner.tree) inner.height
-    → inner.block ≡ block_nodes (leaf_of inner.tree) (join_of inner.tree) inner.height inner.kept
+    → inner.block ≡ block_nodes (leaf_of inner.tree) (join_of inner.tree) inner.height inner.kept_index
     → KeepsNodes (leaf_of cache.tree) (join_of cache.tree) cache.height index cache
 kept_already {T} leaf_of join_of inner cache index same is upper block =
     let P : View T → Type 0 = λ v. KeepsNodes (leaf_of v.tree) (join_of v.tree) v.height index v in
@@ -61,7 +61,7 @@ kept_already {T} leaf_of join_of inner cache index same is upper block =
 -- a cache that keeps another block instead
 pub kept_now : {T : Type 0} (leaf_of : T → Leaves) (join_of : T → Joins) (inner cache after : View T) (index : ℕ)
     → inner ≡ cache
-    → after.height ≡ inner.height → after.upper ≡ inner.upper → after.kept ≡ index
+    → after.height ≡ inner.height → after.upper ≡ inner.upper → after.kept_index ≡ index
     → inner.upper ≡ upper_nodes (leaf_of inner.tree) (join_of inner.tree) inner.height
     → after.block ≡ block_nodes (leaf_of inner.tree) (join_of inner.tree) inner.height index
     → KeepsNodes (leaf_of cache.tree) (join_of cache.tree) cache.height index after

@@ -9,7 +9,7 @@ pub record View (T : Type 0) : Type 0 where
   pub height : ℕ
   pub upper : List (List ℕ)
   pub block : List (List ℕ)
-  pub kept : ℕ
+  pub kept_index : ℕ
 
 -- the view with these parts
 abbrev pub view_of : {T : Type 0} → T → ℕ → List (List ℕ) → List (List ℕ) → ℕ → View T
@@ -18,7 +18,7 @@ view_of tree height upper block kept = record {
   height = height;
   upper = upper;
   block = block;
-  kept = kept;
+  kept_index = kept;
 }
 
 -- the height of a block's root
@@ -36,16 +36,16 @@ block_nodes leaf join height index = nodes_under leaf join 0 (block_height heigh
 -- A cache keeps the upper tree and this block, and no more.
 pub record KeepsNodes {T : Type 0} (leaf : Leaves) (join : Joins) (height index : ℕ) (cache : View T) : Type 0 where
   pub same_height : cache.height ≡ height
-  pub same_index : cache.kept ≡ index
+  pub same_index : cache.kept_index ≡ index
   pub upper_kept : cache.upper ≡ upper_nodes leaf join height
   pub block_kept : cache.block ≡ block_nodes leaf join height index
-  pub most : length cache.upper + length cache.block
+  pub no_more : length cache.upper + length cache.block
       ≤ 2 ^ (height - block_height height + 1) + 2 ^ (block_height height + 1) - 2
 
 -- what holds of every cache: `made` leaves were made, and it counts `counted` of them
 pub record IsCache {T : Type 0} (leaf : Leaves) (join : Joins) (made counted : ℕ) (cache : View T) : Type 0 where
   pub within : cache.height ≤ 25
-  pub inside : cache.kept < 2 ^ (cache.height - block_height cache.height)
+  pub is_block : cache.kept_index < 2 ^ (cache.height - block_height cache.height)
   pub upper_tree : cache.upper ≡ upper_nodes leaf join cache.height
-  pub one_block : cache.block ≡ block_nodes leaf join cache.height cache.kept
+  pub one_block : cache.block ≡ block_nodes leaf join cache.height cache.kept_index
   pub count : counted ≡ min made (2 ^ 64 - 1)

@@ -10,7 +10,7 @@ use crate::tree::NodeHash;
 /// is q's. The caller keeps the path at most 25 long and q below `2^(path.len())`.
 pub fn root_from_path<T: NodeHash>(tree: &T, q: u32, leaf: &[u8; 32], path: &[[u8; 32]]) -> [u8; 32]
     requires height { length path.now ≤ 25 }
-    requires inside { q < 2 ^ length path.now }
+    requires is_leaf { q < 2 ^ length path.now }
     // The last of the nodes above the leaf, and no other.
     ensures last { PathLeadsTo (T.join_of tree.now) q leaf.now path.now result }
     ensures only { (other : List ℕ) → PathLeadsTo (T.join_of tree.now) q leaf.now path.now other → other ≡ result }

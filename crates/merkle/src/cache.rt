@@ -5,7 +5,7 @@ ghost use Rattle.std.specs.Prelude.{if◌then◌else◌};
 ghost use Rattle.merkle.specs.Cache.{KeepsNodes, block_height};
 ghost use Rattle.merkle.specs.Tree.{path_of, root_of};
 
-use crate::nodes::{fill, fill_from, read_path};
+use crate::nodes::{fill, fill_around, read_path};
 use crate::out_of_memory::OutOfMemory;
 use crate::progress::{Progress, Silent, Told};
 use crate::tree::TreeHash;
@@ -24,7 +24,7 @@ pub struct PathCache<T: TreeHash> {
     upper: Vec<[u8; 32]>,
     block: Vec<[u8; 32]>,
     // The index of the kept block, from the left.
-    kept: u32,
+    kept_index: u32,
     // How many leaves the tree has made, or the greatest u64.
     leaves: u64,
 }
@@ -34,10 +34,10 @@ impl<T: TreeHash> Model for PathCache<T> {
 
     ghost Value = { View T };
 
-    ghost view = { λ s. view_of s.tree s.height s.upper.items s.block.items s.kept };
+    ghost view = { λ s. view_of s.tree s.height s.upper.items s.block.items s.kept_index };
 
     ghost invariant = { λ s. IsCache {T = T} (T.leaf_of s.tree) (T.join_of s.tree) (T.made s.tree) s.leaves
-        (view_of s.tree s.height s.upper.items s.block.items s.kept) };
+        (view_of s.tree s.height s.upper.items s.block.items s.kept_index) };
 }
 
 impl<T: TreeHash> PathCache<T> {
@@ -64,7 +64,7 @@ impl<T: TreeHash> PathCache<T> {
         T: Drop,
         requires height { height ≤ 25 }
         requires fresh { T.made tree ≡ 0 }
-        requires inside { q < 2 ^ height }
+        requires is_leaf { q < 2 ^ height }
         ensures counted { IfOk result (λ cache. T.made cache.tree ≡ 2 ^ height) }
         ensures leaves { IfOk result (λ cache. T.leaf_of cache.tree ≡ T.leaf_of tree) }
         ensures joins { IfOk result (λ cache. T.join_of cache.tree ≡ T.join_of tree) }
@@ -87,7 +87,7 @@ impl<T: TreeHash> PathCache<T> {
         T: Drop,
         requires height { height ≤ 25 }
         requires fresh { T.made tree ≡ 0 }
-        requires inside { q < 2 ^ height }
+        requires is_leaf { q < 2 ^ height }
         ensures counted { IfOk result (λ cache. T.made cache.tree ≡ 2 ^ height) }
         ensures leaves { IfOk result (λ cache. T.leaf_of cache.tree ≡ T.leaf_of tree) }
         ensures joins { IfOk result (λ cache. T.join_of cache.tree ≡ T.join_of tree) }
@@ -95,18 +95,18 @@ impl<T: TreeHash> PathCache<T> {
             (KeepsNodes (T.leaf_of tree) (T.join_of tree) height (q / 2 ^ block_height height)) }
     {
         let block_height = height / 2;
-        let mut upper = nodes_of(alloc, height - block_height)?;
-        let mut block = nodes_of(alloc, block_height)?;
-        let kept = block_of(height, q);
+        let mut upper = zeroed_nodes(alloc, height - block_height)?;
+        let mut block = zeroed_nodes(alloc, block_height)?;
+        let kept_index = block_of(height, q);
         let mut told = Told::new(tree, progress);
-        fill(&mut told, 0, block_height, kept, &mut block);
+        fill(&mut told, 0, block_height, kept_index, &mut block);
         let block_root = block[block.len() - 1];
-        fill_from(
+        fill_around(
             &mut told,
             block_height,
             height - block_height,
             0,
-            kept,
+            kept_index,
             &block_root,
             &mut upper,
         );
@@ -115,7 +115,7 @@ impl<T: TreeHash> PathCache<T> {
             height,
             upper,
             block,
-            kept,
+            kept_index,
             leaves: 2u64.pow(u32::from(height)),
         })
     }
@@ -124,13 +124,13 @@ impl<T: TreeHash> PathCache<T> {
     /// kept, its leaves are made, and it is kept from then on. The caller keeps q below `2^height`, and `into` as long
     /// as the tree is high.
     pub fn path_at(&mut self, q: u32, into: &mut [[u8; 32]])
-        requires inside { q < 2 ^ self.old.height }
-        requires room { length into.old ≡ self.old.height }
+        requires is_leaf { q < 2 ^ self.old.height }
+        requires exact_length { length into.old ≡ self.old.height }
         ensures value { into.new ≡ path_of (T.leaf_of self.old.tree) (T.join_of self.old.tree) self.old.height q }
         // The leaves of a block are made if it isn't kept, and no others.
         ensures counted { let index = q / 2 ^ block_height self.old.height in
             T.made self.new.tree
-            ≡ T.made self.old.tree + (if index == self.old.kept then 0 else 2 ^ block_height self.old.height) }
+            ≡ T.made self.old.tree + (if index == self.old.kept_index then 0 else 2 ^ block_height self.old.height) }
         ensures leaves { T.leaf_of self.new.tree ≡ T.leaf_of self.old.tree }
         ensures joins { T.join_of self.new.tree ≡ T.join_of self.old.tree }
         ensures nodes { KeepsNodes (T.leaf_of self.old.tree) (T.join_of self.old.tree) self.old.height
@@ -148,19 +148,19 @@ impl<T: TreeHash> PathCache<T> {
     fn keep(&mut self, index: u32)
         requires { index < 2 ^ (self.old.height - block_height self.old.height) }
         ensures counted { T.made self.new.tree
-            ≡ T.made self.old.tree + (if index == self.old.kept then 0 else 2 ^ block_height self.old.height) }
+            ≡ T.made self.old.tree + (if index == self.old.kept_index then 0 else 2 ^ block_height self.old.height) }
         ensures leaves { T.leaf_of self.new.tree ≡ T.leaf_of self.old.tree }
         ensures joins { T.join_of self.new.tree ≡ T.join_of self.old.tree }
         ensures nodes { KeepsNodes (T.leaf_of self.old.tree) (T.join_of self.old.tree) self.old.height index self.new }
     {
-        if index == self.kept {
+        if index == self.kept_index {
             return;
         }
         let block_height = self.height / 2;
         let made = 2u64.pow(u32::from(block_height));
         let leaves = self.leaves.saturating_add(made);
         fill(&mut self.tree, 0, block_height, index, &mut self.block);
-        (self.kept, self.leaves) = (index, leaves);
+        (self.kept_index, self.leaves) = (index, leaves);
     }
 
     /// The root of the tree (RFC 8554 5.3, RFC 8391 4.1.6). It makes no leaf.
@@ -181,15 +181,15 @@ impl<T: TreeHash> PathCache<T> {
 // The block of leaf q, from the left.
 fn block_of(height: u8, q: u32) -> u32
     requires height { height ≤ 25 }
-    requires inside { q < 2 ^ height }
+    requires is_leaf { q < 2 ^ height }
     ensures index { result ≡ q / 2 ^ block_height height }
-    ensures inside { result < 2 ^ (height - block_height height) }
+    ensures is_block { result < 2 ^ (height - block_height height) }
 {
     q / 2u32.pow(u32::from(height / 2))
 }
 
 // Room for the nodes of a tree of this height: `2^(height + 1) - 1`.
-fn nodes_of(alloc: Global, height: u8) -> Result<Vec<[u8; 32]>, OutOfMemory>
+fn zeroed_nodes(alloc: Global, height: u8) -> Result<Vec<[u8; 32]>, OutOfMemory>
     requires { height ≤ 25 }
     ensures { IfOk result (λ nodes. vec_len nodes + 1 ≡ 2 ^ (height + 1)) }
 {

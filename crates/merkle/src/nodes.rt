@@ -16,8 +16,8 @@ pub(crate) fn fill<T: TreeHash>(
     into: &mut [[u8; 32]],
 )
     requires height { base + depth ≤ 25 }
-    requires inside { index < 2 ^ (25 - (base + depth)) }
-    requires room { length into.old + 1 ≡ 2 ^ (depth + 1) }
+    requires node_in_tree { index < 2 ^ (25 - (base + depth)) }
+    requires exact_length { length into.old + 1 ≡ 2 ^ (depth + 1) }
     ensures value { into.new ≡ nodes_under (T.leaf_of tree.old) (T.join_of tree.old) base depth index }
     ensures counted { T.made tree.new ≡ T.made tree.old + 2 ^ (base + depth) }
     ensures leaves { T.leaf_of tree.new ≡ T.leaf_of tree.old }
@@ -25,7 +25,7 @@ pub(crate) fn fill<T: TreeHash>(
 {
     if base + depth == LANES_HEIGHT {
         let leaves = tree.leaves_in_lanes(LANES as u32 * index);
-        fill_over(tree, base, depth, index, &leaves, into);
+        fill_from_leaves(tree, base, depth, index, &leaves, into);
         return;
     }
     if depth == 0 {
@@ -42,7 +42,7 @@ pub(crate) fn fill<T: TreeHash>(
 }
 
 /// As `fill`, from leaves that are made already.
-fn fill_over<T: NodeHash>(
+fn fill_from_leaves<T: NodeHash>(
     tree: &T,
     base: u8,
     depth: u8,
@@ -51,9 +51,9 @@ fn fill_over<T: NodeHash>(
     into: &mut [[u8; 32]],
 )
     requires height { base + depth ≤ 25 }
-    requires inside { index < 2 ^ (25 - (base + depth)) }
+    requires node_in_tree { index < 2 ^ (25 - (base + depth)) }
     requires count { length leaves.now ≡ 2 ^ (base + depth) }
-    requires room { length into.old + 1 ≡ 2 ^ (depth + 1) }
+    requires exact_length { length into.old + 1 ≡ 2 ^ (depth + 1) }
     ensures { (leaf : Leaves) → AreUnder leaf (base + depth) index leaves.now
         → into.new ≡ nodes_under leaf (T.join_of tree.now) base depth index }
 {
@@ -67,13 +67,13 @@ fn fill_over<T: NodeHash>(
     let half = into.len() / 2;
     let (left, rest) = into.split_at_mut(half);
     let (right, top) = rest.split_at_mut(half);
-    fill_over(tree, base, below, 2 * index, first, left);
-    fill_over(tree, base, below, 2 * index + 1, second, right);
+    fill_from_leaves(tree, base, below, 2 * index, first, left);
+    fill_from_leaves(tree, base, below, 2 * index + 1, second, right);
     top[0] = tree.join(base + below, index, &left[half - 1], &right[half - 1]);
 }
 
 /// As `fill`, where one node of height `base` is known, and its leaves aren't made again.
-pub(crate) fn fill_from<T: TreeHash>(
+pub(crate) fn fill_around<T: TreeHash>(
     tree: &mut T,
     base: u8,
     depth: u8,
@@ -83,10 +83,10 @@ pub(crate) fn fill_from<T: TreeHash>(
     into: &mut [[u8; 32]],
 )
     requires height { base + depth ≤ 25 }
-    requires inside { index < 2 ^ (25 - (base + depth)) }
+    requires node_in_tree { index < 2 ^ (25 - (base + depth)) }
     requires under { known_index / 2 ^ depth ≡ index }
     requires known { known.now ≡ node (T.leaf_of tree.old) (T.join_of tree.old) base known_index }
-    requires room { length into.old + 1 ≡ 2 ^ (depth + 1) }
+    requires exact_length { length into.old + 1 ≡ 2 ^ (depth + 1) }
     ensures value { into.new ≡ nodes_under (T.leaf_of tree.old) (T.join_of tree.old) base depth index }
     ensures counted { T.made tree.new + 2 ^ base ≡ T.made tree.old + 2 ^ (base + depth) }
     ensures leaves { T.leaf_of tree.new ≡ T.leaf_of tree.old }
@@ -103,12 +103,12 @@ pub(crate) fn fill_from<T: TreeHash>(
     // The index of the child over the known node.
     let over = known_index / 2u32.pow(u32::from(below));
     if over == 2 * index {
-        fill_from(tree, base, below, 2 * index, known_index, known, left);
+        fill_around(tree, base, below, 2 * index, known_index, known, left);
         fill(tree, base, below, 2 * index + 1, right);
         top[0] = tree.join(base + below, index, &left[half - 1], &right[half - 1]);
     } else {
         fill(tree, base, below, 2 * index, left);
-        fill_from(tree, base, below, 2 * index + 1, known_index, known, right);
+        fill_around(tree, base, below, 2 * index + 1, known_index, known, right);
         top[0] = tree.join(base + below, index, &left[half - 1], &right[half - 1]);
     }
 }

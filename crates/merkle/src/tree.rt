@@ -40,7 +40,7 @@ pub trait TreeHash: NodeHash {
     /// The leaves from `first` on, one for each lane; they count as `LANES` leaves made. By default they are made one
     /// by one.
     fn leaves_in_lanes(&mut self, first: u32) -> [[u8; 32]; LANES]
-        requires inside { first + lanes ≤ 2 ^ 32 }
+        requires numbers_fit { first + lanes ≤ 2 ^ 32 }
         ensures values { (j : ℕ) → j < lanes → slice_index_or result j [] ≡ leaf_of self.old (first + j) }
         ensures counted { made self.new ≡ made self.old + lanes }
         ensures leaves { leaf_of self.new ≡ leaf_of self.old }
@@ -62,7 +62,7 @@ pub(crate) fn node_over<T: NodeHash>(
     leaves: &[[u8; 32]],
 ) -> [u8; 32]
     requires height { height ≤ 25 }
-    requires inside { index < 2 ^ (25 - height) }
+    requires node_in_tree { index < 2 ^ (25 - height) }
     requires count { length leaves.now ≡ 2 ^ height }
     ensures { (leaf : Leaves) → AreUnder leaf height index leaves.now
         → result ≡ node leaf (T.join_of tree.now) height index }
@@ -80,7 +80,7 @@ pub(crate) fn node_over<T: NodeHash>(
 /// Node `index` of a height. Its leaves are made in lanes where eight or more stand below it.
 pub(crate) fn node_at<T: TreeHash>(tree: &mut T, height: u8, index: u32) -> [u8; 32]
     requires height { height ≤ 25 }
-    requires inside { index < 2 ^ (25 - height) }
+    requires node_in_tree { index < 2 ^ (25 - height) }
     ensures value { result ≡ node (T.leaf_of tree.old) (T.join_of tree.old) height index }
     // Each leaf below it is made once.
     ensures counted { T.made tree.new ≡ T.made tree.old + 2 ^ height }
@@ -124,8 +124,8 @@ pub fn root<T: TreeHash>(tree: &mut T, height: u8) -> [u8; 32]
 /// height at most 25, q below `2^height`, and `into` as long as the tree is high.
 pub fn path<T: TreeHash>(tree: &mut T, height: u8, q: u32, into: &mut [[u8; 32]])
     requires height { height ≤ 25 }
-    requires inside { q < 2 ^ height }
-    requires room { length into.old ≡ height }
+    requires is_leaf { q < 2 ^ height }
+    requires exact_length { length into.old ≡ height }
     ensures value { into.new ≡ path_of (T.leaf_of tree.old) (T.join_of tree.old) height q }
     // Each leaf but q is made once.
     ensures counted { T.made tree.new ≡ T.made tree.old + (2 ^ height - 1) }

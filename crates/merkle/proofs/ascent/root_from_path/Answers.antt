@@ -38,4 +38,4 @@ returns-clause-only g c = λ other led. sym led.last ∙ ascent_at _ _ _ _ led.n
 
 pub returns-clause-leads : goal.returns-clause-leads
 returns-clause-leads g c = λ leaves path_is leaf_is.
-    at_end g c ∙ climbed_to_root leaves _ _ _ _ _ c.requires.inside path_is leaf_is
+    at_end g c ∙ climbed_to_root leaves _ _ _ _ _ c.requires.is_leaf path_is leaf_is

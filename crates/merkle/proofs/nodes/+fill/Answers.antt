@@ -15,29 +15,29 @@ returns-then-depth-eq0-clause-value g t c =
 
 pub fill-requires : goal.fill-requires
 fill-requires g t c κs within =
-    let room = half_room (length c.args.into.now) c.args.depth c.requires.room (omega arith) in
+    let room = half_room (length c.args.into.now) c.args.depth c.requires.exact_length (omega arith) in
     let inside
-    = halves_inside c.args.base c.args.depth c.args.index (omega arith) c.requires.height c.requires.inside in
+    = halves_inside c.args.base c.args.depth c.args.index (omega arith) c.requires.height c.requires.node_in_tree in
     search rules
 
 pub fill-requires-2 : goal.fill-requires-2
 fill-requires-2 g t c κs within =
-    let room = half_room (length c.args.into.now) c.args.depth c.requires.room (omega arith) in
+    let room = half_room (length c.args.into.now) c.args.depth c.requires.exact_length (omega arith) in
     let inside
-    = halves_inside c.args.base c.args.depth c.args.index (omega arith) c.requires.height c.requires.inside in
+    = halves_inside c.args.base c.args.depth c.args.index (omega arith) c.requires.height c.requires.node_in_tree in
     search rules
 
 pub overflow_sub-half : goal.overflow_sub-half
-overflow_sub-half g t c = half_some _ _ c.requires.room (omega arith)
+overflow_sub-half g t c = half_some _ _ c.requires.exact_length (omega arith)
 
 pub overflow_sub-half-2 : goal.overflow_sub-half-2
-overflow_sub-half-2 g t c = half_some _ _ c.requires.room (omega arith)
+overflow_sub-half-2 g t c = half_some _ _ c.requires.exact_length (omega arith)
 
 pub bounds-left-half : goal.bounds-left-half
-bounds-left-half g t c = omega (arith, half_some (length c.args.into.now) c.args.depth c.requires.room (omega arith))
+bounds-left-half g t c = omega (arith, half_some (length c.args.into.now) c.args.depth c.requires.exact_length (omega arith))
 
 pub bounds-right-half : goal.bounds-right-half
-bounds-right-half g t c = omega (arith, half_some (length c.args.into.now) c.args.depth c.requires.room (omega arith))
+bounds-right-half g t c = omega (arith, half_some (length c.args.into.now) c.args.depth c.requires.exact_length (omega arith))
 
 pub returns-clause-value : goal.returns-clause-value
 returns-clause-value g t c =
@@ -45,8 +45,8 @@ returns-clause-value g t c =
     let join = g.T.NodeHash.join_of c.args.tree.now in
     let below = c.args.depth - 1 in
     let n = length c.args.into.now / 2 - 1 in
-    let long = half_long (length c.args.into.now) c.args.depth c.requires.room (omega arith) in
-    let some = half_some (length c.args.into.now) c.args.depth c.requires.room (omega arith) in
+    let long = half_long (length c.args.into.now) c.args.depth c.requires.exact_length (omega arith) in
+    let some = half_some (length c.args.into.now) c.args.depth c.requires.exact_length (omega arith) in
     nodes_over_halves leaf join c.args.base c.args.depth c.args.index n
     c.fill.new.into c.fill-2.new.into _ c.join.result (omega arith) (omega arith)
     c.fill.ensures.value

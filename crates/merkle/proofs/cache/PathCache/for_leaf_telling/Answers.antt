@@ -7,15 +7,15 @@ use Rattle.merkle.proofs.Kept.{block_inside}
 use Rattle.merkle.proofs.Listing.{nodes_last}
 use Rattle.merkle.proofs.cache.PathCache.for_leaf_telling.Goals as goal
 
-pub fill-requires-clause-inside : goal.fill-requires-clause-inside
-fill-requires-clause-inside g c =
-    block_inside c.args.height c.block_of-kept.result c.requires.height c.block_of-kept.ensures.inside
+pub fill-requires-clause-node_in_tree : goal.fill-requires-clause-node_in_tree
+fill-requires-clause-node_in_tree g c =
+    block_inside c.args.height c.block_of-kept_index.result c.requires.height c.block_of-kept_index.ensures.is_block
 
-pub fill_from-requires-clause-known : goal.fill_from-requires-clause-known
-fill_from-requires-clause-known g c =
+pub fill_around-requires-clause-known : goal.fill_around-requires-clause-known
+fill_around-requires-clause-known g c =
     let leaf = g.T.TreeHash.leaf_of c.new-told.result.tree in
     let join = g.T.NodeHash.join_of c.new-told.result.tree in
-    let kept = c.block_of-kept.result in
+    let kept = c.block_of-kept_index.result in
     let high : 0 + c.args.height / 2 ≡ c.args.height / 2 = omega arith in
     c.index.ensures
     ∙ nodes_last leaf join 0 (c.args.height / 2) kept (c.len.result - 1) _ c.index.result.now

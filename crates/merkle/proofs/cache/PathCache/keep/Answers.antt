@@ -9,15 +9,15 @@ returns-then-index-self-clause-nodes g c =
     kept_already {T = g.row.T.Denot} g.T.TreeHash.leaf_of g.T.NodeHash.join_of _ c.args.self.now c.args.index
     c.self.view_is c.if-index-self.true c.self.invariant.upper_tree c.self.invariant.one_block
 
-pub fill-requires-clause-inside : goal.fill-requires-clause-inside
-fill-requires-clause-inside g c =
+pub fill-requires-clause-node_in_tree : goal.fill-requires-clause-node_in_tree
+fill-requires-clause-node_in_tree g c =
     let same : c.args.self.now.height ≡ c.self.inside.height = ap (λ v. v.height) (sym c.self.view_is) in
     let P : ℕ → Type 0 = λ h. c.args.index < 2 ^ (h - block_height h) in
     block_inside c.self.inside.height c.args.index c.self.invariant.within (subst P same c.requires)
 
-pub fill-requires-clause-room : goal.fill-requires-clause-room
-fill-requires-clause-room g c =
-    block_count _ _ c.self.inside.height c.self.inside.kept c.deref_mut.result.now
+pub fill-requires-clause-exact_length : goal.fill-requires-clause-exact_length
+fill-requires-clause-exact_length g c =
+    block_count _ _ c.self.inside.height c.self.inside.kept_index c.deref_mut.result.now
     (c.deref_mut.ensures.value ∙ c.self.invariant.one_block)
 
 pub returns-clause-nodes : goal.returns-clause-nodes

@@ -38,7 +38,7 @@ returns-clause-value g c =
     let at : index ≡ c.args.q / 2 ^ b
     = c.block_of-index.ensures.index ∙ ap (λ h. c.args.q / 2 ^ block_height h) same in
     let P : ℕ → Type 0 = λ h. index < 2 ^ (h - block_height h) in
-    let first : index / 2 ^ (height - b) ≡ 0 = div-eq_of_lt (subst P same c.block_of-index.ensures.inside) in
+    let first : index / 2 ^ (height - b) ≡ 0 = div-eq_of_lt (subst P same c.block_of-index.ensures.is_block) in
     let lower_long : length c.split_at_mut-lower.result.0.now ≡ b = omega arith in
     let upper_long : length c.split_at_mut-lower.result.1.now ≡ height - b = omega arith in
     whole_path leaf join height c.args.q index c.read_path.new.into c.read_path-2.new.into

@@ -6,7 +6,7 @@ use Rattle.merkle.specs.Tree.{node}
 use Rattle.merkle.proofs.Listing.{halves_inside, nodes_over_halves, half_long, half_room, half_some, leaves_below}
 use Rattle.merkle.proofs.Listing.{nodes_one, one_written}
 use Rattle.merkle.proofs.Reading.{under_second}
-use Rattle.merkle.proofs.nodes.+fill_from.Goals as goal
+use Rattle.merkle.proofs.nodes.+fill_around.Goals as goal
 
 pub returns-then-depth-eq0-clause-value : goal.returns-then-depth-eq0-clause-value
 returns-then-depth-eq0-clause-value g t c =
@@ -20,29 +20,29 @@ returns-then-depth-eq0-clause-value g t c =
     (whole ∙ ap (λ d. c.args.known_index / 2 ^ d) (sym c.if-depth-eq0.true) ∙ c.requires.under)
     ∙ sym (nodes_one leaf join c.args.base c.args.depth c.args.index c.if-depth-eq0.true)
 
-pub fill_from-requires : goal.fill_from-requires
-fill_from-requires g t c κs within =
-    let room = half_room (length c.args.into.now) c.args.depth c.requires.room (omega arith) in
+pub fill_around-requires : goal.fill_around-requires
+fill_around-requires g t c κs within =
+    let room = half_room (length c.args.into.now) c.args.depth c.requires.exact_length (omega arith) in
     let inside
-    = halves_inside c.args.base c.args.depth c.args.index (omega arith) c.requires.height c.requires.inside in
+    = halves_inside c.args.base c.args.depth c.args.index (omega arith) c.requires.height c.requires.node_in_tree in
     let power : c.pow.result ≡ 2 ^ (c.args.depth - 1) = c.pow.ensures ∙ ap (λ n. 2 ^ n) c.from.ensures in
     let under : c.args.known_index / 2 ^ (c.args.depth - 1) ≡ 2 * c.args.index
     = ap (λ n. c.args.known_index / n) (sym power) ∙ c.if-over-index.true in
     search rules
 
-pub fill-requires-clause-inside : goal.fill-requires-clause-inside
-fill-requires-clause-inside g t c =
-    halves_inside c.args.base c.args.depth c.args.index (omega arith) c.requires.height c.requires.inside
+pub fill-requires-clause-node_in_tree : goal.fill-requires-clause-node_in_tree
+fill-requires-clause-node_in_tree g t c =
+    halves_inside c.args.base c.args.depth c.args.index (omega arith) c.requires.height c.requires.node_in_tree
 
-pub fill-requires-else-over-index-clause-inside : goal.fill-requires-else-over-index-clause-inside
-fill-requires-else-over-index-clause-inside g t c =
-    omega (arith, halves_inside c.args.base c.args.depth c.args.index (omega arith) c.requires.height c.requires.inside)
+pub fill-requires-else-over-index-clause-node_in_tree : goal.fill-requires-else-over-index-clause-node_in_tree
+fill-requires-else-over-index-clause-node_in_tree g t c =
+    omega (arith, halves_inside c.args.base c.args.depth c.args.index (omega arith) c.requires.height c.requires.node_in_tree)
 
-pub fill_from-requires-else-over-index : goal.fill_from-requires-else-over-index
-fill_from-requires-else-over-index g t c κs within =
-    let room = half_room (length c.args.into.now) c.args.depth c.requires.room (omega arith) in
+pub fill_around-requires-else-over-index : goal.fill_around-requires-else-over-index
+fill_around-requires-else-over-index g t c κs within =
+    let room = half_room (length c.args.into.now) c.args.depth c.requires.exact_length (omega arith) in
     let inside
-    = halves_inside c.args.base c.args.depth c.args.index (omega arith) c.requires.height c.requires.inside in
+    = halves_inside c.args.base c.args.depth c.args.index (omega arith) c.requires.height c.requires.node_in_tree in
     let power : c.pow.result ≡ 2 ^ (c.args.depth - 1) = c.pow.ensures ∙ ap (λ n. 2 ^ n) c.from.ensures in
     let under = under_second c.args.known_index c.args.depth c.args.index c.pow.result (omega arith) c.requires.under
     power c.if-over-index.false in
@@ -55,30 +55,30 @@ fill_from-requires-else-over-index g t c κs within =
     search rules
 
 pub overflow_sub-half : goal.overflow_sub-half
-overflow_sub-half g t c = half_some _ _ c.requires.room (omega arith)
+overflow_sub-half g t c = half_some _ _ c.requires.exact_length (omega arith)
 
 pub overflow_sub-half-then-over-index : goal.overflow_sub-half-then-over-index
-overflow_sub-half-then-over-index g t c = half_some _ _ c.requires.room (omega arith)
+overflow_sub-half-then-over-index g t c = half_some _ _ c.requires.exact_length (omega arith)
 
 pub bounds-left-half : goal.bounds-left-half
-bounds-left-half g t c = omega (arith, half_some (length c.args.into.now) c.args.depth c.requires.room (omega arith))
+bounds-left-half g t c = omega (arith, half_some (length c.args.into.now) c.args.depth c.requires.exact_length (omega arith))
 
 pub bounds-right-half : goal.bounds-right-half
-bounds-right-half g t c = omega (arith, half_some (length c.args.into.now) c.args.depth c.requires.room (omega arith))
+bounds-right-half g t c = omega (arith, half_some (length c.args.into.now) c.args.depth c.requires.exact_length (omega arith))
 
 pub overflow_sub-half-else-over-index : goal.overflow_sub-half-else-over-index
-overflow_sub-half-else-over-index g t c = half_some _ _ c.requires.room (omega arith)
+overflow_sub-half-else-over-index g t c = half_some _ _ c.requires.exact_length (omega arith)
 
 pub overflow_sub-half-else-over-index-2 : goal.overflow_sub-half-else-over-index-2
-overflow_sub-half-else-over-index-2 g t c = half_some _ _ c.requires.room (omega arith)
+overflow_sub-half-else-over-index-2 g t c = half_some _ _ c.requires.exact_length (omega arith)
 
 pub bounds-left-half-else-over-index : goal.bounds-left-half-else-over-index
 bounds-left-half-else-over-index g t c =
-    omega (arith, half_some (length c.args.into.now) c.args.depth c.requires.room (omega arith))
+    omega (arith, half_some (length c.args.into.now) c.args.depth c.requires.exact_length (omega arith))
 
 pub bounds-right-half-else-over-index : goal.bounds-right-half-else-over-index
 bounds-right-half-else-over-index g t c =
-    omega (arith, half_some (length c.args.into.now) c.args.depth c.requires.room (omega arith))
+    omega (arith, half_some (length c.args.into.now) c.args.depth c.requires.exact_length (omega arith))
 
 pub returns-then-over-index-clause-value : goal.returns-then-over-index-clause-value
 returns-then-over-index-clause-value g t c =
@@ -86,20 +86,20 @@ returns-then-over-index-clause-value g t c =
     let join = g.T.NodeHash.join_of c.args.tree.now in
     let below = c.args.depth - 1 in
     let n = length c.args.into.now / 2 - 1 in
-    let long = half_long (length c.args.into.now) c.args.depth c.requires.room (omega arith) in
-    let some = half_some (length c.args.into.now) c.args.depth c.requires.room (omega arith) in
+    let long = half_long (length c.args.into.now) c.args.depth c.requires.exact_length (omega arith) in
+    let some = half_some (length c.args.into.now) c.args.depth c.requires.exact_length (omega arith) in
     nodes_over_halves leaf join c.args.base c.args.depth c.args.index n
-    c.fill_from.new.into c.fill.new.into _ c.join.result (omega arith) (omega arith)
-    c.fill_from.ensures.value
+    c.fill_around.new.into c.fill.new.into _ c.join.result (omega arith) (omega arith)
+    c.fill_around.ensures.value
     (c.fill.ensures.value
-    ∙ ap (λ l. nodes_under l (g.T.NodeHash.join_of c.fill_from.new.tree) c.args.base below
-    (2 * c.args.index + 1)) c.fill_from.ensures.leaves
-    ∙ ap (λ j. nodes_under leaf j c.args.base below (2 * c.args.index + 1)) c.fill_from.ensures.joins)
+    ∙ ap (λ l. nodes_under l (g.T.NodeHash.join_of c.fill_around.new.tree) c.args.base below
+    (2 * c.args.index + 1)) c.fill_around.ensures.leaves
+    ∙ ap (λ j. nodes_under leaf j c.args.base below (2 * c.args.index + 1)) c.fill_around.ensures.joins)
     (omega (arith, long, pow_more 2 c.args.depth))
     (c.join.ensures
-    ∙ ap (λ j. j (c.args.base + below) c.args.index (slice_index_or c.fill_from.new.into n [])
+    ∙ ap (λ j. j (c.args.base + below) c.args.index (slice_index_or c.fill_around.new.into n [])
     (slice_index_or c.fill.new.into n []))
-    (c.fill.ensures.joins ∙ c.fill_from.ensures.joins))
+    (c.fill.ensures.joins ∙ c.fill_around.ensures.joins))
 
 pub returns-then-over-index-clause-counted : goal.returns-then-over-index-clause-counted
 returns-then-over-index-clause-counted g t c = omega (arith, leaves_below c.args.base c.args.depth (omega arith))
@@ -110,10 +110,10 @@ returns-else-over-index-clause-value g t c =
     let join = g.T.NodeHash.join_of c.args.tree.now in
     let below = c.args.depth - 1 in
     let n = length c.args.into.now / 2 - 1 in
-    let long = half_long (length c.args.into.now) c.args.depth c.requires.room (omega arith) in
-    let some = half_some (length c.args.into.now) c.args.depth c.requires.room (omega arith) in
+    let long = half_long (length c.args.into.now) c.args.depth c.requires.exact_length (omega arith) in
+    let some = half_some (length c.args.into.now) c.args.depth c.requires.exact_length (omega arith) in
     let first = c.fill-else-over-index in
-    let second = c.fill_from-else-over-index in
+    let second = c.fill_around-else-over-index in
     nodes_over_halves leaf join c.args.base c.args.depth c.args.index n
     first.new.into second.new.into _ c.join-else-over-index.result (omega arith) (omega arith)
     first.ensures.value
