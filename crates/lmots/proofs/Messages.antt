@@ -10,12 +10,12 @@ use Rattle.lmots.specs.Hashes.{public_separator, u16str, u32str}
 use Rattle.lmots.specs.Key.{chain_value}
 
 -- the first ends of a key's chains
-abbrev pub ends_until : List ℕ → ℕ → OtsType → List ℕ → ℕ → List (List ℕ)
-ends_until identifier q ots seed n = map (λ i. chain_value identifier q seed i (2 ^ width_of ots - 1)) (range_with_len 0 n)
+abbrev pub first_ends : List ℕ → ℕ → OtsType → List ℕ → ℕ → List (List ℕ)
+first_ends identifier q ots seed n = map (λ i. chain_value identifier q seed i (2 ^ width_of ots - 1)) (range_with_len 0 n)
 
 -- the message with the first ends
 abbrev pub message_until : List ℕ → ℕ → OtsType → List ℕ → ℕ → List ℕ
-message_until identifier q ots seed n = identifier ++ u32str q ++ u16str public_separator ++ concat (ends_until identifier q ots seed n)
+message_until identifier q ots seed n = identifier ++ u32str q ++ u16str public_separator ++ concat (first_ends identifier q ots seed n)
 
 pub message_none : (identifier : List ℕ) (q : ℕ) (ots : OtsType) (seed : List ℕ)
     → identifier ++ u32str q ++ u16str public_separator ≡ message_until identifier q ots seed 0
@@ -33,7 +33,7 @@ message_more identifier q ots seed n last before message end so_far written is s
     let value = λ (i : ℕ). chain_value identifier q seed i (2 ^ width_of ots - 1) in
     let made : end ≡ value n = is ∙ ap (chain_value identifier q seed n) steps in
     written ∙ ap (λ xs. xs ++ end) so_far
-    ∙ append_assoc front (concat (ends_until identifier q ots seed n)) end
-    ∙ ap (λ x. front ++ (concat (ends_until identifier q ots seed n) ++ x)) made
-    ∙ ap (λ xs. front ++ xs) (sym (concat_more (ends_until identifier q ots seed n) (value n))
+    ∙ append_assoc front (concat (first_ends identifier q ots seed n)) end
+    ∙ ap (λ x. front ++ (concat (first_ends identifier q ots seed n) ++ x)) made
+    ∙ ap (λ xs. front ++ xs) (sym (concat_more (first_ends identifier q ots seed n) (value n))
     ∙ ap concat (sym (map-range_with_len_more value 0 n n (omega arith))))

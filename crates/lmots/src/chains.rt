@@ -58,7 +58,7 @@ impl Chains {
     {
         Chains {
             key: *key,
-            beginning: Beginning::new(&[first_bytes(&key.identifier, key.leaf); LANES]),
+            beginning: Beginning::new(&[key_prefix(&key.identifier, key.leaf); LANES]),
         }
     }
 
@@ -95,7 +95,7 @@ impl Chains {
 }
 
 // What every hash of a key begins with: I and q.
-pub(crate) fn first_bytes(identifier: &[u8; 16], leaf: u32) -> [u8; 20]
+pub(crate) fn key_prefix(identifier: &[u8; 16], leaf: u32) -> [u8; 20]
     ensures { result ≡ identifier.now ++ u32str leaf }
 {
     let mut bytes = [0; 20];

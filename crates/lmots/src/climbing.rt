@@ -30,11 +30,11 @@ pub trait Climbing {
         requires { length values.now ≡ chains_of ots }
         ensures value { result ≡ spec.public_hash key.now.identifier key.now.leaf
             (ends_of_signature key.now.identifier key.now.leaf ots digest.now values.now) }
-        // The hash of every valid list of ends (`only`); a valid list exists (`some`).
+        // The hash of every valid list of ends (`only`); a valid list exists (`ends_exist`).
         ensures only { (ends : List (List ℕ)) →
             ClimbTo key.now.identifier key.now.leaf ots digest.now values.now ends →
             result ≡ spec.public_hash key.now.identifier key.now.leaf ends }
-        ensures some { (ends : List (List ℕ)) ×
+        ensures ends_exist { (ends : List (List ℕ)) ×
             ClimbTo key.now.identifier key.now.leaf ots digest.now values.now ends ×
             (result ≡ spec.public_hash key.now.identifier key.now.leaf ends) };
 }
@@ -66,7 +66,7 @@ impl Climbing for OneByOne {
 // The public hash of the ends to which values climb from their digits. Each end is hashed as soon as it is reached;
 // none is kept.
 fn hash_of_climbed(key: &LmOts, ots: OtsType, digits: &[u8], values: &[[u8; 32]]) -> [u8; 32]
-    requires few { length values.now ≤ 265 }
+    requires at_most_265 { length values.now ≤ 265 }
     requires count { length digits.now ≡ length values.now }
     requires order { (i : ℕ) → i < length values.now → slice_index digits.now i ≤ 2 ^ width_of ots - 1 }
     ensures { result ≡ spec.public_hash key.now.identifier key.now.leaf

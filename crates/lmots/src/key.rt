@@ -160,11 +160,11 @@ impl LmOts {
         requires { length values.now ≡ chains_of ots }
         ensures value { result ≡ spec.public_hash self.now.identifier self.now.leaf
             (ends_of_signature self.now.identifier self.now.leaf ots digest.now values.now) }
-        // The hash of every valid list of ends (`only`); a valid list exists (`some`).
+        // The hash of every valid list of ends (`only`); a valid list exists (`ends_exist`).
         ensures only { (ends : List (List ℕ)) →
             ClimbTo self.now.identifier self.now.leaf ots digest.now values.now ends →
             result ≡ spec.public_hash self.now.identifier self.now.leaf ends }
-        ensures some { (ends : List (List ℕ)) ×
+        ensures ends_exist { (ends : List (List ℕ)) ×
             ClimbTo self.now.identifier self.now.leaf ots digest.now values.now ends ×
             (result ≡ spec.public_hash self.now.identifier self.now.leaf ends) }
     {

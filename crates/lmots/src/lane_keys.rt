@@ -10,7 +10,7 @@ ghost use Rattle.typecodes.specs.Types.{chains_of};
 ghost use Rattle.winternitz.specs.Beginning.{BeginsWith};
 ghost use Rattle.winternitz.specs.Lanes.{lanes, value_in};
 
-use crate::chains::first_bytes;
+use crate::chains::key_prefix;
 use crate::hashes::PUBLIC;
 use crate::key::greatest_digit;
 use typecodes::{OtsType, put};
@@ -41,7 +41,7 @@ impl LaneKeys {
     {
         let mut first = [[0; 20]; LANES];
         for lane in 0..LANES {
-            first[lane] = first_bytes(&identifier, leaves[lane]);
+            first[lane] = key_prefix(&identifier, leaves[lane]);
         }
         LaneKeys {
             identifier,
@@ -85,18 +85,18 @@ impl LaneKeys {
     {
         let mut messages = [[0; ROOM]; LANES];
         for lane in 0..LANES {
-            messages[lane] = message_of(&self.identifier, self.leaves[lane]);
+            messages[lane] = public_message_start(&self.identifier, self.leaves[lane]);
         }
         messages
     }
 }
 
 // One such message.
-fn message_of(identifier: &[u8; 16], leaf: u32) -> [u8; ROOM]
+fn public_message_start(identifier: &[u8; 16], leaf: u32) -> [u8; ROOM]
     ensures { take 22 result ≡ identifier.now ++ u32str leaf ++ u16str public_separator }
 {
     let mut message = [0; ROOM];
-    let offset = put(&mut message, 0, &first_bytes(identifier, leaf));
+    let offset = put(&mut message, 0, &key_prefix(identifier, leaf));
     put(&mut message, offset, &PUBLIC.to_be_bytes());
     message
 }

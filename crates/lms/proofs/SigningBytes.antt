@@ -21,7 +21,7 @@ use Rattle.lms.proofs.After.{after_chains, after_identifier, after_q, after_key_
 
 -- The parts have the sizes that the types say, and q is a leaf.
 pub record IsSized (s : Signature) : Type 0 where
-  pub inside : s.q < 2 ^ height_of s.pair.tree
+  pub is_leaf : s.q < 2 ^ height_of s.pair.tree
   pub randomizer : length s.randomizer ≡ 32
   pub chain_count : length s.chains ≡ chains_of s.pair.ots
   pub chains : (i : ℕ) → i < chains_of s.pair.ots → length (get_or s.chains i []) ≡ 32
@@ -32,7 +32,7 @@ pub record IsSized (s : Signature) : Type 0 where
 path_spelled : (s : Signature) → IsSized s → Spells (after_tree s.q s.pair.ots s.randomizer s.chains s.pair.tree) s (concat s.path)
 path_spelled s sized =
     let h = height_of s.pair.tree in
-    rw (lt-ltb s.q (2 ^ h) sized.inside)
+    rw (lt-ltb s.q (2 ^ h) sized.is_leaf)
     (last_field (values h) _ s.path s (concat s.path) (values_spelled h s.path sized.path_count sized.path) (refl, refl))
 
 -- the tree's type and the path end it
@@ -60,7 +60,7 @@ signature_spelled s sized =
     let one_time = s.randomizer ++ (concat s.chains ++ rest) in
     subst (Spells signature s) (six_parts (u32str s.q) (u32str (ots_code s.pair.ots)) s.randomizer (concat s.chains) (u32str (lms_code s.pair.tree)) (concat s.path))
     (from_turn number after_q s.q s (u32str s.q) (u32str (ots_code s.pair.ots) ++ one_time)
-    (number_spelled s.q (lms_leaf_small s.pair.tree s.q sized.inside))
+    (number_spelled s.q (lms_leaf_small s.pair.tree s.q sized.is_leaf))
     (from_turn ots_type (after_ots s.q) s.pair.ots s (u32str (ots_code s.pair.ots)) one_time
     (ots_spelled s.pair.ots)
     (one_time_spelled s rest sized (tree_spelled s sized))))
@@ -71,7 +71,7 @@ pub signed_spelled : (secret : LmsSecret) (q : ℕ) (randomizer digest : List �
     → Spells signature (signed secret q randomizer digest path) (signature_bytes (signed secret q randomizer digest path))
 signed_spelled secret q randomizer digest path inside size count sizes =
     let sized : IsSized (signed secret q randomizer digest path) = record {
-      inside = inside;
+      is_leaf = inside;
       randomizer = size;
       chain_count = length-map-range_with_len _ 0 (chains_of secret.pair.ots);
       chains = signed_sizes secret.identifier q secret.pair.ots secret.seed digest;

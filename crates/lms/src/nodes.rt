@@ -4,10 +4,12 @@ ghost use Rattle.std.specs.Prelude.{◌≡◌, ◌<◌, ◌++◌, ℕ, [], slice
 ghost use Rattle.sha2.specs.Hashers.{Holds256};
 ghost use Rattle.lms.specs.Nodes.{join_of, leaf_of, node_number};
 ghost use Rattle.lmots.specs.Hashes.{u16str, u32str};
+ghost use Rattle.typecodes.specs.Types.{height_of};
 ghost use Rattle.winternitz.specs.Lanes.{lanes};
 
 use merkle::NodeHash;
 use sha2::{Digest, Sha256};
+use typecodes::LmsSecret;
 use winternitz::lanes::LANES;
 
 // D_LEAF and D_INTR (RFC 8554 5.3).
@@ -23,6 +25,17 @@ pub struct Nodes {
 }
 
 impl Nodes {
+    // The node hashes of a secret's tree.
+    pub(crate) fn for_secret(secret: &LmsSecret) -> Nodes
+        ensures identifier { result.identifier ≡ secret.now.identifier }
+        ensures height { result.height ≡ height_of secret.now.pair.tree }
+    {
+        Nodes {
+            identifier: secret.identifier,
+            height: secret.pair.tree.height(),
+        }
+    }
+
     /// The node of a leaf, from its one-time key's public hash.
     pub fn leaf(&self, leaf: u32, public_hash: &[u8; 32]) -> [u8; 32]
         ensures { result ≡ leaf_of self.now.identifier self.now.height leaf public_hash.now }

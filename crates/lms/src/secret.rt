@@ -10,17 +10,6 @@ use merkle::{NodeHash, TreeHash};
 use typecodes::{Count, LmsSecret};
 use winternitz::lanes::LANES;
 
-// The node hashes of a secret's tree.
-fn nodes_of(secret: &LmsSecret) -> Nodes
-    ensures identifier { result.identifier ≡ secret.now.identifier }
-    ensures height { result.height ≡ height_of secret.now.pair.tree }
-{
-    Nodes {
-        identifier: secret.identifier,
-        height: secret.pair.tree.height(),
-    }
-}
-
 /// The tree of a secret (RFC 8554 5.3). Each leaf is made from the ends of its one-time key's chains. No `Debug`, as
 /// for the secret.
 #[derive(Drop)]
@@ -63,7 +52,7 @@ impl NodeHash for LmsTree {
     ghost join_of = { λ tree. joins_of (secret_of tree) };
 
     fn join(&self, height: u8, index: u32, left: &[u8; 32], right: &[u8; 32]) -> [u8; 32] {
-        nodes_of(&self.secret).join(height, index, left, right)
+        Nodes::for_secret(&self.secret).join(height, index, left, right)
     }
 }
 
@@ -82,7 +71,7 @@ impl TreeHash for LmsTree {
             leaf: i,
         };
         let public_hash = key.public_hash(secret.pair.ots, &secret.seed);
-        nodes_of(secret).leaf(i, &public_hash)
+        Nodes::for_secret(secret).leaf(i, &public_hash)
     }
 
     fn leaves_in_lanes(&mut self, first: u32) -> [[u8; 32]; LANES] {
@@ -95,7 +84,7 @@ impl TreeHash for LmsTree {
             secret.pair.ots,
             &secret.seed,
         );
-        nodes_of(secret).leaves_in_lanes(&leaves, &public_hashes)
+        Nodes::for_secret(secret).leaves_in_lanes(&leaves, &public_hashes)
     }
 }
 

@@ -20,7 +20,7 @@ pub struct LmsSigView<'a> {
     pub(crate) chains: &'a [[u8; 32]],
     pub(crate) path: &'a [[u8; 32]],
     pub(crate) bytes: &'a [u8],
-    ghost inside: { q < 2 ^ height_of pair.tree },
+    ghost is_leaf: { q < 2 ^ height_of pair.tree },
     ghost chain_count: { length chains.now ≡ chains_of pair.ots },
     ghost path_length: { length path.now ≡ height_of pair.tree },
     ghost spelled: { read signature bytes.now 0
@@ -91,7 +91,7 @@ impl<'a> LmsSigView<'a> {
     pub fn q(&self) -> u32
         ensures value { result ≡ (signature_of self.now).q }
         ensures range { result ≡ big_number 4 (take 4 (bytes_of self.now)) }
-        ensures inside { result < 2 ^ height_of (pair_of self.now).tree }
+        ensures is_leaf { result < 2 ^ height_of (pair_of self.now).tree }
     {
         self.q
     }

@@ -201,7 +201,7 @@ impl LmsSigView<'_> {
         requires { self.now.pair ≡ public.now.pair }
         ensures { DigestVerdict (IsValidFor public.now digest.now (signature_of self.now)) level result }
     {
-        if candidate(climbing, public, digest, self) == public.root {
+        if root_from_signature(climbing, public, digest, self) == public.root {
             Ok(())
         } else {
             Err(Refusal::RootMismatch(level))
@@ -210,7 +210,7 @@ impl LmsSigView<'_> {
 }
 
 // The root to which a signature of a digest leads, and no other (RFC 8554 5.4.2, algorithm 6a).
-fn candidate<C: Climbing>(
+fn root_from_signature<C: Climbing>(
     climbing: &C,
     public: &LmsPublic,
     digest: &[u8; 32],

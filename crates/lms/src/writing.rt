@@ -35,9 +35,9 @@ pub fn write_signature(
     path: &[[u8; 32]],
     into: &mut [u8],
 )
-    requires inside { leaf < 2 ^ height_of secret.now.pair.tree }
+    requires is_leaf { leaf < 2 ^ height_of secret.now.pair.tree }
     requires path { length path.now ≡ height_of secret.now.pair.tree }
-    requires room { length into.old ≡ lms_signature_len_of secret.now.pair }
+    requires exact_length { length into.old ≡ lms_signature_len_of secret.now.pair }
     ensures bytes { into.new ≡ signature_bytes (signed secret.now leaf randomizer.now digest.now path.now) }
     ensures spells { Spells signature (signed secret.now leaf randomizer.now digest.now path.now) into.new }
     // If the path is the leaf's, it is the textbook signature.

@@ -25,7 +25,7 @@ returns c =
     record {
       bytes = written;
       spells = subst (Spells signature s) (sym written)
-          (signed_spelled _ _ _ _ _ c.requires.inside (omega arith) c.requires.path (λ i within. c.told-path i (omega arith)));
+          (signed_spelled _ _ _ _ _ c.requires.is_leaf (omega arith) c.requires.path (λ i within. c.told-path i (omega arith)));
       textbook = λ path. written ∙ ap (λ p. signature_bytes (signed c.args.secret.now c.args.leaf c.args.randomizer.now c.args.digest.now p)) path;
-      valid = λ message digest path. signed_valid _ _ _ message _ _ c.requires.inside digest path;
+      valid = λ message digest path. signed_valid _ _ _ message _ _ c.requires.is_leaf digest path;
     }

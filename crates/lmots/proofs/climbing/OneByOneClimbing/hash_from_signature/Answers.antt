@@ -7,8 +7,8 @@ use Rattle.winternitz.proofs.Chains.{chains_at_most, digits_are_chains}
 use Rattle.winternitz.proofs.Ends.{are_ends, same_ends}
 use Rattle.lmots.proofs.climbing.OneByOneClimbing.hash_from_signature.Goals as goal
 
-pub hash_of_climbed-requires-clause-few : goal.hash_of_climbed-requires-clause-few
-hash_of_climbed-requires-clause-few c = omega (arith, c.requires, chains_at_most c.args.ots)
+pub hash_of_climbed-requires-clause-at_most_265 : goal.hash_of_climbed-requires-clause-at_most_265
+hash_of_climbed-requires-clause-at_most_265 c = omega (arith, c.requires, chains_at_most c.args.ots)
 
 pub hash_of_climbed-requires-clause-count : goal.hash_of_climbed-requires-clause-count
 hash_of_climbed-requires-clause-count c =
@@ -35,5 +35,5 @@ pub returns : goal.returns
 returns c = record {
   value = value c;
   only = λ ends are. value c ∙ ap (public_hash _ _) (sym (same_ends _ _ _ _ ends are));
-  some = (_, are_ends _ _ _ _, value c);
+  ends_exist = (_, are_ends _ _ _ _, value c);
 }

@@ -31,5 +31,5 @@ pub returns : goal.returns
 returns c = record {
   value = value c;
   only = λ ends are. value c ∙ ap (public_hash _ _) (sym (same_ends _ _ _ _ ends are));
-  some = (_, are_ends _ _ _ _, value c);
+  ends_exist = (_, are_ends _ _ _ _, value c);
 }

@@ -15,4 +15,4 @@ invariant_of-result c =
     let found : read signature cursor.bytes.now cursor.place ≡ Ok (s, end) = search (rules, fields) in
     let spelled = part_read signature s cursor.bytes.now cursor.place end (omega arith) found in
     let laid = laid_out s (take (end - cursor.place) (drop cursor.place cursor.bytes.now)) spelled in
-    record { inside = search (rules, fields); chain_count = search (rules, fields); path_length = search (rules, fields); spelled = spelled; size = laid.size; q_at = laid.q; randomizer_at = laid.randomizer; chains_at = laid.chains; path_at = laid.path }
+    record { is_leaf = search (rules, fields); chain_count = search (rules, fields); path_length = search (rules, fields); spelled = spelled; size = laid.size; q_at = laid.q; randomizer_at = laid.randomizer; chains_at = laid.chains; path_at = laid.path }

@@ -31,7 +31,7 @@ invariant_of-view c =
     ∙ ap₂ (λ at (b : Bor (List ℕ)). take (end - at) (drop at b.now)) c.new-cursor.ensures.place c.new-cursor.ensures.bytes
     ∙ take_all (end - 0) c.args.bytes.now (omega (arith, at_end)) in
     record {
-      inside = view.inside;
+      is_leaf = view.is_leaf;
       chain_count = view.chain_count;
       path_length = view.path_length;
       spelled = subst (λ bytes. read signature bytes 0 ≡ Ok (signature_of view, length bytes)) all view.spelled;

@@ -1,6 +1,6 @@
 use Rattle.std.proofs.Common.{arith}
 use Rattle.typecodes.proofs.Written.{all_parts, next_part}
-use Rattle.lmots.proofs.chains.first_bytes.Goals as goal
+use Rattle.lmots.proofs.chains.key_prefix.Goals as goal
 
 pub returns : goal.returns
 returns c =
