@@ -97,7 +97,7 @@ made_valid above bottom message theirs digests =
     let level = level_in above bottom i in
     let signed = message_at message (signed_by above bottom) i in
     subst (λ k. IsLmsValid k signed (signature_by level)) (key-from_secret level (theirs.roots i inside))
-    (signed_valid level.secret level.leaf level.randomizer signed level.digest level.path.now level.inside (digests i inside) (theirs.paths i inside)))
+    (signed_valid level.secret level.leaf level.randomizer signed level.digest level.path.now level.is_leaf (digests i inside) (theirs.paths i inside)))
 
 zip-map : {A B : Type 0} (f : A → B) (xs ys : List A) → zip (map f xs) (map f ys) ≡ map (λ pair. (f pair.0, f pair.1)) (zip xs ys)
 zip-map f [] ys = refl

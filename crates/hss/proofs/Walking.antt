@@ -140,8 +140,8 @@ level_number-read low high bytes place x found =
 -- what is read of a signature, part by part
 pub record IsRead (s : Signature) (bytes : List ℕ) : Type 0 where
   pub number : length s.signed ≡ big_number 4 (take 4 bytes)
-  pub few : length s.signed ≤ 7
-  pub long : 4 ≤ length bytes
+  pub at_most_7 : length s.signed ≤ 7
+  pub at_least_4 : 4 ≤ length bytes
   pub end : ℕ
   pub keys : read (signed_keys (length s.signed)) bytes 4 ≡ Ok (s.signed, end)
   pub bottom : read lms_signature bytes end ≡ Ok (s.bottom, length bytes)
@@ -158,8 +158,8 @@ is_read-parts s bytes n four end last keys bottom n_found keys_found bottom_foun
     let count : n ≡ length s.signed = sym counted.0 ∙ ap length keys_are in
     record {
       number = sym count ∙ number.0;
-      few = omega (arith, count, number.1);
-      long = omega (arith, number.3);
+      at_most_7 = omega (arith, count, number.1);
+      at_least_4 = omega (arith, number.3);
       end = end;
       keys = ap₂ (λ k at. read (signed_keys k) bytes at) (sym count) (sym number.2) ∙ keys_found ∙ ap (λ ks. Ok (ks, end)) keys_are;
       bottom = bottom_found ∙ ap₂ (λ b at. Ok (b, at)) bottom_is last_is;
@@ -185,7 +185,7 @@ starts s i within =
 pub above_read : (s : Signature) (bytes : List ℕ) (i : ℕ) → IsRead s bytes → i ≤ length s.signed → read (signed_keys i) bytes 4 ≡ Ok (take i s.signed, start_of s i)
 above_read s bytes i parts within =
     let (middle, front, back) = keys-prefix i (length s.signed) bytes 4 parts.end s.signed within parts.keys in
-    let ends = keys-end i bytes 4 middle (take i s.signed) parts.long front in
+    let ends = keys-end i bytes 4 middle (take i s.signed) parts.at_least_4 front in
     front ∙ ap (λ at. Ok (take i s.signed, at)) (ends.1 ∙ starts s i within)
 
 -- each level begins after the signature and the key of the one above
@@ -235,7 +235,7 @@ signed_read s bytes i top parts within =
     let n = length s.signed in
     let left : n - i ≡ suc (n - (i + 1)) = omega arith in
     let (middle, front, back) = keys-prefix i n bytes 4 parts.end s.signed (omega arith) parts.keys in
-    let ends = keys-end i bytes 4 middle (take i s.signed) parts.long front in
+    let ends = keys-end i bytes 4 middle (take i s.signed) parts.at_least_4 front in
     let (first, next, rest, keys_are, first_found, _) = keys-split (n - (i + 1)) bytes middle parts.end (drop i s.signed) (ap (λ k. read (signed_keys k) bytes middle) (sym left) ∙ back) in
     signed_read-parts s bytes i top middle next first rest within (ends.1 ∙ starts s i (omega arith)) ends.2 keys_are first_found
 
@@ -245,7 +245,7 @@ pub bottom_read : (s : Signature) (bytes : List ℕ) → IsRead s bytes
 bottom_read s bytes parts =
     let n = length s.signed in
     let above = map (λ signed. signed.signature) s.signed in
-    let ends = keys-end n bytes 4 parts.end s.signed parts.long parts.keys in
+    let ends = keys-end n bytes 4 parts.end s.signed parts.at_least_4 parts.keys in
     let at : parts.end ≡ start_of s n = ends.1 ∙ ap (λ keys. 4 + sum_by taken (map (λ signed. signed.signature) keys)) (sym (take_all n s.signed (omega arith))) ∙ starts s n (omega arith) in
     let bottom_is : s.bottom ≡ signature_at s n = sym (get_or_at above s.bottom [] s.bottom n (length-map s.signed (λ signed. signed.signature))) in
     ap (λ at. read lms_signature bytes at) (sym at) ∙ parts.bottom ∙ ap (λ b. Ok (b, length bytes)) bottom_is
@@ -260,7 +260,7 @@ level_read s bytes i parts within =
       | inr past ↦
           let same : i ≡ n = omega arith in
           let found = bottom_read s bytes parts in
-          let ends = keys-end n bytes 4 parts.end s.signed parts.long parts.keys in
+          let ends = keys-end n bytes 4 parts.end s.signed parts.at_least_4 parts.keys in
           let at : parts.end ≡ start_of s n = ends.1 ∙ ap (λ keys. 4 + sum_by taken (map (λ signed. signed.signature) keys)) (sym (take_all n s.signed (omega arith))) ∙ starts s n (omega arith) in
           let inside : start_of s n ≤ length bytes = omega (arith, at, ends.2) in
           let end_is = signature-end (signature_at s n) bytes (start_of s n) (length bytes) inside found in
@@ -274,7 +274,7 @@ level_read s bytes i parts within =
 pub start_inside : (s : Signature) (bytes : List ℕ) (i : ℕ) → read signature bytes 0 ≡ Ok (s, length bytes) → i < level_count s → start_of s i ≤ length bytes
 start_inside s bytes i found within =
     let parts = is_read s bytes found in
-    (keys-end i bytes 4 (start_of s i) (take i s.signed) parts.long (above_read s bytes i parts (omega arith))).2
+    (keys-end i bytes 4 (start_of s i) (take i s.signed) parts.at_least_4 (above_read s bytes i parts (omega arith))).2
 
 -- the key of level i
 pub key_found : (s : Signature) (bytes : List ℕ) (top : LmsPublic) (i : ℕ) → read signature bytes 0 ≡ Ok (s, length bytes) → 1 ≤ i → i < level_count s
@@ -313,7 +313,7 @@ whole-size s bytes found =
     let above = map of s.signed in
     let all = signatures_of s in
     let n = length s.signed in
-    let keys = keys-end n bytes 4 parts.end s.signed parts.long parts.keys in
+    let keys = keys-end n bytes 4 parts.end s.signed parts.at_least_4 parts.keys in
     let bottom = signature-end s.bottom bytes parts.end (length bytes) keys.2 parts.bottom in
     let sum : sum_by taken all ≡ sum_by taken above + taken s.bottom = sum_by_push taken above s.bottom in
     let count : length all ≡ n + 1 = omega (arith, length-append above (s.bottom ∷ []), length-map s.signed of) in

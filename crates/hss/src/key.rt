@@ -23,8 +23,8 @@ impl HssPublic {
     #[tactic(auto, using(crate::proofs::Numbers::whole), unfolding(crate::specs::Key::public_key))]
     pub fn read(bytes: &[u8]) -> Result<Self, ReadFault>
         ensures reads { Reads public_key (λ key. key) bytes.now result }
-        ensures least { IfOk result (λ key. 1 ≤ key.levels) }
-        ensures most { IfOk result (λ key. key.levels ≤ 8) }
+        ensures at_least_1 { IfOk result (λ key. 1 ≤ key.levels) }
+        ensures at_most_8 { IfOk result (λ key. key.levels ≤ 8) }
     {
         let mut cursor = Cursor::new(bytes);
         let levels = Self::level_count_at(&mut cursor)?;
@@ -39,8 +39,8 @@ impl HssPublic {
         requires { cursor.old.place + 4 < 2 ^ 32 }
         ensures read { Gives (λ n. (n, cursor.new.place)) result
             (read (level_number 1 most_levels) cursor.old.bytes.now cursor.old.place) }
-        ensures least { IfOk result (λ n. 1 ≤ n) }
-        ensures most { IfOk result (λ n. n ≤ 8) }
+        ensures at_least_1 { IfOk result (λ n. 1 ≤ n) }
+        ensures at_most_8 { IfOk result (λ n. n ≤ 8) }
         ensures passes { Passes 4 result cursor.old cursor.new }
     {
         let fault = ReadFault {

@@ -24,8 +24,8 @@ pub struct Level<'a> {
     pub digest: [u8; 32],
     /// The leaf's authentication path, a node for each height of the tree.
     pub path: &'a [[u8; 32]],
-    pub ghost inside: { leaf < 2 ^ height_of secret.pair.tree },
-    pub ghost long: { length path.now ≡ height_of secret.pair.tree },
+    pub ghost is_leaf: { leaf < 2 ^ height_of secret.pair.tree },
+    pub ghost path_length: { length path.now ≡ height_of secret.pair.tree },
 }
 
 impl Level<'_> {

@@ -112,7 +112,7 @@ fn number_above(cursor: &mut Cursor<'_>) -> Result<u8, ReadFault>
     requires { cursor.old.place + 4 < 2 ^ 32 }
     ensures read { Gives (λ n. (n, cursor.new.place)) result
         (read (level_number 0 7) cursor.old.bytes.now cursor.old.place) }
-    ensures most { IfOk result (λ n. n ≤ 7) }
+    ensures at_most_7 { IfOk result (λ n. n ≤ 7) }
     ensures passes { Passes 4 result cursor.old cursor.new }
 {
     let mut rest = *cursor;

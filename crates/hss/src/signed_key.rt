@@ -34,7 +34,7 @@ impl<'a> SignedKeyView<'a> {
         requires { cursor.old.place + 9380 < 2 ^ 32 }
         ensures read { Gives (λ view. (signed_key_of view, cursor.new.place)) result
             (read signed_key cursor.old.bytes.now cursor.old.place) }
-        ensures most { OnOk result (cursor.new.place ≤ cursor.old.place + 9380) }
+        ensures at_most_9380 { OnOk result (cursor.new.place ≤ cursor.old.place + 9380) }
         ensures keeps { Keeps result cursor.old cursor.new }
         ensures part { IfOk result (λ view. BeginsAt cursor.old.place cursor.old.bytes.now view) }
     {
@@ -81,7 +81,7 @@ impl<'a> SignedKeyView<'a> {
 //
 // For the prover: `key` is there for the contract alone.
 fn bytes_of_key<'a>(key: &LmsPublic, bytes: &'a [u8], start: u32) -> &'a [u8]
-    requires inside { start + 56 < 2 ^ 32 }
+    requires end_fits { start + 56 < 2 ^ 32 }
     requires within { start ≤ length bytes.now }
     requires found { read lms_public_key bytes.now start ≡ Ok (key.now, start + 56) }
     ensures range { result.now ≡ take 56 (drop start bytes.now) }

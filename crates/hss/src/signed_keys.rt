@@ -13,7 +13,7 @@ pub(crate) struct SignedKeys<'a> {
     pub(crate) count: u8,
     // slots from the count on are empty
     pub(crate) slots: [Option<SignedKeyView<'a>>; 7],
-    ghost few: { count ≤ 7 },
+    ghost at_most_7: { count ≤ 7 },
     ghost first: { AreFirst count slots },
 }
 
@@ -21,13 +21,13 @@ impl<'a> SignedKeys<'a> {
     /// `count` signatures and keys at a cursor, each at most 9380 bytes. The caller keeps their end below `2^31`. At a
     /// fault the cursor stays.
     pub(crate) fn from_cursor(cursor: &mut Cursor<'a>, count: u8) -> Result<Self, ReadFault>
-        requires few { count ≤ 7 }
+        requires at_most_7 { count ≤ 7 }
         requires room { cursor.old.place + 9380 * count < 2 ^ 31 }
         ensures read { Gives (λ keys. (signed_in keys.slots, cursor.new.place)) result
             (read (signed_keys count) cursor.old.bytes.now cursor.old.place) }
         ensures count { IfOk result (λ keys. keys.count ≡ count) }
         ensures stand { IfOk result (λ keys. StandInTurn cursor.old.place cursor.old.bytes.now keys.slots) }
-        ensures most { OnOk result (cursor.new.place ≤ cursor.old.place + 9380 * count) }
+        ensures at_most_9380_each { OnOk result (cursor.new.place ≤ cursor.old.place + 9380 * count) }
         ensures keeps { Keeps result cursor.old cursor.new }
     {
         let mut rest = *cursor;

@@ -56,7 +56,7 @@ pub fn write_signed_key(level: &Level<'_>, next: &LmsPublic, into: &mut [u8])
 /// Writes the signature of levels (RFC 8554 6.2): the number of levels above the bottom, their signed keys from the top
 /// down, and the bottom's signature. The caller gives at most 7 levels above the bottom, and `signature_len` bytes.
 pub fn write_signature(above: &[Level<'_>], bottom: &Level<'_>, into: &mut [u8])
-    requires few { length above.now ≤ 7 }
+    requires at_most_7 { length above.now ≤ 7 }
     requires room { length into.old ≡ signature_size (pairs_of above.now bottom.now) }
     ensures bytes { into.new ≡ signature_bytes (signed_by above.now bottom.now) }
     ensures spells { Spells signature (signed_by above.now bottom.now) into.new }
@@ -75,8 +75,9 @@ pub fn write_signature(above: &[Level<'_>], bottom: &Level<'_>, into: &mut [u8])
 
 // Writes the signed keys of a signature after the first 4 bytes, and returns the offset after them.
 fn write_above(above: &[Level<'_>], bottom: &Level<'_>, into: &mut [u8]) -> usize
-    requires few { length above.now ≤ 7 }
-    requires room { length into.old ≡ 4 + sum_by part_size above.now + lms_signature_len_of bottom.now.secret.pair }
+    requires at_most_7 { length above.now ≤ 7 }
+    requires exact_length { length into.old
+        ≡ 4 + sum_by part_size above.now + lms_signature_len_of bottom.now.secret.pair }
     ensures offset { result ≡ 4 + sum_by part_size above.now }
     ensures bytes { take result into.new
         ≡ take 4 into.old ++ flat_map signed_key_bytes (signed_by above.now bottom.now).signed }

@@ -13,8 +13,8 @@ use Rattle.hss.proofs.Making.{made_textbook, made_valid, signed-count}
 use Rattle.hss.proofs.writing.write_signature.Goals.{After-write}
 use Rattle.hss.proofs.writing.write_signature.Goals as goal
 
-pub write_above-offset-requires-clause-room : goal.write_above-offset-requires-clause-room
-write_above-offset-requires-clause-room c = omega (arith, c.requires.room ∙ size-parts c.args.above.now c.args.bottom.now)
+pub write_above-offset-requires-clause-exact_length : goal.write_above-offset-requires-clause-exact_length
+write_above-offset-requires-clause-exact_length c = omega (arith, c.requires.room ∙ size-parts c.args.above.now c.args.bottom.now)
 
 pub slice_bounds-write-count : goal.slice_bounds-write-count
 slice_bounds-write-count c = omega (arith, c.requires.room ∙ size-parts c.args.above.now c.args.bottom.now, c.write_above-offset.ensures.offset)

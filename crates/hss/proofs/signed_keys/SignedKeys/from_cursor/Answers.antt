@@ -15,7 +15,7 @@ loop-i-init c =
       first = unused-first;
       stand = unused-stand cursor.place cursor.bytes.now;
       size = refl;
-      most = omega arith;
+      at_most_9380_each = omega arith;
       bytes = refl;
     }
 
@@ -44,7 +44,7 @@ loop-i-preserved c =
       first = subst (λ k. AreFirst (i + 1) (set slots k (Some view))) (sym c.from.ensures) (set-first slots i view within empty c.loop-i.invariant.first);
       stand = subst (λ k. StandInTurn place bytes (set slots k (Some view))) (sym c.from.ensures) (set-stand slots i view within empty place bytes c.loop-i.invariant.stand here);
       size = length-set slots c.from.result (Some view) ∙ c.loop-i.invariant.size;
-      most = omega (arith, c.in_ok-from_cursor.ensures.most, c.loop-i.invariant.most);
+      at_most_9380_each = omega (arith, c.in_ok-from_cursor.ensures.at_most_9380, c.loop-i.invariant.at_most_9380_each);
       bytes = c.in_ok-from_cursor.ensures.keeps.bytes ∙ c.loop-i.invariant.bytes;
     }
 

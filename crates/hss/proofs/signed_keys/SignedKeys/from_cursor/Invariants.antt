@@ -10,6 +10,6 @@ invariant-loop-i l = record {
   first : AreFirst l.i l.slots;
   stand : StandInTurn l.fn.cursor.place l.fn.cursor.bytes.now l.slots;
   size : length l.slots ≡ 7;
-  most : l.rest.place ≤ l.fn.cursor.place + 9380 * l.i;
+  at_most_9380_each : l.rest.place ≤ l.fn.cursor.place + 9380 * l.i;
   bytes : l.rest.bytes ≡ l.fn.cursor.bytes;
 }
