@@ -31,11 +31,11 @@ pub trait Climbing {
         requires { length values.now ≡ wots_chains }
         ensures value { result ≡ spec.public_hash key.now.seed.now.key key.now.leaf
             (ends_of_signature key.now.seed.now.key key.now.leaf digest.now values.now) }
-        // Every list of ends that the values climb to has this hash (`only`), and there is one (`some`).
+        // Every list of ends that the values climb to has this hash (`only`), and there is one (`ends_exist`).
         ensures only { (ends : List (List ℕ)) →
             ClimbTo key.now.seed.now.key key.now.leaf digest.now values.now ends →
             result ≡ spec.public_hash key.now.seed.now.key key.now.leaf ends }
-        ensures some { (ends : List (List ℕ)) ×
+        ensures ends_exist { (ends : List (List ℕ)) ×
             ClimbTo key.now.seed.now.key key.now.leaf digest.now values.now ends ×
             (result ≡ spec.public_hash key.now.seed.now.key key.now.leaf ends) };
 }
@@ -51,7 +51,7 @@ pub trait Joining {
             ≡ l_tree_join key.now.seed.now.key key.now.leaf height k
             (slice_index_or values.old (2 * k) []) (slice_index_or values.old (2 * k + 1) []) }
         ensures rest { (k : ℕ) → 2 * result ≤ k → slice_index_or values.new k [] ≡ slice_index_or values.old k [] }
-        ensures long { length values.new ≡ length values.old };
+        ensures keeps_length { length values.new ≡ length values.old };
 }
 
 impl Climbing for InLanes {

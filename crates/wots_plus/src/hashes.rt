@@ -43,7 +43,7 @@ pub(crate) fn hash_f_in_lanes(
 fn first_block(number: u8, key: &[u8; 32]) -> [u8; 64]
     requires { number ≤ 4 }
     ensures bytes { result ≡ to_byte number 32 ++ key.now }
-    ensures long { length (to_byte number 32 ++ key.now) ≡ 64 }
+    ensures is_block { length (to_byte number 32 ++ key.now) ≡ 64 }
 {
     let mut block = [0; 64];
     block[31] = number;
@@ -55,7 +55,7 @@ fn first_block(number: u8, key: &[u8; 32]) -> [u8; 64]
 pub(crate) fn first_state(number: u8, key: &[u8; 32]) -> [u32; 8]
     requires { number ≤ 4 }
     ensures state { result ≡ compress initial_hash_256 (to_byte number 32 ++ key.now) }
-    ensures long { length (to_byte number 32 ++ key.now) ≡ 64 }
+    ensures is_block { length (to_byte number 32 ++ key.now) ≡ 64 }
 {
     in_lane(&compress(&initial(), &[first_block(number, key); LANES]), 0)
 }
@@ -89,7 +89,7 @@ pub(crate) fn hash_h_in_lanes(
 
 fn block_of(left: &[u8; 32], right: &[u8; 32]) -> [u8; 64]
     ensures bytes { result ≡ left.now ++ right.now }
-    ensures long { length result ≡ 64 }
+    ensures is_block { length result ≡ 64 }
 {
     let mut block = [0; 64];
     let offset = put(&mut block, 0, left);
@@ -200,7 +200,7 @@ impl Prf {
     // The hash value after the first block.
     fn first_state(&self) -> [u32; 8]
         ensures state { result ≡ compress initial_hash_256 (to_byte 3 32 ++ self.now.key) }
-        ensures long { length (to_byte 3 32 ++ self.now.key) ≡ 64 }
+        ensures is_block { length (to_byte 3 32 ++ self.now.key) ≡ 64 }
     {
         if self.is_kept {
             self.state

@@ -124,7 +124,7 @@ impl Wots<'_> {
         requires room { chain + lanes ≤ 265 }
         requires first { (j : ℕ) → j < lanes
             → lane_state first.now j ≡ compress initial_hash_256 (to_byte 4 32 ++ secret.now) }
-        requires long { length (to_byte 4 32 ++ secret.now) ≡ 64 }
+        requires is_block { length (to_byte 4 32 ++ secret.now) ≡ 64 }
         ensures before { (i : ℕ) → i < chain → slice_index_or values.new i [] ≡ slice_index_or values.old i [] }
         ensures made { (j : ℕ) → j < lanes → slice_index_or values.new (chain + j) []
             ≡ spec.private_value self.now.seed.now.key self.now.leaf secret.now (chain + j) }
@@ -142,7 +142,7 @@ impl Wots<'_> {
     // The second block that is hashed into a private value: SEED and the address.
     pub(crate) fn private_block(&self, chain: u16) -> [u8; 64]
         ensures bytes { result ≡ self.now.seed.now.key ++ one_time self.now.leaf chain 0 0 }
-        ensures long { length result ≡ 64 }
+        ensures is_block { length result ≡ 64 }
     {
         let mut block = [0; 64];
         let offset = put(&mut block, 0, &self.seed.key);
@@ -197,11 +197,11 @@ impl Wots<'_> {
         requires { length values.now ≡ wots_chains }
         ensures value { result ≡ spec.public_hash self.now.seed.now.key self.now.leaf
             (ends_of_signature self.now.seed.now.key self.now.leaf digest.now values.now) }
-        // Every list of ends that the values climb to has this hash (`only`), and there is one (`some`).
+        // Every list of ends that the values climb to has this hash (`only`), and there is one (`ends_exist`).
         ensures only { (ends : List (List ℕ)) →
             ClimbTo self.now.seed.now.key self.now.leaf digest.now values.now ends →
             result ≡ spec.public_hash self.now.seed.now.key self.now.leaf ends }
-        ensures some { (ends : List (List ℕ)) ×
+        ensures ends_exist { (ends : List (List ℕ)) ×
             ClimbTo self.now.seed.now.key self.now.leaf digest.now values.now ends ×
             (result ≡ spec.public_hash self.now.seed.now.key self.now.leaf ends) }
     {
@@ -239,8 +239,8 @@ impl Wots<'_> {
     )
         requires values { length values.now ≡ wots_chains }
         requires digits { length digits.now ≡ wots_chains }
-        requires order { (i : ℕ) → i < wots_chains → slice_index digits.now i ≤ 15 }
-        ensures long { length ends.new ≡ wots_chains }
+        requires digits_at_most_15 { (i : ℕ) → i < wots_chains → slice_index digits.now i ≤ 15 }
+        ensures keeps_length { length ends.new ≡ wots_chains }
         ensures each { (i : ℕ) → i < wots_chains → slice_index_or ends.new i []
             ≡ end_of (step_of self.now.seed.now.key self.now.leaf) 4 digits.now values.now i }
     {

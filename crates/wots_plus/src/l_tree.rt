@@ -17,8 +17,8 @@ impl Wots<'_> {
     /// The root of the leaf's L-tree over `values` (RFC 8391 4.1.5), which are overwritten. The caller gives 1 to 67
     /// values, 67 being a key's chains.
     pub fn l_tree(&self, values: &mut [[u8; 32]]) -> [u8; 32]
-        requires some { 0 < length values.old }
-        requires few { length values.old ≤ wots_chains }
+        requires non_empty { 0 < length values.old }
+        requires at_most_chains { length values.old ≤ wots_chains }
         ensures value { result ≡ l_tree_root (l_tree_join self.now.seed.now.key self.now.leaf) values.old }
         // At some height of the L-tree the root is alone, and no other value ever is.
         ensures root { IsLTreeRoot (l_tree_join self.now.seed.now.key self.now.leaf) values.old result }
@@ -30,8 +30,8 @@ impl Wots<'_> {
 
     // `l_tree`, with a way to join pairs.
     pub(crate) fn l_tree_by<J: Joining>(&self, joining: &J, values: &mut [[u8; 32]]) -> [u8; 32]
-        requires some { 0 < length values.old }
-        requires few { length values.old ≤ wots_chains }
+        requires non_empty { 0 < length values.old }
+        requires at_most_chains { length values.old ≤ wots_chains }
         ensures value { result ≡ l_tree_root (l_tree_join self.now.seed.now.key self.now.leaf) values.old }
         ensures root { IsLTreeRoot (l_tree_join self.now.seed.now.key self.now.leaf) values.old result }
         ensures only { (root : List ℕ) →
@@ -73,13 +73,13 @@ impl Wots<'_> {
     // Joins as many pairs as there are lanes, from pair `first` on, and writes each node at its index.
     pub(crate) fn join_pairs(&self, height: u32, first: usize, values: &mut [[u8; 32]])
         requires room { 2 * (first + lanes) ≤ length values.old }
-        requires few { length values.old ≤ wots_chains }
+        requires at_most_chains { length values.old ≤ wots_chains }
         ensures below { (k : ℕ) → k < first → slice_index_or values.new k [] ≡ slice_index_or values.old k [] }
         ensures joined { (j : ℕ) → j < lanes → slice_index_or values.new (first + j) []
             ≡ l_tree_join self.now.seed.now.key self.now.leaf height (first + j)
             (slice_index_or values.old (2 * (first + j)) []) (slice_index_or values.old (2 * (first + j) + 1) []) }
         ensures above { (k : ℕ) → first + lanes ≤ k → slice_index_or values.new k [] ≡ slice_index_or values.old k [] }
-        ensures long { length values.new ≡ length values.old }
+        ensures keeps_length { length values.new ≡ length values.old }
     {
         let left = every_other(values, 2 * first);
         let right = every_other(values, 2 * first + 1);

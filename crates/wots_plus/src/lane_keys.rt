@@ -106,8 +106,8 @@ impl LaneKeys<'_> {
 
     // The roots of the L-trees over 1 to 67 rows (RFC 8391 4.1.5), which are overwritten.
     fn l_trees(&self, rows: &mut [Row]) -> Row
-        requires some { 0 < length rows.old }
-        requires few { length rows.old ≤ wots_chains }
+        requires non_empty { 0 < length rows.old }
+        requires at_most_chains { length rows.old ≤ wots_chains }
         ensures { (j : ℕ) → j < lanes → slice_index_or result j []
             ≡ l_tree_root (l_tree_join self.now.seed.now.key (slice_index self.now.leaves j)) (in_lane j rows.old) }
     {
@@ -124,7 +124,7 @@ impl LaneKeys<'_> {
     fn join_neighbours(&self, height: u32, rows: &mut [Row]) -> usize
         requires { length rows.old ≤ wots_chains }
         ensures count { result ≡ (length rows.old + 1) / 2 }
-        ensures long { length rows.new ≡ length rows.old }
+        ensures keeps_length { length rows.new ≡ length rows.old }
         ensures values { (j : ℕ) → j < lanes → in_lane j (take result rows.new)
             ≡ next_height (l_tree_join self.now.seed.now.key (slice_index self.now.leaves j) height) 0
             (in_lane j rows.old) }

@@ -224,8 +224,8 @@ fn made_up_bytes() -> [u8; 32 * 67] {
 
 // The root of leaf 5's L-tree over the first made-up values.
 fn assert_root(rt: &impl Abort, count: usize, expected: [u8; 32])
-    requires some { 0 < count }
-    requires few { count ≤ 67 }
+    requires positive { 0 < count }
+    requires at_most_67 { count ≤ 67 }
 {
     let seed = Prf::new(SEED);
     let key = Wots {

@@ -10,5 +10,5 @@ in_lane j rows = map (λ row. slice_index_or row j []) rows
 
 -- each lane has the hash value after the first block of private values: the hash's number and the secret
 pub record BeginsPrivateValues (secret : List ℕ) (first : List (List ℕ)) : Type 0 where
-  pub long : length (to_byte 4 32 ++ secret) ≡ 64
+  pub is_block : length (to_byte 4 32 ++ secret) ≡ 64
   pub state : (j : ℕ) → j < lanes → lane_state first j ≡ compress initial_hash_256 (to_byte 4 32 ++ secret)

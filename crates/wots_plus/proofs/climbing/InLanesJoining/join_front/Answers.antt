@@ -10,5 +10,5 @@ loop-group-preserved c = record {
       (lanes * c.loop-group.group) c.loop-group.invariant.over c.loop-group.invariant.rest c.join_pairs.ensures.below c.join_pairs.ensures.joined
       k (omega arith);
   rest = λ k past. c.join_pairs.ensures.above k (omega arith) ∙ c.loop-group.invariant.rest k (omega arith);
-  long = c.join_pairs.ensures.long ∙ c.loop-group.invariant.long;
+  keeps_length = c.join_pairs.ensures.keeps_length ∙ c.loop-group.invariant.keeps_length;
 }

@@ -9,5 +9,5 @@ invariant-loop-group l = record {
   over : (k : ℕ) → k < lanes * l.group
       → get_or l.values k [] ≡ l_tree_join l.key.seed.now.key l.key.leaf l.height k (get_or l.fn.values (2 * k) []) (get_or l.fn.values (2 * k + 1) []);
   rest : (k : ℕ) → 2 * (lanes * l.group) ≤ k → get_or l.values k [] ≡ get_or l.fn.values k [];
-  long : length l.values ≡ length l.fn.values;
+  keeps_length : length l.values ≡ length l.fn.values;
 }

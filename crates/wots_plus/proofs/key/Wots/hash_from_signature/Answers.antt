@@ -12,5 +12,5 @@ returns c =
     record {
       value = value;
       only = λ ends are. value ∙ ap (public_hash _ _) (sym (same_ends _ _ _ _ ends are));
-      some = (_, are_ends _ _ _ _, value);
+      ends_exist = (_, are_ends _ _ _ _, value);
     }

@@ -8,5 +8,5 @@ invariant-loop-i g l = record {
   over : (k : ℕ) → k < l.i
       → get_or l.values k [] ≡ l_tree_join l.self.seed.now.key l.self.leaf l.height k (get_or l.fn.values (2 * k) []) (get_or l.fn.values (2 * k + 1) []);
   rest : (k : ℕ) → 2 * l.i ≤ k → get_or l.values k [] ≡ get_or l.fn.values k [];
-  long : length l.values ≡ length l.fn.values;
+  keeps_length : length l.values ≡ length l.fn.values;
 }

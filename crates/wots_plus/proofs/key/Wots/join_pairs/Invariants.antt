@@ -7,5 +7,5 @@ invariant-loop-lane l = record {
   below : (k : ℕ) → k < l.first → slice_index_or l.values k [] ≡ slice_index_or l.fn.values k [];
   joined : (j : ℕ) → j < l.lane → slice_index_or l.values (l.first + j) [] ≡ slice_index_or l.joined j [];
   above : (k : ℕ) → l.first + l.lane ≤ k → slice_index_or l.values k [] ≡ slice_index_or l.fn.values k [];
-  long : length l.values ≡ length l.fn.values;
+  keeps_length : length l.values ≡ length l.fn.values;
 }

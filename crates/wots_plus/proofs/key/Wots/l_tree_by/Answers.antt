@@ -7,7 +7,7 @@ use Rattle.wots_plus.proofs.key.Wots.l_tree_by.Goals as goal
 pub loop-count-init : goal.loop-count-init
 loop-count-init g c = record {
   replaced = take_all (length c.args.values.now) c.args.values.now (omega arith) ∙ height_none _ _;
-  some = c.requires.some;
+  non_empty = c.requires.non_empty;
   shrinks = omega arith;
 }
 
@@ -18,7 +18,7 @@ loop-count-preserved g c =
     record {
       replaced = take-append-le c.join_neighbours-count.result c.join_neighbours-count.new.values _ (omega arith)
           ∙ height_more _ _ _ _ _ c.loop-count.invariant.replaced c.join_neighbours-count.ensures.values;
-      some = omega arith;
+      non_empty = omega arith;
       shrinks = omega arith;
     }
 

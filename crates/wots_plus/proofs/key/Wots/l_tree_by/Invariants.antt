@@ -6,7 +6,7 @@ use Rattle.wots_plus.proofs.key.Wots.l_tree_by.Given as goal
 abbrev pub invariant-loop-count : goal.invariant-loop-count
 invariant-loop-count g l = record {
   replaced : take l.count l.values ≡ at_height (l_tree_join l.self.seed.now.key l.self.leaf) l.fn.values l.height;
-  some : 0 < l.count;
+  non_empty : 0 < l.count;
   shrinks : l.height + l.count ≤ length l.fn.values;
 }
 

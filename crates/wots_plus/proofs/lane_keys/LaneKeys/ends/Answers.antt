@@ -8,7 +8,7 @@ pub loop-chain-preserved : goal.loop-chain-preserved
 loop-chain-preserved c =
     let key = c.args.self.now in
     let begun : BeginsPrivateValues c.args.secret.now c.in_each-first.result = record {
-      long = c.first_state.ensures.long;
+      is_block = c.first_state.ensures.is_block;
       state = λ j low. c.in_each-first.ensures j low ∙ c.first_state.ensures.state;
     } in
     record {

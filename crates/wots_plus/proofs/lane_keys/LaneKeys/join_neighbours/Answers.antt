@@ -18,7 +18,7 @@ loop-i-preserved c =
           ∙ ap₂ (λ left right. l_tree_join key.seed.now.key (slice_index key.leaves j) c.args.height i (get_or left j []) (get_or right j []))
           (c.loop-i.invariant.rest (2 * i) (omega arith)) (c.loop-i.invariant.rest (2 * i + 1) (omega arith)));
       rest = search rules;
-      long = search rules;
+      keeps_length = search rules;
     }
 
 pub returns-clause-values : goal.returns-clause-values
@@ -31,7 +31,7 @@ returns-clause-values c = λ j low.
     let rest = λ (k : ℕ) (past : 2 * pairs ≤ k). c.loop-i.invariant.rest k (omega arith) in
     elim c.if-rows-eq1.branch [
       | then-rows-eq1 w ↦ ap (λ list. in_lane j (take c.div_ceil.result list)) w.rows-is
-          ∙ next_rows_with_odd _ j old rows pairs _ refl (omega arith) c.loop-i.invariant.long (omega arith) each rest
+          ∙ next_rows_with_odd _ j old rows pairs _ refl (omega arith) c.loop-i.invariant.keeps_length (omega arith) each rest
       | else-rows-eq1 w ↦ ap (λ list. in_lane j (take c.div_ceil.result list)) w.rows-is
-          ∙ next_rows _ j old rows pairs _ refl (omega arith) c.loop-i.invariant.long each (λ odd. absurd (omega arith))
+          ∙ next_rows _ j old rows pairs _ refl (omega arith) c.loop-i.invariant.keeps_length each (λ odd. absurd (omega arith))
     ]

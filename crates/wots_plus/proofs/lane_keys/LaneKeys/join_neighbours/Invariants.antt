@@ -10,5 +10,5 @@ invariant-loop-i l = record {
       ≡ l_tree_join l.self.seed.now.key (slice_index l.self.leaves j) l.height k
       (get_or (get_or l.fn.rows (2 * k) []) j []) (get_or (get_or l.fn.rows (2 * k + 1) []) j []);
   rest : (k : ℕ) → 2 * l.i ≤ k → get_or l.rows k [] ≡ get_or l.fn.rows k [];
-  long : length l.rows ≡ length l.fn.rows;
+  keeps_length : length l.rows ≡ length l.fn.rows;
 }

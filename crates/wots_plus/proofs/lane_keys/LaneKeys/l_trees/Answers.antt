@@ -9,7 +9,7 @@ use Rattle.wots_plus.proofs.lane_keys.LaneKeys.l_trees.Goals as goal
 pub loop-count-init : goal.loop-count-init
 loop-count-init c = record {
   replaced = λ j low. ap (in_lane j) (take_all (length c.args.rows.now) c.args.rows.now (omega arith)) ∙ height_none _ _;
-  some = c.requires.some;
+  non_empty = c.requires.non_empty;
   shrinks = omega arith;
 }
 
@@ -20,7 +20,7 @@ loop-count-preserved c =
     record {
       replaced = λ j low. ap (in_lane j) (take-append-le c.join_neighbours-count.result c.join_neighbours-count.new.rows _ (omega arith))
           ∙ height_more _ _ _ _ _ (c.loop-count.invariant.replaced j low) (c.join_neighbours-count.ensures.values j low);
-      some = omega arith;
+      non_empty = omega arith;
       shrinks = omega arith;
     }
 

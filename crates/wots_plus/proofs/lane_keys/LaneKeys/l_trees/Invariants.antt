@@ -9,7 +9,7 @@ abbrev pub invariant-loop-count : goal.invariant-loop-count
 invariant-loop-count l = record {
   replaced : (j : ℕ) → j < lanes → in_lane j (take l.count l.rows)
       ≡ at_height (l_tree_join l.self.seed.now.key (slice_index l.self.leaves j)) (in_lane j l.fn.rows) l.height;
-  some : 0 < l.count;
+  non_empty : 0 < l.count;
   shrinks : l.height + l.count ≤ length l.fn.rows;
 }
 

@@ -9,6 +9,6 @@ returns c = λ secret begun j low.
     let key = c.args.self.now in
     let head = to_byte 4 32 ++ secret in
     let adrs = one_time (slice_index key.leaves j) c.args.chain 0 0 in
-    c.sha256_of_128.ensures j low head begun.long (c.loop-lane.invariant.size j (omega arith)) (begun.state j low)
+    c.sha256_of_128.ensures j low head begun.is_block (c.loop-lane.invariant.size j (omega arith)) (begun.state j low)
     ∙ ap (λ block. sha256 (head ++ block)) (c.loop-lane.invariant.each j (omega arith))
     ∙ ap sha256 (sym (append_assoc head key.seed.now.key adrs))
