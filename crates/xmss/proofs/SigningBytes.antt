@@ -22,13 +22,13 @@ use Rattle.xmss.proofs.After.{after_chains, after_index, after_randomizer, after
 
 index_spelled : (h index : ℕ) → index < 2 ^ h → index < 2 ^ 32 → Spells (leaf_index h) index (to_byte index 4)
 unfolding leaf_index
-index_spelled h index inside small =
+index_spelled h index is_leaf small =
     last_field number (checked h) index index (to_byte index 4) (number_spelled index small)
-    (rw (lt-ltb index (2 ^ h) inside) (refl, refl))
+    (rw (lt-ltb index (2 ^ h) is_leaf) (refl, refl))
 
 -- Parts of a type's sizes, and an index that is a leaf's.
 pub record IsSized (tree : XmssType) (s : Signature) : Type 0 where
-  pub inside : s.index < 2 ^ xmss_height_of tree
+  pub is_leaf : s.index < 2 ^ xmss_height_of tree
   pub randomizer : length s.randomizer ≡ 32
   pub chain_count : length s.chains ≡ 67
   pub chains : (i : ℕ) → i < 67 → length (get_or s.chains i []) ≡ 32
@@ -44,7 +44,7 @@ signature_spelled tree s sized =
     let path = concat s.path in
     subst (Spells (signature tree) s) (four_parts index s.randomizer chains path)
     (from_turn (leaf_index h) (after_index tree) s.index s index (s.randomizer ++ (chains ++ path))
-    (index_spelled h s.index sized.inside (xmss_leaf_small tree s.index sized.inside))
+    (index_spelled h s.index sized.is_leaf (xmss_leaf_small tree s.index sized.is_leaf))
     (from_turn (block 32) (after_randomizer tree s.index) s.randomizer s s.randomizer (chains ++ path)
     (block_spelled 32 s.randomizer sized.randomizer)
     (from_turn (values 67) (after_chains tree s.index s.randomizer) s.chains s chains path
@@ -55,9 +55,9 @@ signature_spelled tree s sized =
 pub signed_spelled : (secret : XmssSecret) (i : ℕ) (digest : List ℕ) (path : List (List ℕ)) → i < 2 ^ xmss_height_of secret.tree
     → length path ≡ xmss_height_of secret.tree → ((k : ℕ) → k < xmss_height_of secret.tree → length (get_or path k []) ≡ 32)
     → Spells (signature secret.tree) (signed secret i digest path) (signature_bytes (signed secret i digest path))
-signed_spelled secret i digest path inside count sizes =
+signed_spelled secret i digest path is_leaf count sizes =
     let sized : IsSized secret.tree (signed secret i digest path) = record {
-      inside = inside;
+      is_leaf = is_leaf;
       randomizer = length-sha256 _;
       chain_count = refl;
       chains = signed_sizes secret.public_seed i secret.secret_seed digest;

@@ -21,7 +21,7 @@ pub struct XmssSigView<'a> {
     pub(crate) chains: &'a [[u8; 32]],
     pub(crate) path: &'a [[u8; 32]],
     pub(crate) bytes: &'a [u8],
-    ghost inside: { index < 2 ^ xmss_height_of tree },
+    ghost is_leaf: { index < 2 ^ xmss_height_of tree },
     ghost chain_count: { length chains.now ≡ wots_chains },
     ghost path_length: { length path.now ≡ xmss_height_of tree },
     ghost spelled: { read (signature tree) bytes.now 0
@@ -64,7 +64,7 @@ impl<'a> XmssSigView<'a> {
     pub fn index(&self) -> u32
         ensures value { result ≡ (signature_of self.now).index }
         ensures range { result ≡ big_number 4 (take 4 (bytes_of self.now)) }
-        ensures inside { result < 2 ^ xmss_height_of (tree_of self.now) }
+        ensures is_leaf { result < 2 ^ xmss_height_of (tree_of self.now) }
     {
         self.index
     }
@@ -111,7 +111,7 @@ fn leaf_index(cursor: &mut Cursor<'_>, tree: XmssType) -> Result<u32, ReadFault>
     requires { cursor.old.place + 4 < 2 ^ 32 }
     ensures read { Gives (λ index. (index, cursor.new.place)) result
         (read (spec.leaf_index (xmss_height_of tree)) cursor.old.bytes.now cursor.old.place) }
-    ensures inside { IfOk result (λ index. index < 2 ^ xmss_height_of tree) }
+    ensures is_leaf { IfOk result (λ index. index < 2 ^ xmss_height_of tree) }
     ensures range { IfOk result (λ index. index ≡ big_number 4 (take 4 (drop cursor.old.place cursor.old.bytes.now))) }
     ensures passes { Passes 4 result cursor.old cursor.new }
 {

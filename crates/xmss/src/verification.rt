@@ -101,7 +101,7 @@ impl XmssSigView<'_> {
         requires { self.now.tree ≡ public.now.tree }
         ensures { DigestVerdict (IsValidFor public.now digest.now (signature_of self.now)) 0 result }
     {
-        if candidate(climbing, public, digest, self) == public.root {
+        if root_from_signature(climbing, public, digest, self) == public.root {
             Ok(())
         } else {
             Err(Refusal::RootMismatch(0))
@@ -110,7 +110,7 @@ impl XmssSigView<'_> {
 }
 
 // The one root that a digest's signature leads to (RFC 8391 4.1.10, algorithm 13).
-fn candidate<C: Climbing>(
+fn root_from_signature<C: Climbing>(
     climbing: &C,
     public: &XmssPublic,
     digest: &[u8; 32],

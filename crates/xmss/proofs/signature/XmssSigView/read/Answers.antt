@@ -14,7 +14,7 @@ invariant_of-result c =
     let s : Signature = signature_with c.in_ok-index.index c.in_ok-randomizer.randomizer.now c.in_ok-chains.chains.now c.in_ok-path.path.now in
     let found : read (signature c.args.tree) bytes 0 ≡ Ok (s, length bytes) = search (rules, fields) in
     record {
-      inside = search rules;
+      is_leaf = search rules;
       chain_count = search rules;
       path_length = search rules;
       spelled = found;

@@ -14,13 +14,13 @@ returns-then-eq g c =
     let decides = slice_eq-Decides Decides-eqb _ _ _ c.eq.ensures in
     record {
       chains = view.chain_count;
-      leaf = subst (λ t. view.index < 2 ^ xmss_height_of t) c.requires view.inside;
+      leaf = subst (λ t. view.index < 2 ^ xmss_height_of t) c.requires view.is_leaf;
       height = view.path_length ∙ ap xmss_height_of c.requires;
-      leads = subst (LeadsTo key c.args.digest.now (signature_of view)) (decides.0 c.if-eq.true) c.candidate.ensures.leads;
+      leads = subst (LeadsTo key c.args.digest.now (signature_of view)) (decides.0 c.if-eq.true) c.root_from_signature.ensures.leads;
     }
 
 -- it is another, and a valid signature leads to the key's alone
 pub returns-else-eq : goal.returns-else-eq
 returns-else-eq g c =
     let decides = slice_eq-Decides Decides-eqb _ _ _ c.eq.ensures in
-    (refl, λ valid. let root = decides.1 (sym (c.candidate.ensures.only _ valid.leads)) in absurd (cc))
+    (refl, λ valid. let root = decides.1 (sym (c.root_from_signature.ensures.only _ valid.leads)) in absurd (cc))

@@ -1,6 +1,6 @@
 use Rattle.xmss.specs.View.{signature_of}
 use Rattle.xmss.proofs.Leading.{leads, leads_only}
-use Rattle.xmss.proofs.verification.candidate.Goals as goal
+use Rattle.xmss.proofs.verification.root_from_signature.Goals as goal
 
 pub returns-clause-leads : goal.returns-clause-leads
 returns-clause-leads g c =
