@@ -50,7 +50,7 @@ pub trait Disk {
     /// The length in bytes.
     fn len(&mut self) -> Result<u64, DiskFault>
         ensures length { IsTrue (honest self.old) → IfOk result (λ n. n ≡ length (state self.old).content) }
-        ensures stays { IsTrue (honest self.old) → state self.new ≡ state self.old }
+        ensures keeps_state { IsTrue (honest self.old) → state self.new ≡ state self.old }
         ensures past_ends { past_ends self.new ≡ past_ends self.old }
         ensures call { CallsDisk honest state moment left_since failures self.old self.new result };
 
@@ -65,7 +65,7 @@ pub trait Disk {
         ensures past_end { IsTrue (honest self.old) → result ≡ Err DiskFault.PastEnd →
             length (state self.old).content < at + length into.old }
         ensures past_ends { Counts is_past_end (past_ends self.old) (past_ends self.new) result }
-        ensures stays { IsTrue (honest self.old) → state self.new ≡ state self.old }
+        ensures keeps_state { IsTrue (honest self.old) → state self.new ≡ state self.old }
         ensures call { CallsDisk honest state moment left_since failures self.old self.new result };
 
     /// Writes one byte or more at `at`, over old bytes and past the end. Until a sync succeeds, a crash may leave any

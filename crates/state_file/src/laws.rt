@@ -25,12 +25,12 @@ pub fn slot_laws()
 
 /// Laws of a disk's content:
 ///
-/// - `some`, `once`: it opens as exactly one kind: the records of a key, or a reason why there are none.
+/// - `kind_exists`, `once`: it opens as exactly one kind: the records of a key, or a reason why there are none.
 /// - `standing`: if it stands for a list of records, it spells them or has no key. Each content that a crash in an
 ///   append leaves stands for one, so opening it reports none of 41 to 43.
 /// - `prepared`: what a crash leaves while a place of under 257 bytes is prepared has no key.
 pub fn content_laws()
-    ensures some { (content : List ℕ) → (kind : ContentKind) × OpensAs content kind }
+    ensures kind_exists { (content : List ℕ) → (kind : ContentKind) × OpensAs content kind }
     ensures once { (content : List ℕ) (kind other : ContentKind) → OpensAs content kind → OpensAs content other →
         kind ≡ other }
     ensures standing { (records : List Record) (content : List ℕ) (kind : ContentKind) → StandsFor records content →

@@ -85,7 +85,7 @@ impl Record {
     // The version of a file after the record was added: its own, if that version can hold the record.
     pub(crate) fn version_after(&self, file: Version) -> Version
         ensures fits { FitsVersion result self.now }
-        ensures same { FitsVersion file self.now → result ≡ file }
+        ensures keeps_version { FitsVersion file self.now → result ≡ file }
     {
         match self {
             Record::Key(key) => key.version,
@@ -137,7 +137,7 @@ impl Version {
     pub fn name_most(self) -> u8
         ensures value { result ≡ name_most self }
         ensures least { 64 ≤ result }
-        ensures few { result ≤ 128 }
+        ensures at_most_128 { result ≤ 128 }
     {
         match self {
             Version::One => 64,

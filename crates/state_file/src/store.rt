@@ -83,10 +83,10 @@ pub trait Store {
         ensures unreadable { Collects unreadable_slot (unreadable self.old) (unreadable self.new) result }
         ensures loads { AddsLoad is_stopped k (loads self.old) (loads self.new) result }
         ensures given { AddsGiven (given self.old) (given self.new) result }
-        ensures same { list self.new ≡ list self.old }
+        ensures keeps_records { list self.new ≡ list self.old }
         ensures any_moment { WhileRunning (honest self.old) (stopped self.old)
             (LeavesOnly moment left_since self.old self.new (λ left. left ≡ list self.old)) }
-        ensures stays { stopped self.old ≡ true → self.new ≡ self.old }
+        ensures stopped_unchanged { stopped self.old ≡ true → self.new ≡ self.old }
         ensures honest { honest self.new ≡ honest self.old }
         ensures most { most self.new ≡ most self.old };
 
@@ -101,7 +101,7 @@ pub trait Store {
         ensures refused { WhileRunning (honest self.old) (stopped self.old)
             (IfErr result (λ fault. fault ≢ StoreFault.DeviceFailed →
             LeavesOnly moment left_since self.old self.new (λ left. left ≡ list self.old))) }
-        ensures stays { stopped self.old ≡ true → self.new ≡ self.old }
+        ensures stopped_unchanged { stopped self.old ≡ true → self.new ≡ self.old }
         ensures answer { Appends (most self.old) (list self.old) (stopped self.old) new.now (list self.new)
             (stopped self.new)
             (failures self.old) (failures self.new) result }

@@ -183,7 +183,7 @@ impl Disk for MemoryDisk {
     fn len(&mut self) -> Result<u64, DiskFault>
         ensures value { result ≡ answer_of (next_fate self.old) (Ok (length (state_in self.old).content)) }
         ensures length { IfOk result (λ n. n ≡ length (state_in self.old).content) }
-        ensures stays { state_in self.new ≡ state_in self.old }
+        ensures keeps_state { state_in self.new ≡ state_in self.old }
         ensures past_ends { past_ends_in self.new ≡ past_ends_in self.old }
         ensures call { CallComes self.old self.new result }
     {
@@ -200,7 +200,7 @@ impl Disk for MemoryDisk {
         ensures past_end { result ≡ Err DiskFault.PastEnd →
             length (state_in self.old).content < at + length into.old }
         ensures past_ends { Counts is_past_end (past_ends_in self.old) (past_ends_in self.new) result }
-        ensures stays { state_in self.new ≡ state_in self.old }
+        ensures keeps_state { state_in self.new ≡ state_in self.old }
         ensures call { CallComes self.old self.new result }
     {
         self.plan.admit(&mut self.failures)?;

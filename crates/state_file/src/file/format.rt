@@ -6,7 +6,7 @@ ghost use Rattle.state_file.specs.DiskCalls.{CountsFailures};
 ghost use Rattle.state_file.specs.Format.{Formats, LeftByFormat, is_failed_format};
 
 use crate::disk::{Disk, DiskFault};
-use crate::file::gates::{SLOT, read_within, settle, write_synced};
+use crate::file::gates::{SLOT, read_within, sync_and_len, write_synced};
 use crate::slot::is_open;
 use thiserror::Error;
 
@@ -42,7 +42,7 @@ pub(crate) fn format<D: Disk>(disk: &mut D) -> Result<(), FormatFault>
         LeavesOnly D.moment D.left_since disk.old disk.new (LeftByFormat (D.state disk.old)) }
     ensures counts { CountsFailures D.Disk is_failed_format disk.old disk.new result }
 {
-    let len = settle(disk)?;
+    let len = sync_and_len(disk)?;
     if len < SLOT + 1 {
         write_synced(disk, 0, &[0])?;
         return Ok(());

@@ -17,7 +17,7 @@ pub(crate) const SLOT: u64 = 256;
 /// Reads bytes that are known to be there.
 pub(crate) fn read_within<D: Disk>(disk: &mut D, at: u64, into: &mut [u8]) -> Result<(), DiskFault>
     requires within { IsTrue (D.honest disk.old) → at + length into.old ≤ length (D.state disk.old).content }
-    requires some { 0 < length into.old }
+    requires non_empty { 0 < length into.old }
     ensures bytes { IsTrue (D.honest disk.old) →
         OnOk result (into.new ≡ slice_range (D.state disk.old).content at (at + length into.old)) }
     ensures reads { ReadsDisk D.Disk is_failure disk.old disk.new result }
@@ -89,7 +89,7 @@ fn copy_both(into: &mut [u8], first: &[u8], second: &[u8])
 }
 
 /// Syncs, and gives the length. Meanwhile a crash leaves only what it could leave before.
-pub(crate) fn settle<D: Disk>(disk: &mut D) -> Result<u64, DiskFault>
+pub(crate) fn sync_and_len<D: Disk>(disk: &mut D) -> Result<u64, DiskFault>
     ensures settled { IsTrue (D.honest disk.old) →
         IfOk result
         (λ len. (D.state disk.new ≡ settled (D.state disk.old).content) × (len ≡ length (D.state disk.old).content)) }

@@ -14,7 +14,7 @@ ghost use Rattle.state_file.specs.Opening.{is_failed_opening, HasBytes, HasEntry
 ghost use Rattle.state_file.specs.Opening.{KeepsContent, StartsWithKey, ReportsDisk, ReportsSlot};
 
 use crate::disk::{Disk, DiskFault};
-use crate::file::gates::{SLOT, read_within, settle};
+use crate::file::gates::{SLOT, read_within, sync_and_len};
 use crate::record::{Record, RecordList, Version};
 use crate::slot::{FIRST_TAG, begins_key, is_open, read_record, tag, version_of};
 use thiserror::Error;
@@ -161,7 +161,7 @@ fn read_slot<D: Disk>(
 ) -> Result<Slot, OpenFault>
     requires len { IsLengthOf D.Disk disk.old len }
     requires previous { IsTrue (D.honest disk.old) → previous.now ≡ previous_tag (D.state disk.old).content k }
-    ensures few { OnOk result (k < most_records) }
+    ensures below_limit { OnOk result (k < most_records) }
     ensures slot { IsTrue (D.honest disk.old) →
         IfOk result (λ slot. HasSlot version (D.state disk.old).content k slot.entry slot.tag) }
     ensures fault { IsTrue (D.honest disk.old) → IfErr result (ReportsSlot version (D.state disk.old).content k) }
@@ -263,7 +263,7 @@ fn read_slots<D: Disk>(disk: &mut D, len: u64, version: Version) -> Result<Found
     requires len { IsLengthOf D.Disk disk.old len }
     requires key { IsTrue (D.honest disk.old) → StartsWithKey version (D.state disk.old).content }
     ensures counted { IfOk result (λ found. found.count ≡ length found.records) }
-    ensures few { IfOk result (λ found. found.count ≤ most_records) }
+    ensures at_most_limit { IfOk result (λ found. found.count ≤ most_records) }
     ensures moved { IfOk result (λ found. found.moved ≡ has_moved found.records) }
     ensures found { IsTrue (D.honest disk.old) →
         IfOk result (λ found. IsFound found.version (D.state disk.old).content found.records found.tag) }
@@ -281,19 +281,19 @@ fn read_slots<D: Disk>(disk: &mut D, len: u64, version: Version) -> Result<Found
 /// Syncs, and finds a file's records. Meanwhile a crash leaves only what it could leave before.
 pub(crate) fn find_records<D: Disk>(disk: &mut D) -> Result<Found, OpenFault>
     ensures counted { IfOk result (λ found. found.count ≡ length found.records) }
-    ensures few { IfOk result (λ found. found.count ≤ most_records) }
+    ensures at_most_limit { IfOk result (λ found. found.count ≤ most_records) }
     ensures moved { IfOk result (λ found. found.moved ≡ has_moved found.records) }
     ensures found { IsTrue (D.honest disk.old) →
         IfOk result (λ found. IsFound found.version (D.state disk.old).content found.records found.tag) }
     ensures fault { ReportsDisk D.Disk disk.old result }
     ensures synced { IsTrue (D.honest disk.old) → OnOk result (D.state disk.new ≡ settled (D.state disk.old).content) }
-    ensures kept { IsTrue (D.honest disk.old) →
+    ensures keeps_content { IsTrue (D.honest disk.old) →
         IfErr result (KeepsContent (D.state disk.old).content (D.state disk.new)) }
     ensures any_moment { IsTrue (D.honest disk.old) →
         LeavesOnly D.moment D.left_since disk.old disk.new (MayLeave (D.state disk.old)) }
     ensures counts { CountsFailures D.Disk is_failed_opening disk.old disk.new result }
 {
-    let len = settle(disk)?;
+    let len = sync_and_len(disk)?;
     let version = check_key(disk, len)?;
     read_slots(disk, len, version)
 }

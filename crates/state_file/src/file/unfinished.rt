@@ -34,7 +34,7 @@ pub(crate) fn prepare<E: Disk>(disk: &mut E, short: bool) -> Result<(), DiskFaul
 
 // Writes bytes after the first gate.
 fn write_after<E: Disk>(disk: &mut E, at: u64, bytes: &[u8]) -> Result<(), DiskFault>
-    requires some { 0 < length bytes.now }
+    requires non_empty { 0 < length bytes.now }
     requires after { 1 ≤ at }
     ensures written { IsTrue (E.honest disk.old) →
         OnOk result

@@ -7,7 +7,7 @@ ghost use Rattle.state_file.specs.MigrateFault.{is_failed_migration};
 ghost use Rattle.state_file.specs.Place.{FindsPlace, IsFreePlace, IsFreePlace-prop, RefusesPlace};
 
 use crate::disk::Disk;
-use crate::file::{SLOT, read_within, settle};
+use crate::file::{SLOT, read_within, sync_and_len};
 use crate::migration::MigrateFault;
 use crate::refused::Refused;
 use crate::slot::is_open;
@@ -31,7 +31,7 @@ impl<E: Disk + Drop> Place<E> {
         ensures { ChecksPlace E.Disk new result }
     {
         let mut disk = new;
-        match find_place(&mut disk) {
+        match check_free(&mut disk) {
             Ok(short) => Ok(Place { disk, short }),
             Err(fault) => Err(Refused { fault, given: disk }),
         }
@@ -46,7 +46,7 @@ impl<E: Disk + Drop> Place<E> {
 }
 
 // Syncs, and looks for a key. Without one, answers whether there are under 257 bytes.
-fn find_place<E: Disk>(disk: &mut E) -> Result<bool, MigrateFault>
+fn check_free<E: Disk>(disk: &mut E) -> Result<bool, MigrateFault>
     ensures free { IsTrue (E.honest disk.old) → IfOk result (λ short. IsFreePlace short (E.state disk.new)) }
     ensures answer { IsTrue (E.honest disk.old) → FindsPlace (E.state disk.old).content (E.state disk.new) result }
     ensures refuses { IfErr result RefusesPlace }
@@ -54,7 +54,7 @@ fn find_place<E: Disk>(disk: &mut E) -> Result<bool, MigrateFault>
         LeavesOnly E.moment E.left_since disk.old disk.new (MayLeave (E.state disk.old)) }
     ensures counts { CountsFailures E.Disk is_failed_migration disk.old disk.new result }
 {
-    let len = settle(disk)?;
+    let len = sync_and_len(disk)?;
     if len < SLOT + 1 {
         return Ok(true);
     }

@@ -49,7 +49,7 @@ fn append_moved<D: Disk + Drop>(store: &mut FileStore<D>) -> Result<(), MigrateF
     requires { IsTrue (D.honest (disk_of store.old)) → IsLegal (records_of store.old) }
     ensures answer { Seals (records_of store.old) (has_stopped store.old) (records_of store.new) (has_stopped store.new)
         (D.failures (disk_of store.old)) (D.failures (disk_of store.new)) result }
-    ensures stays { IfErr result (λ fault. fault ≢ MigrateFault.DeviceFailed → store.new ≡ store.old) }
+    ensures refusal_keeps_store { IfErr result (λ fault. fault ≢ MigrateFault.DeviceFailed → store.new ≡ store.old) }
     ensures stays_sealed { has_moved (records_of store.old) ≡ true → store.new ≡ store.old }
     ensures any_moment { WhileStoreRuns D.Disk store.old
         (LeavesOnly D.moment D.left_since (disk_of store.old) (disk_of store.new)

@@ -14,8 +14,8 @@ use crate::slot::fields::{
 use typecodes::{Cursor, Name, ReadFault};
 
 fn visible_name(bytes: &[u8]) -> Option<Name>
-    requires some { 1 ≤ length bytes.now }
-    requires few { length bytes.now ≤ 128 }
+    requires non_empty { 1 ≤ length bytes.now }
+    requires at_most_128 { length bytes.now ≤ 128 }
     ensures { MatchOption result (are_visible bytes.now ≡ false) (λ name. (are_visible bytes.now ≡ true) ×
         (name ≡ bytes.now)) }
 {
@@ -25,7 +25,7 @@ fn visible_name(bytes: &[u8]) -> Option<Name>
 // A name's length, its bytes, and zeros up to `most` bytes.
 #[tactic(auto, using(typecodes::proofs::Steps::reading), unfolding(crate::specs::Slot::name_field))]
 fn read_name(cursor: &mut Cursor<'_>, most: u8) -> Result<Name, ReadFault>
-    requires few { most ≤ 128 }
+    requires at_most_128 { most ≤ 128 }
     requires room { cursor.old.place + most + 1 < 2 ^ 32 }
     ensures read { Gives (λ name. (name, cursor.new.place)) result
         (read (name_field most) cursor.old.bytes.now cursor.old.place) }
@@ -40,7 +40,7 @@ fn read_name(cursor: &mut Cursor<'_>, most: u8) -> Result<Name, ReadFault>
 }
 
 fn put_name(out: &mut Fields, name: &Name, most: u8)
-    requires few { length name.now ≤ most }
+    requires name_fits { length name.now ≤ most }
     requires room { array_vec_len out.old + most + 1 ≤ 223 }
     ensures { Puts (most + 1) (name_field most) name.now out.old out.new }
 {
@@ -70,7 +70,7 @@ pub(crate) fn read_bound(cursor: &mut Cursor<'_>, version: Version) -> Result<Re
 }
 
 pub(crate) fn put_bound(out: &mut Fields, bound: &Bound, version: Version)
-    requires few { length bound.now.name ≤ name_most version }
+    requires name_fits { length bound.now.name ≤ name_most version }
     requires room { array_vec_len out.old + 222 ≤ 223 }
     ensures { Puts 222 (bound_fields version) (Record.Bound bound.now) out.old out.new }
 {

@@ -75,7 +75,7 @@ fn kind(entry: &Record) -> u8
 
 // A record's fields, by its kind, whose byte stands before the cursor.
 fn read_fields(cursor: &mut Cursor<'_>, version: Version, kind: u8) -> Result<Record, ReadFault>
-    requires some { 1 ≤ cursor.old.place }
+    requires after_kind { 1 ≤ cursor.old.place }
     requires room { cursor.old.place + 222 < 2 ^ 32 }
     ensures read { Gives (λ entry. (entry, cursor.new.place)) result
         (read (fields_of version kind) cursor.old.bytes.now cursor.old.place) }

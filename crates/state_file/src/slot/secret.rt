@@ -38,7 +38,7 @@ fn put_pair(out: &mut Fields, pair: LmsPair)
 
 // `count` pairs, at the front of the array.
 fn read_pairs(cursor: &mut Cursor<'_>, count: u8) -> Result<[LmsPair; 8], ReadFault>
-    requires few { count ≤ 8 }
+    requires at_most_8 { count ≤ 8 }
     requires room { cursor.old.place + 64 < 2 ^ 32 }
     ensures read { Gives (λ all. (take count all, cursor.new.place)) result
         (read (pairs count) cursor.old.bytes.now cursor.old.place) }
@@ -190,7 +190,7 @@ fn put_xmss(out: &mut Fields, secret: &XmssSecret)
 
 /// A secret, by its scheme, whose byte stands before the cursor.
 pub(crate) fn read_secret(cursor: &mut Cursor<'_>, scheme: u8) -> Result<Secret, ReadFault>
-    requires some { 1 ≤ cursor.old.place }
+    requires after_scheme { 1 ≤ cursor.old.place }
     requires room { cursor.old.place + 177 < 2 ^ 32 }
     ensures read { Gives (λ secret. (secret, cursor.new.place)) result
         (read (secret_fields scheme) cursor.old.bytes.now cursor.old.place) }

@@ -152,14 +152,14 @@ impl<D: Disk + Drop> FileStore<D> {
             (D.failures (disk_of self.new)) result }
         ensures tag { IsTrue (D.honest (disk_of self.old)) →
             IfOk result (λ tag. tag ≡ tag_at (D.state (disk_of self.old)).content k) }
-        ensures same { records_of self.new ≡ records_of self.old }
+        ensures keeps_records { records_of self.new ≡ records_of self.old }
         ensures unreadable { unreadable_of self.new ≡ unreadable_of self.old }
         ensures reads { WhileStoreRuns D.Disk self.old
             (OnlyReads D.state D.moment D.left_since (disk_of self.old) (disk_of self.new)) }
         ensures any_moment { WhileStoreRuns D.Disk self.old
             (LeavesOnly D.moment D.left_since (disk_of self.old) (disk_of self.new) (StandsFor (records_of self.old))) }
         ensures counts { CountsFailures D.Disk is_device_failed (disk_of self.old) (disk_of self.new) result }
-        ensures stays { has_stopped self.old ≡ true → self.new ≡ self.old }
+        ensures stopped_unchanged { has_stopped self.old ≡ true → self.new ≡ self.old }
     {
         if self.stopped {
             return Err(StoreFault::Stopped);
@@ -226,12 +226,12 @@ impl<D: Disk + Drop> Store for FileStore<D> {
         ensures unreadable { Collects unreadable_slot (unreadable_of self.old) (unreadable_of self.new) result }
         ensures loads { AddsLoad is_stopped k (loads_of self.old) (loads_of self.new) result }
         ensures given { AddsGiven (given_of self.old) (given_of self.new) result }
-        ensures same { records_of self.new ≡ records_of self.old }
+        ensures keeps_records { records_of self.new ≡ records_of self.old }
         ensures reads { WhileStoreRuns D.Disk self.old
             (OnlyReads D.state D.moment D.left_since (disk_of self.old) (disk_of self.new)) }
         ensures any_moment { WhileStoreRuns D.Disk self.old
             (LeavesLists D.Disk self.old self.new (λ left. left ≡ records_of self.old)) }
-        ensures stays { has_stopped self.old ≡ true → self.new ≡ self.old }
+        ensures stopped_unchanged { has_stopped self.old ≡ true → self.new ≡ self.old }
         ensures counts { CountsFailures D.Disk is_device_failed (disk_of self.old) (disk_of self.new) result }
     {
         if self.stopped {
@@ -276,7 +276,7 @@ impl<D: Disk + Drop> Store for FileStore<D> {
         ensures refused { WhileStoreRuns D.Disk self.old
             (IfErr result (λ fault. fault ≢ StoreFault.DeviceFailed →
             LeavesLists D.Disk self.old self.new (λ left. left ≡ records_of self.old))) }
-        ensures stays { has_stopped self.old ≡ true → self.new ≡ self.old }
+        ensures stopped_unchanged { has_stopped self.old ≡ true → self.new ≡ self.old }
         ensures contents { WhileStoreRuns D.Disk self.old
             (LeavesOnly D.moment D.left_since (disk_of self.old) (disk_of self.new)
             (λ c. StandsFor (records_of self.old) c ⊎ StandsFor (records_of self.old ++ new.now ∷ []) c)) }

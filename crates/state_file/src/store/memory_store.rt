@@ -31,7 +31,7 @@ pub struct MemoryStore {
     // slots that load was asked for, and records that it gave
     loads: SlotList,
     given: RecordList,
-    ghost few: { length records.items ≤ limit },
+    ghost at_most_limit: { length records.items ≤ limit },
 }
 
 impl MemoryStore {
@@ -128,7 +128,7 @@ impl Store for MemoryStore {
 
     ghost left_since = { λ store. HadBeen (records_in store) };
 
-    ghost few = { λ store. store.few };
+    ghost few = { λ store. store.at_most_limit };
 
     ghost leaves_list = { λ store t _ _ early. had_been_all store.records.items t early };
 
@@ -143,10 +143,10 @@ impl Store for MemoryStore {
         ensures unreadable { Collects unreadable_slot [] [] result }
         ensures loads { AddsLoad is_stopped_fault k (loads_in self.old) (loads_in self.new) result }
         ensures given { AddsGiven (given_in self.old) (given_in self.new) result }
-        ensures same { records_in self.new ≡ records_in self.old }
+        ensures keeps_records { records_in self.new ≡ records_in self.old }
         ensures any_moment { is_stopped self.old ≡ false →
             LeavesInMemory self.old self.new (λ left. left ≡ records_in self.old) }
-        ensures stays { is_stopped self.old ≡ true → self.new ≡ self.old }
+        ensures stopped_unchanged { is_stopped self.old ≡ true → self.new ≡ self.old }
         ensures records { KeepsRecords self.old self.new }
         ensures cut { cut_of self.new ≡ cut_of self.old }
         ensures stopped { is_stopped self.new ≡ is_stopped self.old }
@@ -183,7 +183,7 @@ impl Store for MemoryStore {
         ensures refused { is_stopped self.old ≡ false → IfErr result (λ fault.
             fault ≢ StoreFault.DeviceFailed →
             LeavesInMemory self.old self.new (λ left. left ≡ records_in self.old)) }
-        ensures stays { is_stopped self.old ≡ true → self.new ≡ self.old }
+        ensures stopped_unchanged { is_stopped self.old ≡ true → self.new ≡ self.old }
         ensures loads { loads_in self.new ≡ loads_in self.old }
         ensures given { given_in self.new ≡ given_in self.old }
         ensures limit { limit_of self.new ≡ limit_of self.old }

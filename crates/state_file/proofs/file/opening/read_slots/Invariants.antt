@@ -10,7 +10,7 @@ use Rattle.state_file.proofs.file.opening.read_slots.Given as goal
 abbrev pub invariant-loop-disk : goal.invariant-loop-disk
 invariant-loop-disk g l = record {
   counted : l.found.count ≡ length l.found.records;
-  few : l.found.count ≤ most_records;
+  at_most_limit : l.found.count ≤ most_records;
   moved : l.found.moved ≡ has_moved l.found.records;
   version : l.found.version ≡ l.version;
   honest : g.D.Disk.honest l.disk ≡ g.D.Disk.honest l.initial.disk;

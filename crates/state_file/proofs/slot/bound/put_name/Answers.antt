@@ -12,5 +12,5 @@ returns c =
       writes =
           subst Written c.as_bytes-bytes.ensures.value
           (writes-name c.args.most c.as_bytes-bytes.result.now _ _ _ _ c.as_bytes-bytes.ensures.name c.put_byte_within.ensures.writes c.put.ensures.items rest);
-      len = omega (arith, c.from.ensures, ap length c.as_bytes-bytes.ensures.value, c.requires.few, c.put_zeros.ensures.len, c.put.ensures.block.len, c.put_byte_within.ensures.len);
+      len = omega (arith, c.from.ensures, ap length c.as_bytes-bytes.ensures.value, c.requires.name_fits, c.put_zeros.ensures.len, c.put.ensures.block.len, c.put_byte_within.ensures.len);
     }

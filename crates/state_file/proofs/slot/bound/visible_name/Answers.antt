@@ -8,4 +8,4 @@ pub returns : goal.returns
 returns c =
     let bytes = c.args.bytes.now in
     let Reports : Option (List ℕ) → Type 0 = λ made. MatchOption made (are_visible bytes ≡ false) (λ name. (are_visible bytes ≡ true) × (name ≡ bytes)) in
-    subst Reports (sym c.ok.ensures.value) (visible_or_not bytes c.new.result c.requires.some c.requires.few c.new.ensures.ok c.new.ensures.value)
+    subst Reports (sym c.ok.ensures.value) (visible_or_not bytes c.new.result c.requires.non_empty c.requires.at_most_128 c.new.ensures.ok c.new.ensures.value)

@@ -23,7 +23,7 @@ loop-i-preserved c =
       found = h.found
           ∙ pairs-next_of c.args.count c.loop-i.i _ _ _ (take c.loop-i.i c.loop-i.all) pair (omega (arith, c.from-i-end.ensures, c.loop-i-test.true)) found
           ∙ ap (λ before. and_then (read (pairs (c.args.count - (c.loop-i.i + 1))) c.args.cursor.now.bytes.now c.read_pair.new.cursor.place) (λ rest. Ok (before ++ rest.0, rest.1)))
-          (sym (take_more_set c.loop-i.all c.loop-i.i pair (omega (arith, h.size, c.requires.few, c.from-i-end.ensures, c.loop-i-test.true))));
+          (sym (take_more_set c.loop-i.all c.loop-i.i pair (omega (arith, h.size, c.requires.at_most_8, c.from-i-end.ensures, c.loop-i-test.true))));
     }
 
 pub returns-clause-read : goal.returns-clause-read

@@ -22,7 +22,7 @@ invariant_of-self g c = record {
   of_version = λ honest running.
       let self = c.args.self.now in
       let of_file = self.of_version (sym c.add_slot.ensures.counts.honest ∙ honest) running in
-      let same = goes_on_in self.records c.args.new.now self.version c.version_after-version.result (c.requires (sym c.add_slot.ensures.counts.honest ∙ honest)) of_file c.version_after-version.ensures.fits c.version_after-version.ensures.same in
+      let same = goes_on_in self.records c.args.new.now self.version c.version_after-version.result (c.requires (sym c.add_slot.ensures.counts.honest ∙ honest)) of_file c.version_after-version.ensures.fits c.version_after-version.ensures.keeps_version in
       ap version_code (same ∙ ap version_in (sym c.push.ensures));
   counted = omega (arith, ap length c.push.ensures, length-append c.args.self.now.records (c.args.new.now ∷ []), c.args.self.now.counted);
   few = omega (arith, ap length c.push.ensures, length-append c.args.self.now.records (c.args.new.now ∷ []), c.args.self.now.counted);
@@ -35,7 +35,7 @@ invariant_of-self g c = record {
       let kept = self.kept (sym c.add_slot.ensures.counts.honest ∙ honest) running in
       let front = take (256 * length self.records) state.content in
       let of_file = self.of_version (sym c.add_slot.ensures.counts.honest ∙ honest) running in
-      let same = goes_on_in self.records c.args.new.now self.version c.version_after-version.result (c.requires (sym c.add_slot.ensures.counts.honest ∙ honest)) of_file c.version_after-version.ensures.fits c.version_after-version.ensures.same in
+      let same = goes_on_in self.records c.args.new.now self.version c.version_after-version.result (c.requires (sym c.add_slot.ensures.counts.honest ∙ honest)) of_file c.version_after-version.ensures.fits c.version_after-version.ensures.keeps_version in
       let spelled = subst (λ v. Spells (slot_record v) c.args.new.now fields) same c.record_bytes-fields.ensures in
       let added = c.in-Ok.ensures.added front (sym c.add_slot.ensures.counts.honest ∙ honest) (kept_rests self.records self.tag state kept) (kept_size self.records self.tag state self.count kept self.counted) in
       kept_grows self.records c.push.new.self self.tag state after self.count c.args.new.now fields c.tag-next_tag.result (c.record_bytes-fields.result ++ c.tag-next_tag.result) c.push.ensures self.counted (omega arith) (follows_key c.args.self.now.records c.args.new.now kept.file.first (c.requires (sym c.add_slot.ensures.counts.honest ∙ honest)))
@@ -46,7 +46,7 @@ pub returns-in-Ok-clause-contents : goal.returns-in-Ok-clause-contents
 returns-in-Ok-clause-contents g c honest running =
     let self = c.args.self.now in
     let kept = self.kept honest running in
-    let same = goes_on_in self.records c.args.new.now self.version c.version_after-version.result (c.requires honest) (self.of_version honest running) c.version_after-version.ensures.fits c.version_after-version.ensures.same in
+    let same = goes_on_in self.records c.args.new.now self.version c.version_after-version.result (c.requires honest) (self.of_version honest running) c.version_after-version.ensures.fits c.version_after-version.ensures.keeps_version in
     let spelled = subst (λ v. Spells (slot_record v) c.args.new.now c.record_bytes-fields.result) same c.record_bytes-fields.ensures in
     appended_leaves g.D.Disk.moment g.D.Disk.left_since self.disk c.add_slot.new.disk self.records self.tag (g.D.Disk.state self.disk) self.count c.args.new.now c.record_bytes-fields.result c.tag-next_tag.result self.counted (omega arith) (follows_key self.records c.args.new.now kept.file.first (c.requires honest))
     c.add_slot.ensures.fields c.add_slot.ensures.tag spelled c.tag-next_tag.ensures kept (λ front rest size. c.add_slot.ensures.any_moment front honest rest size)
@@ -55,7 +55,7 @@ pub returns-in-Err-clause-contents : goal.returns-in-Err-clause-contents
 returns-in-Err-clause-contents g c honest running =
     let self = c.args.self.now in
     let kept = self.kept honest running in
-    let same = goes_on_in self.records c.args.new.now self.version c.version_after-version.result (c.requires honest) (self.of_version honest running) c.version_after-version.ensures.fits c.version_after-version.ensures.same in
+    let same = goes_on_in self.records c.args.new.now self.version c.version_after-version.result (c.requires honest) (self.of_version honest running) c.version_after-version.ensures.fits c.version_after-version.ensures.keeps_version in
     let spelled = subst (λ v. Spells (slot_record v) c.args.new.now c.record_bytes-fields.result) same c.record_bytes-fields.ensures in
     appended_leaves g.D.Disk.moment g.D.Disk.left_since self.disk c.add_slot.new.disk self.records self.tag (g.D.Disk.state self.disk) self.count c.args.new.now c.record_bytes-fields.result c.tag-next_tag.result self.counted (omega arith) (follows_key self.records c.args.new.now kept.file.first (c.requires honest))
     c.add_slot.ensures.fields c.add_slot.ensures.tag spelled c.tag-next_tag.ensures kept (λ front rest size. c.add_slot.ensures.any_moment front honest rest size)
