@@ -142,7 +142,7 @@ module _ {D : Type 0} (d : disk.Ghosts D) where
   made gives_bytes old new anchor answer loaded reads are judges tags = record {
     store = reads;
     loaded = loaded;
-    long = are.long;
+    same_count = are.same_count;
     same = are.same;
     judges = judges;
     tags = tags;
@@ -151,10 +151,10 @@ module _ {D : Type 0} (d : disk.Ghosts D) where
           let bytes = gives_bytes (disk_of old) honest in
           let kept = old.kept honest (reads.was_stopped ∙ running) in
           let stands : StandsFor (records_of old) (d.state (disk_of old)).content = kept_stands old.records old.tag (d.state old.disk) kept in
-          let spells = spells_some (records_of old) (d.state (disk_of old)).content (omega (arith, some, are.long)) stands in
+          let spells = spells_some (records_of old) (d.state (disk_of old)).content (omega (arith, some, are.same_count)) stands in
           tags_along (IsSlotTag d (disk_of old)) (IsTag (records_of old)) (d.honest (disk_of old)) loaded anchor answer
-          (λ k tag inside. slot_tag_along old k tag bytes spells (omega (arith, inside, are.long)))
-          (λ k tag inside. slot_tag_back old k tag bytes spells (omega (arith, inside, are.long)))
+          (λ k tag inside. slot_tag_along old k tag bytes spells (omega (arith, inside, are.same_count)))
+          (λ k tag inside. slot_tag_back old k tag bytes spells (omega (arith, inside, are.same_count)))
           judges (tags honest)
       | inr nothing ↦ nothing (IsTag (records_of old))
     ];
@@ -194,7 +194,7 @@ module _ {D : Type 0} (d : disk.Ghosts D) where
       → ChecksAnchor d mid new anchor (Err fault) → Audits d old new anchor (Err fault)
   no_anchor gives_bytes old mid new anchor fault x records reads are legal checks =
       let kept = kept_by d old mid x reads in
-      let same : length (records_of mid) ≡ length records = ap length kept.records ∙ sym are.long in
+      let same : length (records_of mid) ≡ length records = ap length kept.records ∙ sym are.same_count in
       let judged = judged_anchor (IsSlotTag d (disk_of mid)) (d.honest (disk_of old)) (d.honest (disk_of mid)) (records_of mid) records anchor fault legal same checks.fits in
       made gives_bytes old new anchor (Err fault) records (reads_after d old mid new (Err fault) kept (refused_alike mid new fault checks.store)) are judged.0
       (λ honest. judged.1 (IsSlotTag d (disk_of old)) (subst IsTrue (sym kept.honest) honest) (λ k tag is. same_tags old mid kept reads.was_stopped honest k tag is))
@@ -219,8 +219,8 @@ module _ {D : Type 0} (d : disk.Ghosts D) where
       let kept = kept_by d old mid x reads in
       let kept_on = kept_by d old last y (reads_after d old mid last (Ok y) kept checks.store) in
       let kept_all = kept_by d old new tag (reads_after d old last new (Ok tag) kept_on tagged.store) in
-      let same : length (records_of mid) ≡ length records = ap length kept.records ∙ sym are.long in
-      let place : k ≡ report.records - 1 = omega (arith, here, ap length kept_on.records, are.long, reports.count) in
+      let same : length (records_of mid) ≡ length records = ap length kept.records ∙ sym are.same_count in
+      let place : k ≡ report.records - 1 = omega (arith, here, ap length kept_on.records, are.same_count, reports.count) in
       let running = reads.was_stopped in
       made gives_bytes old new anchor (Ok report) records
       (answered d old new (Ok report) kept_all running refl refl (λ n. refl) (λ l. refl)) are

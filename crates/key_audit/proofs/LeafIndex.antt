@@ -12,37 +12,37 @@ use Rattle.sign_core.specs.Ledger.{ByText, of_text}
 use Rattle.sign_core.specs.Records.{are_same}
 use Rattle.key_audit.specs.declared.leaf_index.FirstUse.{FirstUse}
 use Rattle.key_audit.specs.declared.uses.LeafUse.{LeafUse}
-use Rattle.key_audit.specs.inner.LeafIndex.{AddsUse, AreKept, AreUpTo, IsFirstUse, IsKept, IsLeastOther, UseAt, earlier, place_of_other, use_at, with_use}
+use Rattle.key_audit.specs.inner.LeafIndex.{AddsUse, AreKept, AreUpTo, IsFirstConflict, IsFirstUse, IsKept, UseAt, conflict_in, min_some, use_at, with_use}
 
 -- ---- the least place
 
 pub least_push : (entries : ByText FirstUse) (uses : List LeafUse) (used : LeafUse) (least found : Option ℕ)
-    → place_of_other entries used ≡ found → IsLeastOther entries uses least
-    → IsLeastOther entries (uses ++ used ∷ []) (earlier least found)
+    → conflict_in entries used ≡ found → IsFirstConflict entries uses least
+    → IsFirstConflict entries (uses ++ used ∷ []) (min_some least found)
 least_push entries uses used None None at before = λ x has. elim (Contains-push_cases uses used x has) [
   | inl old ↦ before x old
-  | inr same ↦ ap (place_of_other entries) (sym same) ∙ at
+  | inr same ↦ ap (conflict_in entries) (sym same) ∙ at
 ]
 least_push entries uses used None (Some k) at before = (
   (used, Contains-push uses used, at),
   λ x j has other. elim (Contains-push_cases uses used x has) [
     | inl old ↦ absurd (none-some j (sym (before x old) ∙ other))
     | inr same ↦
-        let is : k ≡ j = same_Some k j (sym at ∙ ap (place_of_other entries) same ∙ other) in omega arith
+        let is : k ≡ j = same_Some k j (sym at ∙ ap (conflict_in entries) same ∙ other) in omega arith
   ],
 )
 least_push entries uses used (Some i) None at ((x, has, here), least) = (
   (x, Contains-append_left uses (used ∷ []) x has, here),
   λ y j in_all other. elim (Contains-push_cases uses used y in_all) [
     | inl old ↦ least y j old other
-    | inr same ↦ absurd (none-some j (sym at ∙ ap (place_of_other entries) same ∙ other))
+    | inr same ↦ absurd (none-some j (sym at ∙ ap (conflict_in entries) same ∙ other))
   ],
 )
 least_push entries uses used (Some i) (Some k) at ((x, has, here), least) =
-    let other_ends : (y : LeafUse) (j : ℕ) → Contains (uses ++ used ∷ []) y → place_of_other entries y ≡ Some j → (i ≤ j) ⊎ (k ≡ j) =
+    let other_ends : (y : LeafUse) (j : ℕ) → Contains (uses ++ used ∷ []) y → conflict_in entries y ≡ Some j → (i ≤ j) ⊎ (k ≡ j) =
     λ y j in_all other. elim (Contains-push_cases uses used y in_all) [
       | inl old ↦ inl (least y j old other)
-      | inr same ↦ inr (same_Some k j (sym at ∙ ap (place_of_other entries) same ∙ other))
+      | inr same ↦ inr (same_Some k j (sym at ∙ ap (conflict_in entries) same ∙ other))
     ] in
     elim (cases_lt i k) [
       | inl below ↦
@@ -93,21 +93,21 @@ push_here before place used (Some first) low kept = record {
         let under : first.place ≤ place = low _ kept.used in omega (arith, at, under)
   ];
   alike = λ all x has same.
-      let (only, here) = and_parts first.is_only (are_same first.digest used.digest) all in
+      let (only, here) = and_parts first.one_digest (are_same first.digest used.digest) all in
       elim (Contains-push_cases before (use_at place used) x has) [
         | inl old ↦ kept.alike only x old same
         | inr is ↦ sym (ap (λ y. y.digest) is) ∙ sym ((bytes_decides first.digest used.digest).0 here)
       ];
-  mixed = λ other. by first.is_only refl (and_cases first.is_only (are_same first.digest used.digest) other);
+  mixed = λ other. by first.one_digest refl (and_cases first.one_digest (are_same first.digest used.digest) other);
 } where
   Mixed : Type 0
   Mixed = (x : UseAt) × Contains (before ++ use_at place used ∷ []) x × (x.leaf ≡ used.leaf) × (x.digest ≢ first.digest)
 
-  old_mixed : first.is_only ≡ false → Mixed
+  old_mixed : first.one_digest ≡ false → Mixed
   old_mixed not_only =
       let (x, has, same, differs) = kept.mixed not_only in (x, Contains-append_left before (use_at place used ∷ []) x has, same, differs)
 
-  by : (b : Bool) → first.is_only ≡ b → (first.is_only ≡ false) ⊎ (are_same first.digest used.digest ≡ false) → Mixed
+  by : (b : Bool) → first.one_digest ≡ b → (first.one_digest ≡ false) ⊎ (are_same first.digest used.digest ≡ false) → Mixed
   by b is (inl not_only) = old_mixed not_only
   by b is (inr differs) = (
     use_at place used,

@@ -86,7 +86,7 @@ module _ {D : Type 0} (d : disk.Ghosts D) where
   not_listed old new fault reads stops = record {
     store = refused_alike d old new fault reads;
     loaded = records_of old;
-    long = refl;
+    same_count = refl;
     same = λ honest. refl;
     answers = stops_judged (d.honest (disk_of old)) (records_of old) fault stops;
   }
@@ -99,7 +99,7 @@ module _ {D : Type 0} (d : disk.Ghosts D) where
       let fine = no_failure records answer lists in record {
         store = answered d old new answer (kept_by d old new x reads) reads.was_stopped fine.not_stopped fine.not_failed fine.none fine.no_slot;
         loaded = records;
-        long = are.long;
+        same_count = are.same_count;
         same = are.same;
         answers = lists_answered (d.honest (disk_of old)) records answer lists;
       }

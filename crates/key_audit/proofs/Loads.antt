@@ -113,7 +113,7 @@ module _ {D : Type 0} (d : disk.Ghosts D) where
   -- The first k records were loaded, and nothing failed.
   pub record HasLoaded (old now : FileStore D d) (records : List Record) (k : ℕ) : Type 0 where
     pub kept : IsUnchanged d old now
-    pub long : length records ≡ k
+    pub counted : length records ≡ k
     pub inside : k ≤ length (records_of old)
     pub same : IsTrue (d.honest (disk_of old)) → records ≡ take k (records_of old)
     pub running : 0 < k → has_stopped old ≡ false
@@ -121,7 +121,7 @@ module _ {D : Type 0} (d : disk.Ghosts D) where
   pub none_loaded : (store : FileStore D d) → OnlyNow store → HasLoaded store store [] 0
   none_loaded store only = record {
     kept = kept_first store only;
-    long = refl;
+    counted = refl;
     inside = omega arith;
     same = λ honest. refl;
     running = λ some. absurd (omega (arith, some));
@@ -135,7 +135,7 @@ module _ {D : Type 0} (d : disk.Ghosts D) where
       → LoadsSlot d now next k (Ok (Some entry)) → HasLoaded old next (records ++ entry ∷ []) (k + 1)
   loaded_more old now next records k entry is loads = record {
     kept = kept_by old next (Some entry) (reads_after old now next (Ok (Some entry)) is.kept loads.store);
-    long = length_one_more records entry ∙ ap (λ n. n + 1) is.long;
+    counted = length_one_more records entry ∙ ap (λ n. n + 1) is.counted;
     inside = omega (arith, loads.finds.0, ap length is.kept.records);
     same = λ honest.
         let here : suc k ≡ k + 1 = omega arith in
@@ -148,6 +148,6 @@ module _ {D : Type 0} (d : disk.Ghosts D) where
   pub all_loaded : (old now : FileStore D d) (records : List Record) (k : ℕ) → HasLoaded old now records k → length (records_of old) ≤ k
       → AreLoaded (d.honest (disk_of old)) (records_of old) records
   all_loaded old now records k is end = record {
-    long = omega (arith, is.long, is.inside, end);
+    same_count = omega (arith, is.counted, is.inside, end);
     same = λ honest. is.same honest ∙ take_all k (records_of old) end;
   }

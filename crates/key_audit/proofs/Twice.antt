@@ -33,7 +33,7 @@ use Rattle.key_audit.specs.declared.given.Given.{Given}
 use Rattle.key_audit.specs.declared.leaf_index.FirstUse.{FirstUse}
 use Rattle.key_audit.specs.declared.uses.LeafUse.{LeafUse}
 use Rattle.key_audit.specs.Given.{AreValid, IsFirstTwice, IsTwice, IsValidGiven, NoneTwice, Uses}
-use Rattle.key_audit.specs.inner.LeafIndex.{AddsUses, AreKept, IsKept, IsLeastOther, UseAt, other_place, place_of_other, use_at}
+use Rattle.key_audit.specs.inner.LeafIndex.{AddsUses, AreKept, IsFirstConflict, IsKept, UseAt, conflict_in, conflict_of_use, use_at}
 use Rattle.key_audit.specs.inner.Uses.{AreUsesOf, kept_use, leaf_bytes}
 
 -- ---- lists
@@ -220,12 +220,12 @@ same_place public given n x y valid none of_x of_y leaf differs = elim (cases_eq
 -- ---- another digest, by what is kept
 
 seen : (P : UseAt → Type 0) (leaf digest : List ℕ) (o : Option FirstUse) (x : UseAt) → IsKept P leaf o → P x → x.leaf ≡ leaf → x.digest ≢ digest
-    → (p : ℕ) × (other_place o digest ≡ Some p) × (p ≤ x.place)
+    → (p : ℕ) × (conflict_of_use o digest ≡ Some p) × (p ≤ x.place)
 seen P leaf digest None x kept has same differs = absurd (kept x has same)
-seen P leaf digest (Some first) x kept has same differs = by (first.is_only && are_same first.digest digest) refl where
-  by : (b : Bool) → (first.is_only && are_same first.digest digest) ≡ b → (p : ℕ) × (other_place (Some first) digest ≡ Some p) × (p ≤ x.place)
+seen P leaf digest (Some first) x kept has same differs = by (first.one_digest && are_same first.digest digest) refl where
+  by : (b : Bool) → (first.one_digest && are_same first.digest digest) ≡ b → (p : ℕ) × (conflict_of_use (Some first) digest ≡ Some p) × (p ≤ x.place)
   by true is =
-      let (only, alike) = and_parts first.is_only (are_same first.digest digest) is in
+      let (only, alike) = and_parts first.one_digest (are_same first.digest digest) is in
       absurd (differs (kept.alike only x has same ∙ (bytes_decides first.digest digest).0 alike))
   by false is = (first.place, ap (λ b. cond b None (Some first.place)) is, kept.least x has same)
 
@@ -239,13 +239,13 @@ pub record IsOther (P : UseAt → Type 0) (leaf digest : List ℕ) (i : ℕ) : T
 
 is_other : (P : UseAt → Type 0) (leaf digest : List ℕ) (o : Option FirstUse) (i : ℕ) → IsKept P leaf o
     → ((x y : UseAt) → P x → P y → x.leaf ≡ y.leaf → x.digest ≢ y.digest → x.place ≡ y.place)
-    → other_place o digest ≡ Some i → IsOther P leaf digest i
+    → conflict_of_use o digest ≡ Some i → IsOther P leaf digest i
 is_other P leaf digest None i kept one at = absurd (none-some i at)
-is_other P leaf digest (Some first) i kept one at = by (first.is_only && are_same first.digest digest) refl where
+is_other P leaf digest (Some first) i kept one at = by (first.one_digest && are_same first.digest digest) refl where
   own : first.place ≡ i → first.digest ≢ digest → IsOther P leaf digest i
   own place differs = record { x = record { place = first.place; leaf = leaf; digest = first.digest }; has = kept.used; leaf_is = refl; place_is = place; differs = differs }
 
-  mixed : first.place ≡ i → first.is_only ≡ false → (b : Bool) → are_same first.digest digest ≡ b → IsOther P leaf digest i
+  mixed : first.place ≡ i → first.one_digest ≡ false → (b : Bool) → are_same first.digest digest ≡ b → IsOther P leaf digest i
   mixed place not_only true alike =
       let (y, has, leaf_is, differs) = kept.mixed not_only in
       let same : first.digest ≡ digest = (bytes_decides first.digest digest).0 alike in record {
@@ -257,11 +257,11 @@ is_other P leaf digest (Some first) i kept one at = by (first.is_only && are_sam
       }
   mixed place not_only false alike = own place (λ same. true≢false (sym ((bytes_decides first.digest digest).1 same) ∙ alike))
 
-  by : (b : Bool) → (first.is_only && are_same first.digest digest) ≡ b → IsOther P leaf digest i
+  by : (b : Bool) → (first.one_digest && are_same first.digest digest) ≡ b → IsOther P leaf digest i
   by true is = absurd (none-some i (sym (ap (λ b. cond b None (Some first.place)) is) ∙ at))
   by false is =
       let place : first.place ≡ i = same_Some first.place i (sym (ap (λ b. cond b None (Some first.place)) is) ∙ at) in
-      elim (and_cases first.is_only (are_same first.digest digest) is) [
+      elim (and_cases first.one_digest (are_same first.digest digest) is) [
         | inl not_only ↦ mixed place not_only (are_same first.digest digest) refl
         | inr apart ↦ own place (λ same. true≢false (sym ((bytes_decides first.digest digest).1 same) ∙ apart))
       ]
@@ -283,7 +283,7 @@ among_kept public each uses k (us, makes, are) has =
 twice_seen : (public : AnyPublic) (given : List Given) (n i : ℕ) (each : Given) (uses : List LeafUse) (entries : ByText FirstUse)
     → Indexed public given n entries → slice_get given n ≡ Some each → AreUsesOf public each.message.items each.signature.items uses
     → i < n → IsTwice public given i n
-    → (k : LeafUse) × Contains uses k × ((p : ℕ) × (place_of_other entries k ≡ Some p) × (p ≤ i))
+    → (k : LeafUse) × Contains uses k × ((p : ℕ) × (conflict_in entries k ≡ Some p) × (p ≤ i))
 unfolding use_of
 twice_seen public given n i each uses entries indexed stands are below two =
     let own : two.b ≡ each = same_Some two.b each (sym two.at_j ∙ stands) in
@@ -298,7 +298,7 @@ twice_seen public given n i each uses entries indexed stands are below two =
 
 pub none_twice : (public : AnyPublic) (given : List Given) (n : ℕ) (each : Given) (uses : List LeafUse) (entries : ByText FirstUse)
     → Indexed public given n entries → slice_get given n ≡ Some each → AreUsesOf public each.message.items each.signature.items uses
-    → IsLeastOther entries uses None → NoneTwice public given (n + 1)
+    → IsFirstConflict entries uses None → NoneTwice public given (n + 1)
 none_twice public given n each uses entries indexed stands are least i j apart i_low j_low two = by (cases_lt i n) (cases_lt j n) where
   never : (k : ℕ) → k < n → IsTwice public given k n → ⊥
   never k below found =
@@ -312,7 +312,7 @@ none_twice public given n each uses entries indexed stands are least i j apart i
 
 pub first_twice : (public : AnyPublic) (given : List Given) (n i : ℕ) (each : Given) (uses : List LeafUse) (entries : ByText FirstUse)
     → AreValid public given → Indexed public given n entries → slice_get given n ≡ Some each
-    → AreUsesOf public each.message.items each.signature.items uses → IsLeastOther entries uses (Some i) → IsFirstTwice public given i n
+    → AreUsesOf public each.message.items each.signature.items uses → IsFirstConflict entries uses (Some i) → IsFirstTwice public given i n
 first_twice public given n i each uses entries valid indexed stands are ((k, has, at), least) =
     let (u, by_each, is) = among_kept public each uses k are has in
     let other = is_other (Contains indexed.log) k.leaf k.digest (of_text entries k.leaf) i (indexed.kept k.leaf)
@@ -355,7 +355,7 @@ same_use x place leaf digest p q r =
 
 pub index_more : (public : AnyPublic) (given : List Given) (n : ℕ) (each : Given) (uses : List LeafUse) (old new : ByText FirstUse)
     → Indexed public given n old → slice_get given n ≡ Some each → AreUsesOf public each.message.items each.signature.items uses
-    → IsLeastOther old uses None
+    → IsFirstConflict old uses None
     → AddsUses n uses old new → Indexed public given (n + 1) new
 index_more public given n each uses old new indexed stands are least adds = record {
   log = indexed.log ++ map (use_at n) uses;

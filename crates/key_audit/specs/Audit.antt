@@ -119,7 +119,7 @@ pub record Audits {D : Type 0} (d : disk.Ghosts D) (old new : FileStore D d) (an
     (answer : Result Report AuditFault) : Type 0 where
   pub store : ReadsStore d old new answer
   pub loaded : List Record
-  pub long : length loaded ≡ length (records_of old)
+  pub same_count : length loaded ≡ length (records_of old)
   pub same : IsTrue (d.honest (disk_of old)) → loaded ≡ records_of old
   pub judges : Judges (d.honest (disk_of old)) loaded anchor answer
   pub tags : IsTrue (d.honest (disk_of old)) → AreTags (IsSlotTag d (disk_of old)) anchor answer

@@ -87,7 +87,7 @@ pub record Lists {D : Type 0} (d : disk.Ghosts D) (old new : FileStore D d) (ans
     : Type 0 where
   pub store : ReadsStore d old new answer
   pub loaded : List Record
-  pub long : length loaded ≡ length (records_of old)
+  pub same_count : length loaded ≡ length (records_of old)
   pub same : IsTrue (d.honest (disk_of old)) → loaded ≡ records_of old
   pub answers : AnswersListing (d.honest (disk_of old)) loaded answer
 

@@ -96,7 +96,7 @@ fn check_leaves(alloc: Global, public: &AnyPublic, given: &[Given]) -> Result<()
     let mut index = LeafIndex::new(alloc);
     for (place, each) in given.iter().enumerate() {
         let uses = uses_of(public, &each.message, &each.signature);
-        if let Some(earlier) = index.least_other(&uses) {
+        if let Some(earlier) = index.first_conflict(&uses) {
             return Err(GivenFault::LeafTwice(earlier, place));
         }
         if index.add(&uses, place).is_err() {

@@ -1,8 +1,8 @@
 //! The leaves that earlier signatures used, with their digests.
 
 ghost use Rattle.std.specs.Prelude.{◌≡◌, [], Contains, OnOk};
-ghost use Rattle.key_audit.specs.inner.LeafIndex.{AddsUse, AddsUses, AreKept, IsLeastOther};
-ghost use Rattle.key_audit.specs.inner.LeafIndex.{earlier, place_of_other};
+ghost use Rattle.key_audit.specs.inner.LeafIndex.{AddsUse, AddsUses, AreKept, IsFirstConflict};
+ghost use Rattle.key_audit.specs.inner.LeafIndex.{conflict_in, min_some};
 
 use crate::leaf::Leaf;
 use crate::uses::LeafUse;
@@ -14,7 +14,7 @@ use std::collections::HashMap;
 pub(crate) struct FirstUse {
     pub(crate) place: usize,
     pub(crate) digest: [u8; 32],
-    pub(crate) is_only: bool,
+    pub(crate) one_digest: bool,
 }
 
 /// An index of used leaves.
@@ -34,24 +34,24 @@ impl LeafIndex {
     }
 
     // The first signature that used the leaf, if any use had another digest.
-    fn other_place(&self, used: &LeafUse) -> Option<usize>
-        ensures { result ≡ place_of_other self.now.entries used.now }
+    fn conflict_of_use(&self, used: &LeafUse) -> Option<usize>
+        ensures { result ≡ conflict_in self.now.entries used.now }
     {
         let first = self.entries.get(&used.leaf)?;
-        if first.is_only && first.digest == used.digest {
+        if first.one_digest && first.digest == used.digest {
             None
         } else {
             Some(first.place)
         }
     }
 
-    /// The least `other_place` of these leaves.
-    pub(crate) fn least_other(&self, uses: &[LeafUse]) -> Option<usize>
-        ensures { IsLeastOther self.now.entries uses.now result }
+    /// The least `conflict_of_use` of these leaves.
+    pub(crate) fn first_conflict(&self, uses: &[LeafUse]) -> Option<usize>
+        ensures { IsFirstConflict self.now.entries uses.now result }
     {
         let mut least = None;
         for used in uses {
-            least = earlier(least, self.other_place(used));
+            least = min_some(least, self.conflict_of_use(used));
         }
         least
     }
@@ -62,13 +62,13 @@ impl LeafIndex {
     {
         let first = match self.entries.get(&used.leaf) {
             Some(first) => FirstUse {
-                is_only: first.is_only && first.digest == used.digest,
+                one_digest: first.one_digest && first.digest == used.digest,
                 ..*first
             },
             None => FirstUse {
                 place,
                 digest: used.digest,
-                is_only: true,
+                one_digest: true,
             },
         };
         match self.entries.insert(used.leaf.copied(), first) {
@@ -89,8 +89,8 @@ impl LeafIndex {
 }
 
 // The lesser of two places.
-fn earlier(a: Option<usize>, b: Option<usize>) -> Option<usize>
-    ensures { result ≡ earlier a b }
+fn min_some(a: Option<usize>, b: Option<usize>) -> Option<usize>
+    ensures { result ≡ min_some a b }
 {
     match (a, b) {
         (Some(a), Some(b)) => Some(a.min(b)),

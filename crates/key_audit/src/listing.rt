@@ -68,7 +68,7 @@ impl Entry {
 
 fn name_count(entry: &Entry) -> usize
     ensures value { result ≡ name_count entry.now }
-    ensures few { result ≤ 1 }
+    ensures at_most_1 { result ≤ 1 }
 {
     match entry {
         Entry::Name { .. } => 1,

@@ -17,12 +17,12 @@ use_at place used = record { place = place; leaf = used.leaf; digest = used.dige
 
 -- ---- what is kept of one leaf
 
--- The kept use of a leaf: none comes earlier, and `is_only` says whether all have its digest.
+-- The kept use of a leaf: none comes earlier, and `one_digest` says whether all have its digest.
 pub record IsFirstUse (P : UseAt → Type 0) (leaf : List ℕ) (first : FirstUse) : Type 0 where
   pub used : P (record { place = first.place; leaf = leaf; digest = first.digest })
   pub least : (other : UseAt) → P other → other.leaf ≡ leaf → first.place ≤ other.place
-  pub alike : first.is_only ≡ true → (other : UseAt) → P other → other.leaf ≡ leaf → other.digest ≡ first.digest
-  pub mixed : first.is_only ≡ false
+  pub alike : first.one_digest ≡ true → (other : UseAt) → P other → other.leaf ≡ leaf → other.digest ≡ first.digest
+  pub mixed : first.one_digest ≡ false
       → (other : UseAt) × P other × (other.leaf ≡ leaf) × (other.digest ≢ first.digest)
 
 abbrev pub IsKept : (P : UseAt → Type 0) (leaf : List ℕ) → Option FirstUse → Type 0
@@ -35,9 +35,9 @@ AreKept P entries = (leaf : List ℕ) → IsKept P leaf (of_text entries leaf)
 
 -- what is kept of a leaf after one more use
 abbrev pub with_use : Option FirstUse → (place : ℕ) (digest : List ℕ) → FirstUse
-with_use None place digest = record { place = place; digest = digest; is_only = true }
+with_use None place digest = record { place = place; digest = digest; one_digest = true }
 with_use (Some first) place digest =
-    record { place = first.place; digest = first.digest; is_only = first.is_only && are_same first.digest digest }
+    record { place = first.place; digest = first.digest; one_digest = first.one_digest && are_same first.digest digest }
 
 -- One use was added, and other leaves keep theirs.
 pub record AddsUse (place : ℕ) (used : LeafUse) (old new : ByText FirstUse) : Type 0 where
@@ -56,23 +56,23 @@ AddsUses place uses old new = (before : List UseAt) → AreUpTo place (Contains 
 -- ---- uses of a leaf for another digest
 
 -- the first signature that used a leaf, if any use had another digest than this one
-abbrev pub other_place : Option FirstUse → (digest : List ℕ) → Option ℕ
-other_place None digest = None
-other_place (Some first) digest =
-    if first.is_only && are_same first.digest digest then None else Some first.place
+abbrev pub conflict_of_use : Option FirstUse → (digest : List ℕ) → Option ℕ
+conflict_of_use None digest = None
+conflict_of_use (Some first) digest =
+    if first.one_digest && are_same first.digest digest then None else Some first.place
 
-abbrev pub place_of_other : ByText FirstUse → LeafUse → Option ℕ
-place_of_other entries used = other_place (of_text entries used.leaf) used.digest
+abbrev pub conflict_in : ByText FirstUse → LeafUse → Option ℕ
+conflict_in entries used = conflict_of_use (of_text entries used.leaf) used.digest
 
 -- The least such place for a list of uses, or none.
-abbrev pub IsLeastOther : ByText FirstUse → List LeafUse → Option ℕ → Type 0
-IsLeastOther entries uses None = (used : LeafUse) → Contains uses used → place_of_other entries used ≡ None
-IsLeastOther entries uses (Some i) =
-    ((used : LeafUse) × Contains uses used × (place_of_other entries used ≡ Some i))
-    × ((used : LeafUse) (k : ℕ) → Contains uses used → place_of_other entries used ≡ Some k → i ≤ k)
+abbrev pub IsFirstConflict : ByText FirstUse → List LeafUse → Option ℕ → Type 0
+IsFirstConflict entries uses None = (used : LeafUse) → Contains uses used → conflict_in entries used ≡ None
+IsFirstConflict entries uses (Some i) =
+    ((used : LeafUse) × Contains uses used × (conflict_in entries used ≡ Some i))
+    × ((used : LeafUse) (k : ℕ) → Contains uses used → conflict_in entries used ≡ Some k → i ≤ k)
 
 -- the lesser of two places
-abbrev pub earlier : Option ℕ → Option ℕ → Option ℕ
-earlier None b = b
-earlier (Some a) None = Some a
-earlier (Some a) (Some b) = Some (min a b)
+abbrev pub min_some : Option ℕ → Option ℕ → Option ℕ
+min_some None b = b
+min_some (Some a) None = Some a
+min_some (Some a) (Some b) = Some (min a b)

@@ -27,7 +27,7 @@ pub record LoadsSlot {D : Type 0} (d : disk.Ghosts D) (old new : FileStore D d) 
 
 -- As many records as a store has, and over an honest disk its own.
 pub record AreLoaded (honest : Bool) (list records : List Record) : Type 0 where
-  pub long : length records ≡ length list
+  pub same_count : length records ≡ length list
   pub same : IsTrue honest → records ≡ list
 
 -- why records weren't loaded

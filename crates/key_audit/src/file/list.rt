@@ -5,7 +5,7 @@ ghost use Rattle.sign_core.specs.Records.{key_in};
 ghost use Rattle.key_audit.specs.Listing.{Lists, entry_of, types_of};
 ghost use Rattle.key_audit.specs.inner.Listing.{ListsRecords};
 
-use crate::file::loading::{load_records, take_up};
+use crate::file::loading::{load_records, replay};
 use crate::listing::{Entry, Listing};
 use crate::report::AuditFault;
 use state_file::{Disk, FileStore, Key, Record, Secret};
@@ -46,7 +46,7 @@ fn entries_of(alloc: Global, records: &[Record]) -> Result<Vec<Entry>, AllocErro
 fn list_records(alloc: Global, records: &[Record]) -> Result<Listing, AuditFault>
     ensures { ListsRecords records.now result }
 {
-    let ledger = take_up(alloc, records)?;
+    let ledger = replay(alloc, records)?;
     let entries = entries_of(alloc, records).map_err(|_| AuditFault::OutOfMemory)?;
     match key_of(records) {
         Some(key) => Ok(Listing {

@@ -49,7 +49,7 @@ pub(crate) fn load_records<D: Disk + Drop>(
 }
 
 /// A ledger of these records.
-pub(crate) fn take_up(alloc: Global, records: &[Record]) -> Result<Ledger, AuditFault>
+pub(crate) fn replay(alloc: Global, records: &[Record]) -> Result<Ledger, AuditFault>
     ensures records { IfOk result (λ ledger. ledger.records ≡ records.now) }
     ensures legal { OnOk result (IsLegal records.now) }
     ensures refused { IfErr result (IsRefusedLedger records.now) }
@@ -88,5 +88,5 @@ pub(crate) fn load_ledger<D: Disk + Drop>(
     ensures refused { IfErr result (IsNoLedger (D.honest (disk_of store.old)) (records_of store.old)) }
 {
     let records = load_records(alloc, store)?;
-    take_up(alloc, &records)
+    replay(alloc, &records)
 }

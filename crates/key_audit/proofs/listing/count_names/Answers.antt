@@ -9,7 +9,7 @@ loop-entry-preserved c =
     let i = c.loop-entry.entry-index in (
       ap (λ n. c.loop-entry.names + n) c.name_count-names.ensures.value
           ∙ names_more c.args.entries.now i e c.loop-entry.names (omega (arith, c.loop-entry-test.true)) c.entry-item.is c.loop-entry.invariant.0,
-      omega (arith, c.loop-entry.invariant.1, c.name_count-names.ensures.few),
+      omega (arith, c.loop-entry.invariant.1, c.name_count-names.ensures.at_most_1),
     )
 
 pub returns : goal.returns
