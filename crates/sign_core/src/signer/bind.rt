@@ -53,6 +53,7 @@ fn draw_tree<R: Source>(random: &mut R, ledger: &Ledger) -> Result<TreeSeeds, Si
 impl<S: Store, R: Source> Signer<S, R> {
     // Makes room for the records of a new name, of which this level is the deepest with a free leaf, and for its
     // signature.
+    #[inline(never)]
     pub(super) fn prepare(&mut self, level: u8, out: &mut Vec<u8>) -> Result<(), SignFault>
         requires open { self.old.is_open ≡ true }
         requires goes_on { has_moved self.old.records ≡ false }
@@ -95,6 +96,7 @@ impl<S: Store, R: Source> Signer<S, R> {
 
     // Begins a tree of the next level below a standing chain, and records it: the chain's last tree signs it by its
     // next leaf. The answer is the new tree, which is to sign by its first leaf.
+    #[inline(never)]
     fn extend(
         &mut self,
         trees: &KeyTrees,
@@ -140,6 +142,7 @@ impl<S: Store, R: Source> Signer<S, R> {
 
     // Makes the wanted records of a new name below a standing chain, one after the other: an Extend for each level that
     // has no tree, and the Bound. Then it writes the signature.
+    #[inline(never)]
     pub(super) fn fulfil<M: Message>(
         &mut self,
         trees: &KeyTrees,
@@ -179,6 +182,7 @@ impl<S: Store, R: Source> Signer<S, R> {
     }
 
     // Binds a name to the next leaf of an XMSS key, whose root is checked first, and writes the signature.
+    #[inline(never)]
     pub(super) fn bind_xmss<M: Message>(
         &mut self,
         secret: &XmssSecret,

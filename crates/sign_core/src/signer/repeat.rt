@@ -33,6 +33,7 @@ fn cache_xmss(caches: &mut Caches, secret: &XmssSecret, leaf: u32) -> Result<(),
 
 impl<S: Store, R: Source> Signer<S, R> {
     // The signature of a name that is bound, where the message has the recorded digest. Nothing changes but caches.
+    #[inline(never)]
     pub(super) fn repeat<M: Message>(
         &mut self,
         binding: &Binding,
@@ -74,6 +75,7 @@ impl<S: Store, R: Source> Signer<S, R> {
     }
 
     // The signature of a name that is bound under a key of LMS or HSS, where the message has the recorded digest.
+    #[inline(never)]
     pub(super) fn repeat_chain<M: Message>(
         &self,
         caches: &mut Caches,
@@ -113,6 +115,7 @@ impl<S: Store, R: Source> Signer<S, R> {
     }
 
     // The same under a key of XMSS.
+    #[inline(never)]
     pub(super) fn repeat_xmss<M: Message>(
         &self,
         caches: &mut Caches,

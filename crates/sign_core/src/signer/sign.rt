@@ -112,6 +112,9 @@ impl<S: Store, R: Source> Signer<S, R> {
     }
 
     // As `sign`, but an `Err` may leave anything in `out`.
+    //
+    // The steps that follow never run together, and make trees or hold chains. None of them is inlined: else their
+    // frames would be added up in this one's.
     fn sign_into<M: Message>(
         &mut self,
         name: &Name,
