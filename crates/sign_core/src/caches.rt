@@ -11,9 +11,10 @@ ghost use Rattle.sign_core.specs.Textbook.{damaged_in};
 
 use crate::fault::SignFault;
 use crate::links::SigningTree;
+use crate::progress::{TreeLeaves, TreeProgress};
 use crate::roots::root_and_path;
 use lms::LmsTree;
-use merkle::{OutOfMemory, PathCache};
+use merkle::{OutOfMemory, PathCache, Progress};
 use std::alloc::Global;
 use std::marker::Model;
 use std::mem;
@@ -42,12 +43,18 @@ impl LmsCache {
     ghost use Rattle.sign_core.specs.inner.Links.{IsMade};
 
     // Makes each leaf of the tree, once, and keeps the block of this leaf.
-    fn new(alloc: Global, secret: LmsSecret, leaf: u32) -> Result<Self, OutOfMemory>
+    fn new<P: Progress + Drop>(
+        alloc: Global,
+        secret: LmsSecret,
+        leaf: u32,
+        progress: P,
+    ) -> Result<Self, OutOfMemory>
         requires { leaf < 2 ^ height_of secret.pair.tree }
         ensures { IfOk result (λ cache. cache ≡ secret) }
     {
         let height = secret.pair.tree.height();
-        let cache = PathCache::for_leaf(alloc, LmsTree::new(secret), height, leaf)?;
+        let tree = LmsTree::new(secret);
+        let cache = PathCache::for_leaf_telling(alloc, tree, height, leaf, progress)?;
         Ok(LmsCache { secret, cache })
     }
 
@@ -95,12 +102,18 @@ impl XmssCache {
     ghost use Rattle.xmss.specs.Secret.{path_in, root_in};
 
     // Makes each leaf of the tree, once, and keeps the block of this leaf.
-    fn new(alloc: Global, secret: XmssSecret, leaf: u32) -> Result<Self, OutOfMemory>
+    fn new<P: Progress + Drop>(
+        alloc: Global,
+        secret: XmssSecret,
+        leaf: u32,
+        progress: P,
+    ) -> Result<Self, OutOfMemory>
         requires { leaf < 2 ^ xmss_height_of secret.tree }
         ensures { IfOk result (λ cache. cache ≡ secret) }
     {
         let height = secret.tree.height();
-        let cache = PathCache::for_leaf(alloc, XmssTree::new(secret), height, leaf)?;
+        let tree = XmssTree::new(secret);
+        let cache = PathCache::for_leaf_telling(alloc, tree, height, leaf, progress)?;
         Ok(XmssCache { secret, cache })
     }
 
@@ -184,11 +197,12 @@ impl Caches {
     }
 
     // Makes the cache of a secret's tree, which is to sign by this leaf, for a level, unless it is there.
-    pub(crate) fn keep(
+    pub(crate) fn keep<P: TreeProgress>(
         &mut self,
         level: u8,
         secret: &LmsSecret,
         leaf: u32,
+        progress: &P,
     ) -> Result<(), OutOfMemory>
         requires { level < 8 }
         ensures there { OnOk result (HasLevel self.new level secret.now) }
@@ -200,21 +214,31 @@ impl Caches {
             return Ok(());
         }
         self.levels[usize::from(level)] = None;
-        let leaf = leaf_within(secret.pair.tree.height(), leaf);
-        let cache = LmsCache::new(self.alloc, *secret, leaf)?;
+        let height = secret.pair.tree.height();
+        let leaf = leaf_within(height, leaf);
+        let leaves = TreeLeaves::begin(progress, level, height);
+        let cache = LmsCache::new(self.alloc, *secret, leaf, leaves)?;
         self.levels[usize::from(level)] = Some(cache);
         Ok(())
     }
 
-    /// The cache of a new tree, which is to sign by its first leaf.
-    pub(crate) fn begin(&self, secret: LmsSecret) -> Result<(LmsCache, SigningTree), SignFault>
+    /// The cache of a new tree of a level, which is to sign by its first leaf.
+    pub(crate) fn begin<P: TreeProgress>(
+        &self,
+        level: u8,
+        secret: LmsSecret,
+        progress: &P,
+    ) -> Result<(LmsCache, SigningTree), SignFault>
         ensures fault { IfErr result (λ fault. fault ≡ SignFault.OutOfMemory) }
         ensures cache { IfOk result (λ begun. begun.0 ≡ secret) }
         ensures secret { IfOk result (λ begun. begun.1.secret ≡ secret) }
         ensures leaf { IfOk result (λ begun. begun.1.leaf ≡ 0) }
         ensures made { IfOk result (λ begun. IsMade begun.1) }
     {
-        let mut cache = LmsCache::new(self.alloc, secret, 0).map_err(|_| SignFault::OutOfMemory)?;
+        let leaves = TreeLeaves::begin(progress, level, secret.pair.tree.height());
+        let mut cache = LmsCache::new(self.alloc, secret, 0, leaves).map_err(
+            |_| SignFault::OutOfMemory,
+        )?;
         let made = cache.signing_tree(0);
         Ok((cache, made))
     }
@@ -279,7 +303,12 @@ impl Caches {
     }
 
     /// Makes the cache of a secret's XMSS tree, which is to sign by this leaf, unless it is there.
-    pub(crate) fn keep_xmss(&mut self, secret: &XmssSecret, leaf: u32) -> Result<(), OutOfMemory>
+    pub(crate) fn keep_xmss<P: TreeProgress>(
+        &mut self,
+        secret: &XmssSecret,
+        leaf: u32,
+        progress: &P,
+    ) -> Result<(), OutOfMemory>
         ensures there { OnOk result (self.new.xmss ≡ Some secret.now) }
         ensures lacking { OnErr result (self.old.xmss ≢ Some secret.now) }
         ensures levels { self.new.levels ≡ self.old.levels }
@@ -287,8 +316,10 @@ impl Caches {
         if self.has_xmss(secret) {
             return Ok(());
         }
-        let leaf = leaf_within(secret.tree.height(), leaf);
-        self.xmss = Some(XmssCache::new(self.alloc, *secret, leaf)?);
+        let height = secret.tree.height();
+        let leaf = leaf_within(height, leaf);
+        let leaves = TreeLeaves::begin(progress, 0, height);
+        self.xmss = Some(XmssCache::new(self.alloc, *secret, leaf, leaves)?);
         Ok(())
     }
 

@@ -13,6 +13,7 @@ ghost use Rattle.sign_core.specs.Textbook.{damaged_in, tree_before};
 use crate::caches::Caches;
 use crate::ledger::{Binding, Ledger};
 use crate::links::{Link, SigningTree};
+use crate::progress::TreeProgress;
 use arrayvec::ArrayVec;
 use merkle::OutOfMemory;
 use state_file::{Extend, Secret};
@@ -241,13 +242,14 @@ impl Caches {
     /// Makes the caches of the current LMS trees from the top down to a level whose records stand before a place, each
     /// unless it is there. A cache that is made keeps the block of the leaf by which its tree is to sign: under a name
     /// that is bound, or where none is given, under a new one.
-    pub(crate) fn keep_chain(
+    pub(crate) fn keep_chain<P: TreeProgress>(
         &mut self,
         trees: &KeyTrees,
         ledger: &Ledger,
         lowest: u8,
         before: u32,
         bound: Option<&Binding>,
+        progress: &P,
     ) -> Result<(), OutOfMemory>
         requires trees { AreTreesOf trees.now ledger.now.key }
         requires few { lowest < 8 }
@@ -258,7 +260,7 @@ impl Caches {
             if let Some(tree) = ledger.current(level) {
                 if tree.place < before {
                     let leaf = leaves[usize::from(level)];
-                    self.keep(level, &trees.secret_at(ledger, tree.place), leaf)?;
+                    self.keep(level, &trees.secret_at(ledger, tree.place), leaf, progress)?;
                 }
             }
         }

@@ -28,8 +28,9 @@
 //! every list of such steps, and of stops at any moment, no leaf signs two digests, a name has one signature, and each
 //! signature that was handed out is valid (`once_law`, `specs/Headline.antt`). `migrate_key` moves a key to one new
 //! state file, and no stop leaves two files that can sign (`specs/Migration.antt`); across it the runs of the old file
-//! go on (`moves_law`). `AnyPublic` and `verify_any` are the keys of the three schemes by their lengths
-//! (`specs/Key.antt`).
+//! go on (`moves_law`). `create_telling`, `sign_telling` and `serve_telling` are `create_in`, `sign` and `serve`, and
+//! tell a `TreeProgress` of the trees that they make. `AnyPublic` and `verify_any` are the keys of the three schemes by
+//! their lengths (`specs/Key.antt`).
 #![tactic(auto)]
 
 mod caches;
@@ -41,6 +42,7 @@ mod laws;
 mod ledger;
 mod links;
 mod migration;
+mod progress;
 mod rng_source;
 mod roots;
 mod serving;
@@ -57,7 +59,9 @@ pub use crate::laws::{
 };
 pub use crate::ledger::{Ledger, LedgerFault};
 pub use crate::migration::migrate_key;
+pub use crate::progress::TreeProgress;
 pub use crate::rng_source::RngSource;
-pub use crate::serving::serve;
+pub use crate::serving::{serve, serve_telling};
 pub use crate::signer::Signer;
 pub use crate::source::{Source, SourceFault, TapeSource};
+pub use merkle::Silent;

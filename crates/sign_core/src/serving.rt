@@ -9,8 +9,10 @@ ghost use Rattle.sign_core.specs.Signing.{KeepsCapacity};
 
 use crate::fault::{ServeFault, SignFault};
 use crate::frames::{FrameMessage, Head, read_head, skip};
+use crate::progress::TreeProgress;
 use crate::signer::Signer;
 use crate::source::Source;
+use merkle::Silent;
 use state_file::Store;
 use std::alloc::Global;
 use std::io::Write;
@@ -67,9 +69,23 @@ pub fn serve<S: Store, R: Source, I: Message, W: Write>(
     ensures { Serves S.Store R.Source I.Message signer.old signer.new reader.old reader.new
         (W.contents writer.old) (W.contents writer.new) result }
 {
+    serve_telling(alloc, signer, reader, writer, &Silent::new())
+}
+
+/// As `serve`, and the progress is told of the trees that each request makes, as by `sign_telling`.
+pub fn serve_telling<S: Store, R: Source, I: Message, W: Write, P: TreeProgress>(
+    alloc: Global,
+    signer: &mut Signer<S, R>,
+    reader: &mut I,
+    writer: &mut W,
+    progress: &P,
+) -> Result<u64, ServeFault>
+    ensures { Serves S.Store R.Source I.Message signer.old signer.new reader.old reader.new
+        (W.contents writer.old) (W.contents writer.new) result }
+{
     let mut signature = Vec::new(alloc);
     for count in 0..REPLIES {
-        match take_turn(signer, reader, writer, &mut signature) {
+        match take_turn(signer, reader, writer, &mut signature, progress) {
             Ok(true) => {}
             Ok(false) => return Ok(count),
             Err(fault) => return Err(fault),
@@ -79,11 +95,12 @@ pub fn serve<S: Store, R: Source, I: Message, W: Write>(
 }
 
 // Reads the next frame and replies to it; false where the input is at its end.
-fn take_turn<S: Store, R: Source, I: Message, W: Write>(
+fn take_turn<S: Store, R: Source, I: Message, W: Write, P: TreeProgress>(
     signer: &mut Signer<S, R>,
     reader: &mut I,
     writer: &mut W,
     signature: &mut Vec<u8>,
+    progress: &P,
 ) -> Result<bool, ServeFault>
     ensures { Turns S.Store R.Source I.Message signer.old signer.new reader.old reader.new
         (W.contents writer.old) (W.contents writer.new) (vec_capacity signature.old) (vec_capacity signature.new)
@@ -97,7 +114,7 @@ fn take_turn<S: Store, R: Source, I: Message, W: Write>(
             return Err(fault);
         }
     };
-    let ((_, is_whole), written) = answer(signer, reader, writer, &head, signature);
+    let ((_, is_whole), written) = answer(signer, reader, writer, &head, signature, progress);
     written?;
     if !is_whole {
         return Err(ServeFault::MessageRead);
@@ -107,12 +124,13 @@ fn take_turn<S: Store, R: Source, I: Message, W: Write>(
 
 // Answers a request whose head was read, and reads its message to the end, or as far as it comes: false where that
 // isn't all of it. Only then the reply is written.
-fn answer<S: Store, R: Source, I: Message, W: Write>(
+fn answer<S: Store, R: Source, I: Message, W: Write, P: TreeProgress>(
     signer: &mut Signer<S, R>,
     reader: &mut I,
     writer: &mut W,
     head: &Head,
     signature: &mut Vec<u8>,
+    progress: &P,
 ) -> ((Reply, bool), Result<(), ServeFault>)
     ensures frame { AnswersFrame S.Store R.Source I.Message (said_by head.now) signer.old signer.new reader.old
         reader.new (vec_capacity signature.old) (vec_capacity signature.new) signature.new.items result.0 }
@@ -123,7 +141,13 @@ fn answer<S: Store, R: Source, I: Message, W: Write>(
         input: reader,
         left: size_of(head.announced),
     };
-    let reply = ask(signer, head.name.as_slice(), &mut message, signature);
+    let reply = ask(
+        signer,
+        head.name.as_slice(),
+        &mut message,
+        signature,
+        progress,
+    );
     let is_whole = finish(&mut message, &reply);
     let written = write_answer(&message, writer, &reply, signature);
     let FrameMessage { input, .. } = message;
@@ -151,11 +175,12 @@ fn finish<M: Message>(message: &mut M, reply: &Reply) -> bool
 }
 
 // Asks the signer to sign a message under a name, where the bytes are one.
-fn ask<S: Store, R: Source, M: Message>(
+fn ask<S: Store, R: Source, M: Message, P: TreeProgress>(
     signer: &mut Signer<S, R>,
     name: &[u8],
     message: &mut M,
     signature: &mut Vec<u8>,
+    progress: &P,
 ) -> Reply
     ensures asks { Asks S.Store R.Source M.Message name.now signer.old signer.new message.old message.new
         (vec_capacity signature.old) signature.new.items result }
@@ -164,7 +189,7 @@ fn ask<S: Store, R: Source, M: Message>(
     let Ok(name) = Name::new(name) else {
         return Reply::BadName;
     };
-    match signer.sign(&name, message, signature) {
+    match signer.sign_telling(&name, message, signature, progress) {
         Ok(()) => Reply::Signed,
         Err(fault) => Reply::Refused(fault),
     }

@@ -22,10 +22,11 @@ use crate::fault::SignFault;
 use crate::key::AnyPublic;
 use crate::key_trees::KeyTrees;
 use crate::ledger::{Ledger, LedgerFault};
+use crate::progress::{TreeLeaves, TreeProgress};
 use crate::source::{Source, draw};
 use arrayvec::ArrayVec;
 use lms::LmsTree;
-use merkle::root;
+use merkle::{Silent, Told, root};
 use state_file::{Key, Record, Refused, Secret, Store, StoreFault, Version};
 use std::alloc::Global;
 use std::marker::Model;
@@ -127,12 +128,20 @@ fn draw_secret<R: Source>(spec: &Spec, random: &mut R) -> Result<Secret, SignFau
 }
 
 // The root of a key's top tree.
-fn root_of(secret: &Secret) -> [u8; 32]
+fn root_of<P: TreeProgress>(secret: &Secret, progress: &P) -> [u8; 32]
     ensures { result ≡ root_by secret.now }
 {
     match KeyTrees::of(secret) {
-        Ok(KeyTrees { top, .. }) => root(&mut LmsTree::new(top), top.pair.tree.height()),
-        Err(secret) => root(&mut XmssTree::new(secret), secret.tree.height()),
+        Ok(KeyTrees { top, .. }) => {
+            let height = top.pair.tree.height();
+            let leaves = TreeLeaves::begin(progress, 0, height);
+            root(&mut Told::new(LmsTree::new(top), leaves), height)
+        }
+        Err(secret) => {
+            let height = secret.tree.height();
+            let leaves = TreeLeaves::begin(progress, 0, height);
+            root(&mut Told::new(XmssTree::new(secret), leaves), height)
+        }
     }
 }
 
@@ -148,11 +157,12 @@ fn level_count(spec: &Spec) -> usize
 }
 
 // Makes a key of a version where no record stands, and appends its record.
-fn create_key<S: Store, R: Source>(
+fn create_key<S: Store, R: Source, P: TreeProgress>(
     version: Version,
     spec: &Spec,
     store: &mut S,
     random: &mut R,
+    progress: &P,
 ) -> Result<Key, SignFault>
     requires room { 1 ≤ S.most store.old }
     ensures makes { MakesKey S.Store R.Source version spec.now store.old store.new random.old random.new
@@ -167,7 +177,7 @@ fn create_key<S: Store, R: Source>(
     prove!(level_count(spec) <= 8);
     let key = Key {
         version,
-        root: root_of(&secret),
+        root: root_of(&secret, progress),
         secret,
     };
     append(store, &Record::Key(key.copied()))?;
@@ -280,9 +290,24 @@ impl<S: Store, R: Source> Signer<S, R> {
         requires room { 1 ≤ S.most store }
         ensures { Creates S.Store R.Source version spec store random result }
     {
+        Signer::create_telling(alloc, version, spec, store, random, &Silent::new())
+    }
+
+    /// As `create_in`, and the progress is told of the top tree while its root is made.
+    pub fn create_telling<P: TreeProgress>(
+        alloc: Global,
+        version: Version,
+        spec: Spec,
+        store: S,
+        random: R,
+        progress: &P,
+    ) -> Result<Self, Refused<(S, R), SignFault>>
+        requires room { 1 ≤ S.most store }
+        ensures { Creates S.Store R.Source version spec store random result }
+    {
         let mut store = store;
         let mut random = random;
-        match create_key(version, &spec, &mut store, &mut random) {
+        match create_key(version, &spec, &mut store, &mut random, progress) {
             Ok(key) => Ok(Signer {
                 store,
                 random,

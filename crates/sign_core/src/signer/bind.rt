@@ -17,6 +17,7 @@ use crate::fault::SignFault;
 use crate::key_trees::KeyTrees;
 use crate::ledger::Ledger;
 use crate::links::{Link, SigningTree};
+use crate::progress::TreeProgress;
 use crate::source::{Source, draw};
 use crate::writing::{make_room, write_chain};
 use arrayvec::ArrayVec;
@@ -54,7 +55,12 @@ impl<S: Store, R: Source> Signer<S, R> {
     // Makes room for the records of a new name, of which this level is the deepest with a free leaf, and for its
     // signature.
     #[inline(never)]
-    pub(super) fn prepare(&mut self, level: u8, out: &mut Vec<u8>) -> Result<(), SignFault>
+    pub(super) fn prepare<P: TreeProgress>(
+        &mut self,
+        level: u8,
+        out: &mut Vec<u8>,
+        progress: &P,
+    ) -> Result<(), SignFault>
         requires open { self.old.is_open ≡ true }
         requires goes_on { has_moved self.old.records ≡ false }
         requires level { UnderKey self.old.records (λ key. level < levels_of key.secret) }
@@ -70,12 +76,12 @@ impl<S: Store, R: Source> Signer<S, R> {
         self.ledger
             .reserve(usize::from(wanted))
             .map_err(|_| SignFault::OutOfMemory)?;
-        self.cache(level)
+        self.cache(level, progress)
     }
 
     // Makes the caches of the trees that a new name needs, of which this level is the deepest with a free leaf: each
     // once for a signer, as long as the tree is the current one.
-    fn cache(&mut self, level: u8) -> Result<(), SignFault>
+    fn cache<P: TreeProgress>(&mut self, level: u8, progress: &P) -> Result<(), SignFault>
         requires level { UnderKey self.old.records (λ key. level < levels_of key.secret) }
         ensures keeps { KeepsAll self.old self.new }
         ensures spare { self.new.spare ≡ self.old.spare }
@@ -88,8 +94,8 @@ impl<S: Store, R: Source> Signer<S, R> {
         let cached = match KeyTrees::of(&self.ledger.key().secret) {
             Ok(trees) => self
                 .caches
-                .keep_chain(&trees, &self.ledger, level, count, None),
-            Err(secret) => self.caches.keep_xmss(&secret, next),
+                .keep_chain(&trees, &self.ledger, level, count, None, progress),
+            Err(secret) => self.caches.keep_xmss(&secret, next, progress),
         };
         cached.map_err(|_| SignFault::OutOfMemory)
     }
@@ -97,11 +103,12 @@ impl<S: Store, R: Source> Signer<S, R> {
     // Begins a tree of the next level below a standing chain, and records it: the chain's last tree signs it by its
     // next leaf. The answer is the new tree, which is to sign by its first leaf.
     #[inline(never)]
-    fn extend(
+    fn extend<P: TreeProgress>(
         &mut self,
         trees: &KeyTrees,
         above: &mut ArrayVec<Link, 8>,
         last: SigningTree,
+        progress: &P,
     ) -> Result<SigningTree, SignFault>
         requires ready { IsReady (S.most self.old.store) 1 self.old }
         requires stands { ChainStands self.old.records (trees_in trees.now) above.old.items last }
@@ -122,7 +129,7 @@ impl<S: Store, R: Source> Signer<S, R> {
             identifier,
             seed,
         };
-        let (cache, made) = self.caches.begin(secret)?;
+        let (cache, made) = self.caches.begin(level, secret, progress)?;
         let root = made.root;
         let leaf = last.leaf;
         let digest = last.digest_of(&randomizer, &made.public());
@@ -143,7 +150,7 @@ impl<S: Store, R: Source> Signer<S, R> {
     // Makes the wanted records of a new name below a standing chain, one after the other: an Extend for each level that
     // has no tree, and the Bound. Then it writes the signature.
     #[inline(never)]
-    pub(super) fn fulfil<M: Message>(
+    pub(super) fn fulfil<M: Message, P: TreeProgress>(
         &mut self,
         trees: &KeyTrees,
         name: &Name,
@@ -151,6 +158,7 @@ impl<S: Store, R: Source> Signer<S, R> {
         above: &mut ArrayVec<Link, 8>,
         last: SigningTree,
         out: &mut [u8],
+        progress: &P,
     ) -> Result<(), SignFault>
         requires can { UnderKey self.old.records (λ key. CanBind (S.most self.old.store)
             (levels_of key.secret - length above.old.items) name.now (length out.old) self.old) }
@@ -160,10 +168,10 @@ impl<S: Store, R: Source> Signer<S, R> {
             (answered_with result out.new) key) }
     {
         if above.len() + 1 < usize::from(self.ledger.key().secret.levels()) {
-            let made = self.extend(trees, above, last)?;
+            let made = self.extend(trees, above, last, progress)?;
             // For the prover: a signer that recorded an Extend is open, and so its store runs.
             prove!(self.is_open);
-            return self.fulfil(trees, name, message, above, made, out);
+            return self.fulfil(trees, name, message, above, made, out, progress);
         }
         let randomizer = draw::<R, 32>(&mut self.random)?;
         let leaf = last.leaf;

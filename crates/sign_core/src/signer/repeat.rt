@@ -14,6 +14,7 @@ use crate::caches::Caches;
 use crate::fault::SignFault;
 use crate::key_trees::KeyTrees;
 use crate::ledger::Binding;
+use crate::progress::TreeProgress;
 use crate::source::Source;
 use crate::writing::{make_room, write_chain};
 use arrayvec::ArrayVec;
@@ -22,23 +23,29 @@ use state_file::Store;
 use typecodes::{Message, XmssSecret};
 
 // Makes the cache of an XMSS key's tree, which is to sign by this leaf, unless it is there.
-fn cache_xmss(caches: &mut Caches, secret: &XmssSecret, leaf: u32) -> Result<(), SignFault>
+fn cache_xmss<P: TreeProgress>(
+    caches: &mut Caches,
+    secret: &XmssSecret,
+    leaf: u32,
+    progress: &P,
+) -> Result<(), SignFault>
     ensures fault { IfErr result (λ fault. fault ≡ SignFault.OutOfMemory) }
     ensures lacking { OnErr result (caches.old.xmss ≢ Some secret.now) }
 {
     caches
-        .keep_xmss(secret, leaf)
+        .keep_xmss(secret, leaf, progress)
         .map_err(|_| SignFault::OutOfMemory)
 }
 
 impl<S: Store, R: Source> Signer<S, R> {
     // The signature of a name that is bound, where the message has the recorded digest. Nothing changes but caches.
     #[inline(never)]
-    pub(super) fn repeat<M: Message>(
+    pub(super) fn repeat<M: Message, P: TreeProgress>(
         &mut self,
         binding: &Binding,
         message: &mut M,
         out: &mut Vec<u8>,
+        progress: &P,
     ) -> Result<(), SignFault>
         requires kept { IsSomeBinding self.old.records binding.now }
         ensures step { RepeatsBinding M.Message (state_of self.old) self.old.cached binding.now message.old message.new
@@ -49,19 +56,20 @@ impl<S: Store, R: Source> Signer<S, R> {
         // The caches are taken out, so that `self` can be lent beside them.
         let mut caches = self.caches.take();
         let answer = match KeyTrees::of(&self.ledger.key().secret) {
-            Ok(trees) => self.repeat_chain(&mut caches, &trees, binding, message, out),
-            Err(secret) => self.repeat_xmss(&mut caches, &secret, binding, message, out),
+            Ok(trees) => self.repeat_chain(&mut caches, &trees, binding, message, out, progress),
+            Err(secret) => self.repeat_xmss(&mut caches, &secret, binding, message, out, progress),
         };
         self.caches = caches;
         answer
     }
 
     // Makes the caches that a bound name lacks: one for each current tree that is older than the binding.
-    fn cache_bound(
+    fn cache_bound<P: TreeProgress>(
         &self,
         caches: &mut Caches,
         trees: &KeyTrees,
         binding: &Binding,
+        progress: &P,
     ) -> Result<(), SignFault>
         requires trees { UnderKey self.now.records (AreTreesOf trees.now) }
         ensures fault { IfErr result (λ fault. fault ≡ SignFault.OutOfMemory) }
@@ -70,19 +78,27 @@ impl<S: Store, R: Source> Signer<S, R> {
     {
         let bottom = self.ledger.key().secret.levels() - 1;
         caches
-            .keep_chain(trees, &self.ledger, bottom, binding.place, Some(binding))
+            .keep_chain(
+                trees,
+                &self.ledger,
+                bottom,
+                binding.place,
+                Some(binding),
+                progress,
+            )
             .map_err(|_| SignFault::OutOfMemory)
     }
 
     // The signature of a name that is bound under a key of LMS or HSS, where the message has the recorded digest.
     #[inline(never)]
-    pub(super) fn repeat_chain<M: Message>(
+    pub(super) fn repeat_chain<M: Message, P: TreeProgress>(
         &self,
         caches: &mut Caches,
         trees: &KeyTrees,
         binding: &Binding,
         message: &mut M,
         out: &mut Vec<u8>,
+        progress: &P,
     ) -> Result<(), SignFault>
         requires trees { UnderKey self.now.records (AreTreesOf trees.now) }
         requires kept { IsSomeBinding self.now.records binding.now }
@@ -103,7 +119,7 @@ impl<S: Store, R: Source> Signer<S, R> {
             return Err(SignFault::Changed);
         }
         make_room(secret, out)?;
-        self.cache_bound(caches, trees, binding)?;
+        self.cache_bound(caches, trees, binding, progress)?;
         let bottom = secret.levels() - 1;
         let mut links = ArrayVec::new();
         let last = trees
@@ -116,13 +132,14 @@ impl<S: Store, R: Source> Signer<S, R> {
 
     // The same under a key of XMSS.
     #[inline(never)]
-    pub(super) fn repeat_xmss<M: Message>(
+    pub(super) fn repeat_xmss<M: Message, P: TreeProgress>(
         &self,
         caches: &mut Caches,
         secret: &XmssSecret,
         binding: &Binding,
         message: &mut M,
         out: &mut Vec<u8>,
+        progress: &P,
     ) -> Result<(), SignFault>
         requires key { UnderKey self.now.records (IsXmssKey secret.now) }
         requires kept { IsSomeBinding self.now.records binding.now }
@@ -139,7 +156,7 @@ impl<S: Store, R: Source> Signer<S, R> {
         make_room(&self.ledger.key().secret, out)?;
         let mut nodes = [[0; 32]; 20];
         let path = &mut nodes[..usize::from(secret.tree.height())];
-        cache_xmss(caches, secret, leaf)?;
+        cache_xmss(caches, secret, leaf, progress)?;
         caches
             .xmss_link(*secret, &root, leaf, path)
             .map_err(SignFault::Damaged)?;

@@ -15,8 +15,10 @@ ghost use Rattle.xmss.specs.Digest.{message_digest_of as xmss_digest_of};
 use super::Signer;
 use crate::fault::SignFault;
 use crate::key_trees::KeyTrees;
+use crate::progress::TreeProgress;
 use crate::source::Source;
 use lmots::LmOts;
+use merkle::Silent;
 use state_file::Store;
 use typecodes::{Message, Name};
 use xmss::message_digest_from;
@@ -104,22 +106,42 @@ impl<S: Store, R: Source> Signer<S, R> {
         ensures repeat { IsSome (binding_in self.old.records name.now) →
             KeepsForRepeat self.old self.new (is_fault is_before_repeat result) }
     {
-        if let Err(fault) = self.sign_into(name, message, out) {
+        self.sign_telling(name, message, out, &Silent::new())
+    }
+
+    /// As `sign`, and the progress is told of each tree whose cache is made: of those that stand, and of new ones. Of
+    /// other leaves it isn't told: of a further block of a cache, and of a tree that isn't current any more.
+    pub fn sign_telling<M: Message, P: TreeProgress>(
+        &mut self,
+        name: &Name,
+        message: &mut M,
+        out: &mut Vec<u8>,
+        progress: &P,
+    ) -> Result<(), SignFault>
+        ensures step { Signs S.Store R.Source M.Message self.old self.new name.now message.old message.new
+            (vec_capacity out.old) (answered_with result out.new.items) }
+        ensures empty { OnErr result (out.new.items ≡ []) }
+        ensures capacity { KeepsCapacity self.old.records (vec_capacity out.old) (vec_capacity out.new) }
+        ensures repeat { IsSome (binding_in self.old.records name.now) →
+            KeepsForRepeat self.old self.new (is_fault is_before_repeat result) }
+    {
+        if let Err(fault) = self.sign_into(name, message, out, progress) {
             out.clear();
             return Err(fault);
         }
         Ok(())
     }
 
-    // As `sign`, but an `Err` may leave anything in `out`.
+    // As `sign_telling`, but an `Err` may leave anything in `out`.
     //
     // The steps that follow never run together, and make trees or hold chains. None of them is inlined: else their
-    // frames would be added up in this one's.
-    fn sign_into<M: Message>(
+    // frames would be added up in this one's. Nor is `extend`, since `fulfil` calls itself.
+    fn sign_into<M: Message, P: TreeProgress>(
         &mut self,
         name: &Name,
         message: &mut M,
         out: &mut Vec<u8>,
+        progress: &P,
     ) -> Result<(), SignFault>
         ensures step { Signs S.Store R.Source M.Message self.old self.new name.now message.old message.new
             (vec_capacity out.old) (answered_with result out.new.items) }
@@ -131,21 +153,21 @@ impl<S: Store, R: Source> Signer<S, R> {
         self.check_open()?;
         if let Some(binding) = self.ledger.find(name) {
             // 27, 21, 29, 28
-            return self.repeat(&binding, message, out);
+            return self.repeat(&binding, message, out, progress);
         }
         if self.is_long(name) {
             return Err(SignFault::LongName);
         }
         let level = self.ledger.deepest().ok_or(SignFault::Exhausted)?;
         // 30, 29
-        self.prepare(level, out)?;
+        self.prepare(level, out, progress)?;
         match KeyTrees::of(&self.ledger.key().secret) {
             Ok(trees) => {
                 let (mut above, last) = trees
                     .standing(&self.ledger, &mut self.caches, level)
                     .map_err(SignFault::Damaged)?;
                 // 23, 24, 29 and 25 for each tree; 23, 27, 25
-                self.fulfil(&trees, name, message, &mut above, last, out)
+                self.fulfil(&trees, name, message, &mut above, last, out, progress)
             }
             // 28, 27, 25
             Err(secret) => self.bind_xmss(&secret, name, message, out),

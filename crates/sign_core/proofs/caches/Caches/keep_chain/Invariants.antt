@@ -4,4 +4,4 @@ use Rattle.sign_core.specs.Caches.{cache_at}
 use Rattle.sign_core.proofs.caches.Caches.keep_chain.Given as goal
 
 abbrev pub invariant-loop-level : goal.invariant-loop-level
-invariant-loop-level l = (k : ℕ) → l.level ≤ k → cache_at l.self.levels k ≡ cache_at l.fn.self.levels k
+invariant-loop-level g l = (k : ℕ) → l.level ≤ k → cache_at l.self.levels k ≡ cache_at l.fn.self.levels k

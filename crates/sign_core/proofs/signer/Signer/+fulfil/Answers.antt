@@ -80,11 +80,14 @@ fulfil-requires g t c κs within =
         (
           within.1.0,
           (
-            within.1.1,
+            within.1.1.0,
             (
-              λ key keyed. subst (λ (k : Key). CanBind (g.S.Store.most c.extend.new.self.store) (levels_of k.secret - length c.extend.new.above.items)
-                  a.name.now (length a.out.now) c.extend.new.self) (same_Some _ _ (sym next ∙ keyed)) go_on,
-              c.in_ok-made.ensures.stands,
+              within.1.1.1,
+              (
+                λ key keyed. subst (λ (k : Key). CanBind (g.S.Store.most c.extend.new.self.store) (levels_of k.secret - length c.extend.new.above.items)
+                    a.name.now (length a.out.now) c.extend.new.self) (same_Some _ _ (sym next ∙ keyed)) go_on,
+                c.in_ok-made.ensures.stands,
+              ),
             ),
           ),
         ),

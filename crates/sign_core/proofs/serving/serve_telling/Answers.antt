@@ -1,6 +1,6 @@
-use Rattle.std.proofs.Common.{rules}
-use Rattle.sign_core.proofs.Exchanges.{served_more, serves_to_end, serves_to_fault}
-use Rattle.sign_core.proofs.serving.serve.Goals as goal
+use Rattle.std.proofs.Common.{rules, subst, sym}
+use Rattle.sign_core.proofs.Exchanges.{HasServed, served_more, served_none, serves_to_end, serves_to_fault}
+use Rattle.sign_core.proofs.serving.serve_telling.Goals as goal
 
 pub returns-in-Ok-false : goal.returns-in-Ok-false
 returns-in-Ok-false g c =
@@ -9,6 +9,12 @@ returns-in-Ok-false g c =
 pub returns-in-Err : goal.returns-in-Err
 returns-in-Err g c =
     serves_to_fault g.S.Store g.R.Source g.I.Message _ _ _ _ _ _ _ _ _ 0 _ _ c.loop-count.count c.in-Err.fault c.loop-count.invariant c.in-Err.ensures (search rules)
+
+pub loop-count-init : goal.loop-count-init
+loop-count-init g c =
+    subst (λ n. HasServed g.S.Store g.R.Source g.I.Message c.args.signer.now c.args.signer.now c.args.reader.now c.args.reader.now
+    (g.W.Write.contents c.args.writer.now) (g.W.Write.contents c.args.writer.now) 0 n 0) (sym c.new-signature.ensures.capacity)
+    (served_none g.S.Store g.R.Source g.I.Message c.args.signer.now c.args.reader.now (g.W.Write.contents c.args.writer.now) 0)
 
 pub loop-count-preserved : goal.loop-count-preserved
 loop-count-preserved g c =

@@ -1,0 +1,47 @@
+//! Telling how far the trees are that a call makes.
+
+ghost use Rattle.std.specs.Prelude.{◌≤◌};
+
+use merkle::{Progress, Silent};
+
+/// What is told of the trees that a call makes: which tree is begun, and how many of its leaves were made. It can
+/// change nothing of what is made.
+pub trait TreeProgress {
+    /// The tree of a level, which has so many leaves, is begun.
+    fn begin(&self, level: u8, leaves: u64);
+
+    /// So many of its leaves were made until now.
+    fn tell(&self, made: u64);
+}
+
+impl TreeProgress for Silent {
+    fn begin(&self, level: u8, leaves: u64) {}
+
+    fn tell(&self, made: u64) {}
+}
+
+/// What is told of the leaves of one tree, and passes it on.
+#[derive(Drop)]
+pub(crate) struct TreeLeaves<'a, P> {
+    progress: &'a P,
+    told: u64,
+}
+
+impl<'a, P: TreeProgress> TreeLeaves<'a, P> {
+    /// Tells that the tree of a level, which is so high, is begun.
+    pub(crate) fn begin(progress: &'a P, level: u8, height: u8) -> Self
+        requires { height ≤ 25 }
+    {
+        progress.begin(level, 2u64.pow(u32::from(height)));
+        TreeLeaves { progress, told: 0 }
+    }
+}
+
+impl<P: TreeProgress> Progress for TreeLeaves<'_, P> {
+    ghost told = { λ leaves. leaves.told };
+
+    fn tell(&mut self, made: u64) {
+        self.told = made;
+        self.progress.tell(made);
+    }
+}
