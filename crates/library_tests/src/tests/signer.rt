@@ -12,6 +12,7 @@ mod memory;
 mod records;
 mod scarce;
 mod steps;
+mod told;
 
 pub(crate) use records::{Entry, with_records};
 pub(crate) use steps::{Seen, created_by, seen_from};
