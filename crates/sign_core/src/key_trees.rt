@@ -180,6 +180,7 @@ impl KeyTrees {
 
     /// The chain of the current trees down to a level with a free leaf: those above, and the level's own, which is to
     /// sign by its next leaf; or the place of the first of their records that isn't sound.
+    #[inline(never)]
     pub(crate) fn standing(
         &self,
         ledger: &Ledger,

@@ -134,8 +134,9 @@ impl<S: Store, R: Source> Signer<S, R> {
 
     // As `sign_telling`, but an `Err` may leave anything in `out`.
     //
-    // The steps that follow never run together, and make trees or hold chains. None of them is inlined: else their
-    // frames would be added up in this one's. Nor is `extend`, since `fulfil` calls itself.
+    // Neither this nor a step of it that makes trees or holds a chain is inlined. Such steps never run together, and in
+    // one function their frames would be added up. Nor is `extend`, since `fulfil` calls itself.
+    #[inline(never)]
     fn sign_into<M: Message, P: TreeProgress>(
         &mut self,
         name: &Name,
