@@ -274,8 +274,8 @@ fn read_all<D: Folder>(
     }
 }
 
-// Reads the first bytes of a signature's file, as many as decide, and keeps them. Nearly every signature is shorter than
-// a piece: room for the others is made only where the file goes on after one.
+// Reads the first bytes of a signature's file, as many as decide, and keeps them. Nearly every signature is shorter
+// than a piece: room for the others is made only where the file goes on after one.
 fn read_start<D: Folder>(
     alloc: Global,
     folder: &mut D,

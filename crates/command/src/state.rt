@@ -226,8 +226,8 @@ impl<'a> StateFile<'a> {
         self.id
     }
 
-    // Reads as the system does. A gate that another process has opened since the length was asked reads as closed, since
-    // its slot wasn't whole then.
+    // Reads as the system does. A gate that another process has opened since the length was asked reads as closed,
+    // since its slot wasn't whole then.
     fn read_as_it_was(&self, at: u64, into: &mut [u8]) -> io::Result<usize>
         ensures { ReadsAtMost result into.new }
     {
