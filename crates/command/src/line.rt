@@ -277,8 +277,8 @@ fn bare_hbsign<'a>(alloc: Global) -> Result<Command<'a>, AllocError>
                  0  Done; of verify: the signature is the key's for the message; of serve: the input ended\n  \
                  1  Refused: a line on standard output says why, of serve on standard error\n  \
                  2  The line is wrong, or its name or spec is none; no file was opened\n  \
-                 3  A file or the machine failed: standard error says what, but for memory (29, 46) and the output \
-                 (36)",
+                 3  A file or the machine failed, or the input of serve ended inside a message (27); standard error \
+                 says what failed, but for memory (29, 46) and the output (36)",
             )
             .version(VERSION)
             .no_binary_name(true)
