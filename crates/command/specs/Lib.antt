@@ -15,6 +15,7 @@ pub mod Migrate
 pub mod Number
 pub mod Output
 pub mod Program
+pub mod Progress
 pub mod Public
 pub mod RandomFile
 pub mod Refusal

@@ -9,7 +9,7 @@ ghost use Rattle.command.specs.KeyFile.{audit_reported, migrate_reported, serve_
 use crate::refusal::Refusal;
 use crate::signing;
 use key_audit::{Anchor, AuditFault, Listing, Report};
-use sign_core::{ServeFault, SignFault, Signer, Source, TapeSource};
+use sign_core::{ServeFault, SignFault, Signer, Source, TapeSource, TreeProgress, serve_telling};
 use state_file::{Disk, FileStore, MigrateFault, Refused, Store, Version};
 use std::alloc::Global;
 use std::io::Write;
@@ -64,18 +64,20 @@ pub fn retire<D: Disk + Drop>(alloc: Global, disk: D, upto: u32) -> (D, Result<(
     }
 }
 
-/// Makes a key of a version on a disk that has none, and gives the signer of it. A refusal hands the disk back.
-pub fn make<D: Disk + Drop, R: Source + Drop>(
+/// Makes a key of a version on a disk that has none, and gives the signer of it. A refusal hands the disk back. The
+/// progress is told of the tree that is made.
+pub fn make<D: Disk + Drop, R: Source + Drop, P: TreeProgress>(
     alloc: Global,
     disk: D,
     version: Version,
     spec: Spec,
     random: R,
+    progress: &P,
 ) -> Result<Signer<FileStore<D>, R>, Refused<D, Refusal>>
     ensures { MakesOn D.Disk ⟦<FileStore<D> as Store>⟧ R.Source disk version spec random result }
 {
     match FileStore::format(disk) {
-        Ok(store) => match Signer::create_in(alloc, version, spec, store, random) {
+        Ok(store) => match Signer::create_telling(alloc, version, spec, store, random, progress) {
             Ok(signer) => Ok(signer),
             Err(refused) => Err(handed_back(refused)),
         },
@@ -87,29 +89,32 @@ pub fn make<D: Disk + Drop, R: Source + Drop>(
 }
 
 // Signs a message under a name. On Ok `signature` has the signature.
-fn sign_with<S: Store, R: Source, M: Message>(
+fn sign_with<S: Store, R: Source, M: Message, P: TreeProgress>(
     signer: &mut Signer<S, R>,
     name: &Name,
     message: &mut M,
     signature: &mut Vec<u8>,
+    progress: &P,
 ) -> Result<(), Refusal>
     ensures { SignsFor S.Store R.Source M.Message signer.old signer.new name.now message.old message.new
         (vec_capacity signature.old) signature.new.items result }
 {
-    match signer.sign(name, message, signature) {
+    match signer.sign_telling(name, message, signature, progress) {
         Ok(()) => Ok(()),
         Err(fault) => Err(Refusal::Signer(fault)),
     }
 }
 
-/// Signs a message under a name with the key on a disk, and gives the disk back. On Ok `signature` has the signature.
-pub fn sign<D: Disk + Drop, R: Source + Drop, M: Message>(
+/// Signs a message under a name with the key on a disk, and gives the disk back. On Ok `signature` has the signature. The
+/// progress is told of the trees that are made.
+pub fn sign<D: Disk + Drop, R: Source + Drop, M: Message, P: TreeProgress>(
     alloc: Global,
     disk: D,
     random: R,
     name: &Name,
     message: &mut M,
     signature: &mut Vec<u8>,
+    progress: &P,
 ) -> (D, Result<(), Refusal>)
     ensures { SignsOn D.Disk ⟦<FileStore<D> as Store>⟧ R.Source M.Message disk result.0 random name.now message.old
         message.new (vec_capacity signature.old) signature.new.items result.1 }
@@ -117,7 +122,7 @@ pub fn sign<D: Disk + Drop, R: Source + Drop, M: Message>(
     match open_signer(alloc, disk, random) {
         Ok(signer) => {
             let mut signer = signer;
-            let signed = sign_with(&mut signer, name, message, signature);
+            let signed = sign_with(&mut signer, name, message, signature, progress);
             (signer.into_store().into_disk(), signed)
         }
         Err(refused) => (refused.given, Err(refused.fault)),
@@ -125,13 +130,14 @@ pub fn sign<D: Disk + Drop, R: Source + Drop, M: Message>(
 }
 
 /// Serves the requests of an input with the key on a disk, each by a reply on the output, up to the input's end, and
-/// gives the disk back.
-pub fn serve<D: Disk + Drop, R: Source + Drop, I: Message, W: Write>(
+/// gives the disk back. The progress is told of the trees that are made.
+pub fn serve<D: Disk + Drop, R: Source + Drop, I: Message, W: Write, P: TreeProgress>(
     alloc: Global,
     disk: D,
     random: R,
     input: &mut I,
     output: &mut W,
+    progress: &P,
 ) -> (D, Result<u64, Refusal>)
     ensures { ServesOn D.Disk ⟦<FileStore<D> as Store>⟧ R.Source I.Message W.contents disk result.0 random
         (input.old, output.old) (input.new, output.new) result.1 }
@@ -139,7 +145,7 @@ pub fn serve<D: Disk + Drop, R: Source + Drop, I: Message, W: Write>(
     match open_signer(alloc, disk, random) {
         Ok(signer) => {
             let mut signer = signer;
-            let served = serve_reported(sign_core::serve(alloc, &mut signer, input, output));
+            let served = serve_reported(serve_telling(alloc, &mut signer, input, output, progress));
             (signer.into_store().into_disk(), served)
         }
         Err(refused) => (refused.given, Err(refused.fault)),

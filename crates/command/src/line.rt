@@ -25,6 +25,7 @@ use crate::texts::Texts;
 use crate::verify::Verify;
 use clap::error::ErrorKind;
 use clap::{ArgMatches, Command, Error};
+use sign_core::TreeProgress;
 use state_file::{Disk, FileStore, Store};
 use std::alloc::{AllocError, Global};
 use std::convert::AsStr;
@@ -61,14 +62,16 @@ impl<'a> Request<'a> {
     ghost use Rattle.command.specs.Program.{RefusesWord, ReportsTask};
     ghost use Rattle.command.specs.Streams.{output_seen, streams, taken};
 
-    /// Does what is requested, reports what came of it, and gives the exit status of the program.
-    pub fn fulfil<D: SignerFolder<'a>, I: Message, O: Output, E: Output>(
+    /// Does what is requested, reports what came of it, and gives the exit status of the program. The progress is told of
+    /// the trees that are made.
+    pub fn fulfil<D: SignerFolder<'a>, I: Message, O: Output, E: Output, P: TreeProgress>(
         &self,
         alloc: Global,
         folder: &mut D,
         input: &mut I,
         output: &mut O,
         errors: &mut E,
+        progress: &P,
     ) -> u8
         ensures reports { ReportsTask D.Disk.Disk ⟦<FileStore<D::Disk> as Store>⟧ D.Random.Source I.Message
             (output_seen O.contents O.failures)
@@ -81,14 +84,17 @@ impl<'a> Request<'a> {
             (taken E.contents E.failures errors.old) (taken E.contents E.failures errors.new) }
     {
         match self {
-            Request::Make(words) => report(&words.answer(alloc, folder), output),
-            Request::Sign(words) => report(&words.answer(alloc, folder), output),
+            Request::Make(words) => report(&words.answer(alloc, folder, progress), output),
+            Request::Sign(words) => report(&words.answer(alloc, folder, progress), output),
             Request::Verify(files) => report(&files.answer(folder), output),
             Request::Retire(words) => report(&words.answer(alloc, folder), output),
             Request::Audit(words) => report(&words.answer(alloc, folder), output),
             Request::AuditGiven(words) => report(&words.answer(alloc, folder), output),
             Request::Serve(words) => {
-                report_serving(&words.answer(alloc, folder, input, output), errors)
+                report_serving(
+                    &words.answer(alloc, folder, input, output, progress),
+                    errors,
+                )
             }
             Request::Migrate(words) => report(&words.answer(alloc, folder), output),
             Request::ListState(words) => report(&words.answer(alloc, folder), output),

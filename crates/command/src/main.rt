@@ -16,7 +16,7 @@
 //! (`answer`, `refusal`; `listing_text` has the texts of a listing).
 //! `files` has the traits by which it meets files, `machine` those of a machine (which they are: `file_id`; how one is
 //! written in place of what it has: `target`; how one with a key is known: `key_start`), `standard` its standard
-//! streams and what is said there of a call that failed, `output` is where the program writes, and `trace` is what
+//! streams and what is said there of a call that failed, `progress` the line that a terminal shows of a long work, `output` is where the program writes, and `trace` is what
 //! contracts see of what it does to files. `key_file` is what the commands do with a signer on the disk of a state
 //! file, `signing` what they write once it has answered Ok, `state` a state file of the machine, `file_disk` the disk
 //! over it, and `random_file` random bytes of a file. The contract of `run`: which files are opened, read and written,
@@ -43,6 +43,7 @@ mod migrate;
 mod number;
 mod output;
 mod program;
+mod progress;
 mod public;
 mod random_file;
 mod refusal;
@@ -61,6 +62,7 @@ use answer::OUTPUT_FAILED;
 use line::ClapReader;
 use machine::Machine;
 use output::{Output, Part, Printer};
+use progress::Bar;
 use serve::Serve;
 use standard::{Input, Standard, StreamWriter};
 use std::env::Env;
@@ -80,10 +82,12 @@ fn main(rt: HostRuntime) -> ExitCode {
 fn run(rt: &HostRuntime, standard: &Standard) -> u8 {
     let stderr = rt.stderr();
     let mut errors = Printer::new(StreamWriter {
+        standard,
         stream: &standard.errors,
         writer: io::writer(&stderr),
     });
     let writer = StreamWriter {
+        standard,
         stream: &standard.output,
         writer: io::writer(rt),
     };
@@ -123,6 +127,7 @@ fn run_line<'a, O: Output, E: Output>(
         },
         output,
         errors,
+        &Bar::new(rt, standard),
     )
 }
 

@@ -16,6 +16,7 @@ use crate::refusal::Refusal;
 use crate::signing::publish;
 use arrayvec::ArrayVec;
 use clap::{ArgMatches, Command};
+use sign_core::TreeProgress;
 use state_file::{Disk, FileStore, Store, Version};
 use std::alloc::{AllocError, Global};
 use typecodes::Spec;
@@ -102,7 +103,12 @@ impl<'a> Make<'a> {
     }
 
     /// Opens the state file, which is made where there is none, makes a key in it, and writes its public key.
-    pub fn answer<D: SignerFolder<'a>>(&self, alloc: Global, folder: &mut D) -> Answer
+    pub fn answer<D: SignerFolder<'a>, P: TreeProgress>(
+        &self,
+        alloc: Global,
+        folder: &mut D,
+        progress: &P,
+    ) -> Answer
         ensures { MakesIn D.Disk.Disk ⟦<FileStore<D::Disk> as Store>⟧ D.Random.Source
             (files_seen (D.content folder.old) D.is_opened (D.is_closed folder.new)) self.now.state.now
             self.now.public.now self.now.spec.now self.now.version self.now.random.now result (D.trace folder.old)
@@ -112,7 +118,7 @@ impl<'a> Make<'a> {
             return Err(Refusal::BadSpec);
         };
         let disk = folder.open_or_make_state(self.state, NewContent::Key)?;
-        let (disk, made) = self.make_on(alloc, folder, disk, spec);
+        let (disk, made) = self.make_on(alloc, folder, disk, spec, progress);
         folder.close_state(disk);
         match made {
             Ok(public) => Ok(Done::Published(public)),
@@ -121,36 +127,38 @@ impl<'a> Make<'a> {
     }
 
     // Makes a key on the disk of the state file, and writes its public key. The disk is given back.
-    fn make_on<D: SignerFolder<'a>>(
+    fn make_on<D: SignerFolder<'a>, P: TreeProgress>(
         &self,
         alloc: Global,
         folder: &mut D,
         disk: D::Disk,
         spec: Spec,
+        progress: &P,
     ) -> (D::Disk, Result<ArrayVec<u8, 68>, Refusal>)
         ensures { MakesOpened D.Disk.Disk ⟦<FileStore<D::Disk> as Store>⟧ D.Random.Source (D.content folder.old) disk
             result.0 self.now.version spec self.now.public.now self.now.random.now result.1 (D.trace folder.old)
             (D.trace folder.new) }
     {
         match folder.open_random(self.random) {
-            Ok(random) => self.make_key(alloc, folder, disk, spec, random),
+            Ok(random) => self.make_key(alloc, folder, disk, spec, random, progress),
             Err(refusal) => (disk, Err(refusal)),
         }
     }
 
     // Makes a key on a disk, and then writes its public key. The disk is given back.
-    fn make_key<D: SignerFolder<'a>>(
+    fn make_key<D: SignerFolder<'a>, P: TreeProgress>(
         &self,
         alloc: Global,
         folder: &mut D,
         disk: D::Disk,
         spec: Spec,
         random: D::Random,
+        progress: &P,
     ) -> (D::Disk, Result<ArrayVec<u8, 68>, Refusal>)
         ensures { MakesAndPublishes D.Disk.Disk ⟦<FileStore<D::Disk> as Store>⟧ D.Random.Source disk result.0
             self.now.version spec random self.now.public.now result.1 (D.trace folder.old) (D.trace folder.new) }
     {
-        match key_file::make(alloc, disk, self.version, spec, random) {
+        match key_file::make(alloc, disk, self.version, spec, random, progress) {
             Ok(signer) => {
                 let published = publish(&signer, folder, self.public);
                 (signer.into_store().into_disk(), published)

@@ -17,6 +17,7 @@ use crate::line_fault::LineFault;
 use crate::output::{Output, Part};
 use crate::refusal::Refusal;
 use crate::serve::Serve;
+use sign_core::TreeProgress;
 use state_file::{Disk, FileStore, Store};
 use std::alloc::Global;
 use std::convert::AsStr;
@@ -31,8 +32,9 @@ pub const LINE_REFUSED: u8 = 2;
 /// A line on the output reports what came of it. Of `serve` the output has replies and nothing else, also where serving
 /// fails: a line on `errors` then says why, or that there was no memory to read the line. A line that is refused is
 /// explained on `errors` alone, and status 2 is that of such a line, or of a name or a spec that is refused. What
-/// failed of the machine is told elsewhere, by the folder, the disk and the source that made the call.
-pub fn run<'a, L, D, S, I, O, E>(
+/// failed of the machine is told elsewhere, by the folder, the disk and the source that made the call. The progress is
+/// told of the trees that are made, and changes nothing of all this.
+pub fn run<'a, L, D, S, I, O, E, P>(
     alloc: Global,
     lines: &mut L,
     folder: &mut D,
@@ -40,6 +42,7 @@ pub fn run<'a, L, D, S, I, O, E>(
     input: &mut I,
     output: &mut O,
     errors: &mut E,
+    progress: &P,
 ) -> u8
 where
     L: LineReader,
@@ -48,6 +51,7 @@ where
     I: Read,
     O: Output,
     E: Output,
+    P: TreeProgress,
     ensures runs { Runs D.Disk.Disk ⟦<FileStore<D::Disk> as Store>⟧ D.Random.Source ⟦<I as Message>⟧
         (output_seen O.contents O.failures)
         (map S.text words.now) (files_seen (D.content folder.old) D.is_opened (D.is_closed folder.new))
@@ -78,7 +82,7 @@ where
         (taken E.contents E.failures errors.old) (taken E.contents E.failures errors.new) }
 {
     match lines.read(words) {
-        Ok(request) => request.fulfil(alloc, folder, input, output, errors),
+        Ok(request) => request.fulfil(alloc, folder, input, output, errors, progress),
         Err(fault) => explain(&fault, begins_with_serve(words), output, errors),
     }
 }

@@ -11,6 +11,7 @@ use crate::files::SignerFolder;
 use crate::key_file;
 use crate::refusal::Refusal;
 use clap::{ArgMatches, Command};
+use sign_core::TreeProgress;
 use state_file::{Disk, FileStore, Store};
 use std::alloc::{AllocError, Global};
 use std::io::Write;
@@ -65,12 +66,13 @@ impl<'a> Serve<'a> {
 
     /// Opens the state file, and answers the requests of an input with its key, each by a reply on the output, up to
     /// the input's end: with how many replies, or why it ended before.
-    pub fn answer<D: SignerFolder<'a>, I: Message, W: Write>(
+    pub fn answer<D: SignerFolder<'a>, I: Message, W: Write, P: TreeProgress>(
         &self,
         alloc: Global,
         folder: &mut D,
         input: &mut I,
         output: &mut W,
+        progress: &P,
     ) -> Result<u64, Refusal>
         ensures { ServesIn D.Disk.Disk ⟦<FileStore<D::Disk> as Store>⟧ D.Random.Source I.Message W.contents
             (files_seen (D.content folder.old) D.is_opened (D.is_closed folder.new)) self.now.state.now
@@ -78,27 +80,28 @@ impl<'a> Serve<'a> {
             (D.trace folder.new) }
     {
         let disk = folder.open_state(self.state)?;
-        let (disk, served) = self.serve_on(alloc, folder, disk, input, output);
+        let (disk, served) = self.serve_on(alloc, folder, disk, input, output, progress);
         folder.close_state(disk);
         served
     }
 
     // Opens the file of random bytes, and answers the requests with the key on the disk of the state file. The disk is
     // given back.
-    fn serve_on<D: SignerFolder<'a>, I: Message, W: Write>(
+    fn serve_on<D: SignerFolder<'a>, I: Message, W: Write, P: TreeProgress>(
         &self,
         alloc: Global,
         folder: &mut D,
         disk: D::Disk,
         input: &mut I,
         output: &mut W,
+        progress: &P,
     ) -> (D::Disk, Result<u64, Refusal>)
         ensures { ServesOpened D.Disk.Disk ⟦<FileStore<D::Disk> as Store>⟧ D.Random.Source I.Message W.contents
             (D.content folder.old) disk result.0 self.now.random.now (input.old, output.old) (input.new, output.new)
             result.1 (D.trace folder.old) (D.trace folder.new) }
     {
         match folder.open_random(self.random) {
-            Ok(random) => key_file::serve(alloc, disk, random, input, output),
+            Ok(random) => key_file::serve(alloc, disk, random, input, output, progress),
             Err(refusal) => (disk, Err(refusal)),
         }
     }

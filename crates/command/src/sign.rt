@@ -15,6 +15,7 @@ use crate::refusal::Refusal;
 use crate::signing::deliver;
 use crate::trace::Role;
 use clap::{ArgMatches, Command};
+use sign_core::TreeProgress;
 use state_file::{Disk, FileStore, Store};
 use std::alloc::{AllocError, Global};
 use typecodes::Name;
@@ -86,7 +87,12 @@ impl<'a> Sign<'a> {
     }
 
     /// Opens the state file, signs the message with its key, and writes the signature.
-    pub fn answer<D: SignerFolder<'a>>(&self, alloc: Global, folder: &mut D) -> Answer
+    pub fn answer<D: SignerFolder<'a>, P: TreeProgress>(
+        &self,
+        alloc: Global,
+        folder: &mut D,
+        progress: &P,
+    ) -> Answer
         ensures { SignsIn D.Disk.Disk ⟦<FileStore<D::Disk> as Store>⟧ D.Random.Source
             (files_seen (D.content folder.old) D.is_opened (D.is_closed folder.new)) self.now.state.now
             self.now.name.now self.now.message.now self.now.out.now self.now.random.now result (D.trace folder.old)
@@ -96,7 +102,7 @@ impl<'a> Sign<'a> {
             return Err(Refusal::BadName);
         };
         let disk = folder.open_state(self.state)?;
-        let (disk, signed) = self.sign_on(alloc, folder, disk, &name);
+        let (disk, signed) = self.sign_on(alloc, folder, disk, &name, progress);
         folder.close_state(disk);
         match signed {
             Ok(size) => Ok(Done::Signed(name, size)),
@@ -105,12 +111,13 @@ impl<'a> Sign<'a> {
     }
 
     // Signs the message on the disk of the state file, and writes the signature. The disk is given back.
-    fn sign_on<D: SignerFolder<'a>>(
+    fn sign_on<D: SignerFolder<'a>, P: TreeProgress>(
         &self,
         alloc: Global,
         folder: &mut D,
         disk: D::Disk,
         name: &Name,
+        progress: &P,
     ) -> (D::Disk, Result<usize, Refusal>)
         ensures { SignsOpened D.Disk.Disk ⟦<FileStore<D::Disk> as Store>⟧ D.Random.Source (D.content folder.old) disk
             result.0 name.now self.now.message.now self.now.out.now self.now.random.now result.1
@@ -119,7 +126,16 @@ impl<'a> Sign<'a> {
         match self.open_files(folder) {
             Ok((message, random)) => {
                 let mut message = message;
-                sign_file(alloc, folder, disk, random, name, &mut message, self.out)
+                sign_file(
+                    alloc,
+                    folder,
+                    disk,
+                    random,
+                    name,
+                    &mut message,
+                    self.out,
+                    progress,
+                )
             }
             Err(refusal) => (disk, Err(refusal)),
         }
@@ -140,7 +156,7 @@ impl<'a> Sign<'a> {
 }
 
 // Signs the message of a file on a disk, and writes the signature. The disk is given back.
-fn sign_file<'a, D: SignerFolder<'a>>(
+fn sign_file<'a, D: SignerFolder<'a>, P: TreeProgress>(
     alloc: Global,
     folder: &mut D,
     disk: D::Disk,
@@ -148,13 +164,23 @@ fn sign_file<'a, D: SignerFolder<'a>>(
     name: &Name,
     message: &mut D::File,
     out: &str,
+    progress: &P,
 ) -> (D::Disk, Result<usize, Refusal>)
     requires { D.File.role message.old ≡ Role.Message }
     ensures { SignsAndDelivers D.Disk.Disk ⟦<FileStore<D::Disk> as Store>⟧ D.Random.Source disk result.0 random name.now
         (D.File.remaining message.old) out.now result.1 (D.trace folder.old) (D.trace folder.new) }
 {
     let mut signature = Vec::new(alloc);
-    let (disk, signed) = read_and_sign(alloc, folder, disk, random, name, message, &mut signature);
+    let (disk, signed) = read_and_sign(
+        alloc,
+        folder,
+        disk,
+        random,
+        name,
+        message,
+        &mut signature,
+        progress,
+    );
     match signed {
         Ok(()) => (disk, deliver(folder, out, signature.as_slice())),
         Err(refusal) => (disk, Err(refusal)),
@@ -162,7 +188,7 @@ fn sign_file<'a, D: SignerFolder<'a>>(
 }
 
 // Signs the message of a file on a disk. The disk is given back, and on Ok `signature` has the signature.
-fn read_and_sign<'a, D: SignerFolder<'a>>(
+fn read_and_sign<'a, D: SignerFolder<'a>, P: TreeProgress>(
     alloc: Global,
     folder: &mut D,
     disk: D::Disk,
@@ -170,6 +196,7 @@ fn read_and_sign<'a, D: SignerFolder<'a>>(
     name: &Name,
     message: &mut D::File,
     signature: &mut Vec<u8>,
+    progress: &P,
 ) -> (D::Disk, Result<(), Refusal>)
     requires { D.File.role message.old ≡ Role.Message }
     ensures { SignsFile D.Disk.Disk ⟦<FileStore<D::Disk> as Store>⟧ D.Random.Source disk result.0 random name.now
@@ -180,7 +207,15 @@ fn read_and_sign<'a, D: SignerFolder<'a>>(
         folder,
         file: message,
     };
-    let (disk, signed) = key_file::sign(alloc, disk, random, name, &mut reader, signature);
+    let (disk, signed) = key_file::sign(
+        alloc,
+        disk,
+        random,
+        name,
+        &mut reader,
+        signature,
+        progress,
+    );
     let FileReader { folder, .. } = reader;
     // Only the proof needs this use: it says what the reader noted.
     let _ = &*folder;

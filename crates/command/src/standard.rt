@@ -1,11 +1,12 @@
-//! The standard streams of the process, and what standard error says of calls of the system that failed.
+//! The standard streams of the process, and what standard error says of calls of the system that failed, and of a work
+//! that isn't done yet.
 
 ghost use Rattle.std.specs.Prelude.{◌≡◌, IfErr};
 
 use crate::file_id::FileId;
 use crate::key_start::has_key;
 use crate::refusal::Refusal;
-use arrayvec::ArrayString;
+use arrayvec::{ArrayString, ArrayVec};
 use std::cell::Cell;
 use std::fmt::{Display, Formatter, Write as _};
 use std::fs::{File, Files};
@@ -68,9 +69,11 @@ fn leads_to_key<R: Files<File = File>>(rt: &R, path: &str) -> bool {
 }
 
 /// A writer to a standard stream. It refuses each write to a file with a key, and to an output of which a write failed,
-/// so that a line which couldn't be written isn't written later.
+/// so that a line which couldn't be written isn't written later. Before it writes anything, a line that stands for a
+/// moment is erased.
 #[derive(Drop)]
 pub struct StreamWriter<'a, W> {
+    pub standard: &'a Standard,
     pub stream: &'a Stream,
     pub writer: W,
 }
@@ -82,6 +85,7 @@ impl<W: Write> Write for StreamWriter<'_, W> {
         if self.stream.is_shut.get() {
             return Err(io::Error::from(ErrorKind::ResourceBusy));
         }
+        self.standard.erase_line();
         let answer = self.writer.write(bytes);
         if answer.is_err() && self.stream.ends_at_failure {
             self.stream.is_shut.set(true);
@@ -101,6 +105,10 @@ pub struct Standard {
     pub output: Stream,
     /// Standard error.
     pub errors: Stream,
+    /// Whether standard error is a terminal.
+    pub is_on_terminal: bool,
+    // whether a line stands on it for a moment, with the cursor at its end
+    has_line: Cell<bool>,
     stderr: Stderr,
     // The null device in place of each stream that was closed, held as long as this is.
     _null_devices: [Option<File>; 3],
@@ -115,9 +123,12 @@ impl Standard {
         let input = null_device(rt, &rt.stdin())?;
         let output = null_device(rt, &rt.stdout())?;
         let errors = null_device(rt, &stderr)?;
+        let is_on_terminal = stderr.is_terminal();
         Ok(Standard {
             output: Stream::of(rt, "/proc/self/fd/1", rt.stdout().is_terminal(), true),
-            errors: Stream::of(rt, "/proc/self/fd/2", stderr.is_terminal(), false),
+            errors: Stream::of(rt, "/proc/self/fd/2", is_on_terminal, false),
+            is_on_terminal,
+            has_line: Cell::new(false),
             stderr,
             _null_devices: [input, output, errors],
         })
@@ -137,12 +148,46 @@ impl Standard {
         let mut line = Line {
             text: ArrayString::new(),
             writer: StreamWriter {
+                standard: self,
                 stream: &self.errors,
                 writer: self.stderr,
             },
         };
         let _ = write!(line, "hbsign: {}: {tried}: {reason}\n", Escaped(path));
         let _ = line.pass_on();
+    }
+
+    /// Whether a line stands on the terminal for a moment.
+    pub fn has_line(&self) -> bool {
+        self.has_line.get()
+    }
+
+    /// Writes a line on the terminal that stands for a moment, in place of one that stands there. It ends at the
+    /// terminal's last column, whatever the text has behind that.
+    pub fn show_line(&self, text: &[u8]) {
+        self.has_line.set(true);
+        let mut line = ArrayVec::<u8, 512>::new();
+        // A longer text, of which there is none, is cut.
+        let _ = line.write_all(b"\r\x1b[K\x1b[?7l");
+        let _ = line.write_all(text);
+        let _ = line.write_all(b" \x1b[?7h");
+        self.write_to_terminal(line.as_slice());
+    }
+
+    /// Erases that line, if there is one.
+    pub fn erase_line(&self) {
+        if self.has_line.get() {
+            self.has_line.set(false);
+            self.write_to_terminal(b"\r\x1b[K");
+        }
+    }
+
+    // Writes to standard error, in one piece where the system takes it so, unless it is a file with a key.
+    fn write_to_terminal(&self, bytes: &[u8]) {
+        if !self.errors.is_shut.get() {
+            let mut stderr = self.stderr;
+            let _ = stderr.write_all(bytes);
+        }
     }
 
     /// The answer of a call of the system on the file of this path. Where it failed, standard error says so.

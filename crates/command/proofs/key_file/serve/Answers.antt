@@ -6,10 +6,10 @@ pub returns-in-Ok : goal.returns-in-Ok
 returns-in-Ok g c =
     inr (
       c.in-Ok.signer,
-      c.serve.new.signer,
-      c.serve.result,
+      c.serve_telling.new.signer,
+      c.serve_telling.result,
       c.in-Ok.ensures,
-      c.serve.ensures,
+      c.serve_telling.ensures,
       c.serve_reported-served.ensures,
       c.into_disk.ensures ∙ ap disk_of c.into_store.ensures,
     )
