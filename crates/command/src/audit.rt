@@ -85,6 +85,7 @@ impl<'a> Audit<'a> {
     }
 
     /// Opens the state file for reading alone, and audits it.
+    #[inline(never)]
     pub fn answer<D: SignerFolder<'a>>(&self, alloc: Global, folder: &mut D) -> Answer
         ensures { AuditsIn D.Disk.Disk (files_seen (D.content folder.old) D.is_opened (D.is_closed folder.new))
             self.now.state.now self.now.anchor result (D.trace folder.old) (D.trace folder.new) }

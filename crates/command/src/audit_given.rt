@@ -89,6 +89,7 @@ impl<'a> AuditGiven<'a> {
     ///
     /// 46 comes after a byte at least was read; that memory was refused then is tested. Of a longer signature's file
     /// the first 74,989 bytes decide, whichever follow (`AnswersWhole`).
+    #[inline(never)]
     pub fn answer<D: LineFiles<'a>>(&self, alloc: Global, folder: &mut D) -> Answer
         ensures { ChecksIn (D.content folder.old) self.now.public.now (pairs_of self.now) result (D.trace folder.old)
             (D.trace folder.new) }

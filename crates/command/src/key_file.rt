@@ -105,8 +105,8 @@ fn sign_with<S: Store, R: Source, M: Message, P: TreeProgress>(
     }
 }
 
-/// Signs a message under a name with the key on a disk, and gives the disk back. On Ok `signature` has the signature. The
-/// progress is told of the trees that are made.
+/// Signs a message under a name with the key on a disk, and gives the disk back. On Ok `signature` has the signature.
+/// The progress is told of the trees that are made.
 pub fn sign<D: Disk + Drop, R: Source + Drop, M: Message, P: TreeProgress>(
     alloc: Global,
     disk: D,

@@ -62,8 +62,10 @@ impl<'a> Request<'a> {
     ghost use Rattle.command.specs.Program.{RefusesWord, ReportsTask};
     ghost use Rattle.command.specs.Streams.{output_seen, streams, taken};
 
-    /// Does what is requested, reports what came of it, and gives the exit status of the program. The progress is told of
-    /// the trees that are made.
+    /// Does what is requested, reports what came of it, and gives the exit status of the program. The progress is told
+    /// of the trees that are made.
+    ///
+    /// No command is inlined here: else the stack of each would hold the buffers of all.
     pub fn fulfil<D: SignerFolder<'a>, I: Message, O: Output, E: Output, P: TreeProgress>(
         &self,
         alloc: Global,

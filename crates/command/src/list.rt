@@ -52,6 +52,7 @@ impl<'a> ListState<'a> {
     }
 
     /// Opens the state file for reading alone, and lists it.
+    #[inline(never)]
     pub fn answer<D: SignerFolder<'a>>(&self, alloc: Global, folder: &mut D) -> Answer
         ensures { ListsIn D.Disk.Disk (files_seen (D.content folder.old) D.is_opened (D.is_closed folder.new))
             self.now.state.now result (D.trace folder.old) (D.trace folder.new) }

@@ -103,6 +103,7 @@ impl<'a> Make<'a> {
     }
 
     /// Opens the state file, which is made where there is none, makes a key in it, and writes its public key.
+    #[inline(never)]
     pub fn answer<D: SignerFolder<'a>, P: TreeProgress>(
         &self,
         alloc: Global,

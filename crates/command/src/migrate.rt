@@ -63,6 +63,7 @@ impl<'a> Migrate<'a> {
     }
 
     /// Opens the old state file, then the new one, which is made where there is none, and migrates the records.
+    #[inline(never)]
     pub fn answer<D: SignerFolder<'a>>(&self, alloc: Global, folder: &mut D) -> Answer
         ensures { MigratesIn D.Disk.Disk (files_seen (D.content folder.old) D.is_opened (D.is_closed folder.new))
             self.now.old.now self.now.new.now result (D.trace folder.old) (D.trace folder.new) }

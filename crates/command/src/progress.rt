@@ -1,4 +1,4 @@
-//! How far a long work is: a line on a terminal, which is rewritten while trees are made, and erased at the end of each.
+//! How far long work is: a line on a terminal, which is rewritten while trees are made, and erased at the end of each.
 //!
 //! What the line says of a tree is in contracts. When it is written, and that it is erased, depends on a clock and on a
 //! terminal, of which no contract speaks: tests/progress tests it.

@@ -58,6 +58,7 @@ impl<'a> Public<'a> {
     }
 
     /// Opens the state file for reading alone, audits it, and writes its public key.
+    #[inline(never)]
     pub fn answer<D: SignerFolder<'a>>(&self, alloc: Global, folder: &mut D) -> Answer
         ensures { PublishesIn D.Disk.Disk (files_seen (D.content folder.old) D.is_opened (D.is_closed folder.new))
             self.now.state.now self.now.public.now result (D.trace folder.old) (D.trace folder.new) }

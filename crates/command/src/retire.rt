@@ -75,6 +75,7 @@ impl<'a> Retire<'a> {
     }
 
     /// Opens the state file, and retires the leaves.
+    #[inline(never)]
     pub fn answer<D: SignerFolder<'a>>(&self, alloc: Global, folder: &mut D) -> Answer
         ensures { RetiresIn D.Disk.Disk ⟦<FileStore<D::Disk> as Store>⟧
             (files_seen (D.content folder.old) D.is_opened (D.is_closed folder.new)) self.now.state.now self.now.upto

@@ -66,6 +66,7 @@ impl<'a> Serve<'a> {
 
     /// Opens the state file, and answers the requests of an input with its key, each by a reply on the output, up to
     /// the input's end: with how many replies, or why it ended before.
+    #[inline(never)]
     pub fn answer<D: SignerFolder<'a>, I: Message, W: Write, P: TreeProgress>(
         &self,
         alloc: Global,

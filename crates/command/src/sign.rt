@@ -87,6 +87,7 @@ impl<'a> Sign<'a> {
     }
 
     /// Opens the state file, signs the message with its key, and writes the signature.
+    #[inline(never)]
     pub fn answer<D: SignerFolder<'a>, P: TreeProgress>(
         &self,
         alloc: Global,

@@ -103,6 +103,7 @@ impl<'a> Verify<'a> {
     ///
     /// 53 comes where a file couldn't be opened, where a read of the key or the signature failed of another kind than
     /// refused memory, or after 2^60 bytes. 46 comes only where such a read failed of this kind.
+    #[inline(never)]
     pub fn answer<D: LineFiles<'a>>(&self, folder: &mut D) -> Answer
         ensures { VerifiesIn (D.content folder.old) self.now.public.now self.now.message.now self.now.signature.now
             result (D.trace folder.old) (D.trace folder.new) }
