@@ -21,7 +21,6 @@ use std::mem;
 use typecodes::{LmsSecret, XmssSecret};
 use xmss::XmssTree;
 
-// The cache of the tree of an LMS secret.
 #[derive(Drop)]
 pub(crate) struct LmsCache {
     secret: LmsSecret,
@@ -58,7 +57,7 @@ impl LmsCache {
         Ok(LmsCache { secret, cache })
     }
 
-    // The tree, of which a leaf is to sign.
+    // The tree, ready to sign by a leaf.
     fn signing_tree(&mut self, leaf: u32) -> SigningTree
         requires { leaf < 2 ^ height_of self.old.pair.tree }
         ensures secret { result.secret ≡ self.old }
@@ -80,7 +79,6 @@ impl LmsCache {
     }
 }
 
-// The cache of the tree of an XMSS secret.
 #[derive(Drop)]
 pub(crate) struct XmssCache {
     secret: XmssSecret,
@@ -131,7 +129,7 @@ impl XmssCache {
     }
 }
 
-// This leaf, or the last one of a tree of this height, where that has no such leaf.
+// The leaf, or the last one of a tree of this height, if it has no such leaf.
 fn leaf_within(height: u8, leaf: u32) -> u32
     requires { height ≤ 25 }
     ensures { result < 2 ^ height }
@@ -140,8 +138,7 @@ fn leaf_within(height: u8, leaf: u32) -> u32
     if leaf < leaves { leaf } else { leaves - 1 }
 }
 
-/// The caches of a signer: of each level's current LMS tree, or of the one tree of an XMSS key, once a request has
-/// needed it.
+/// A signer's caches: one for each level's current LMS tree, or for an XMSS key's tree, once a request has needed it.
 #[derive(Drop)]
 pub(crate) struct Caches {
     alloc: Global,
@@ -185,7 +182,6 @@ impl Caches {
         mem::replace(self, none)
     }
 
-    // Whether a level has the cache of a secret's tree.
     fn has(&self, level: u8, secret: &LmsSecret) -> bool
         requires { level < 8 }
         ensures { (result ≡ true) ↔ HasLevel self.now level secret.now }
@@ -196,7 +192,7 @@ impl Caches {
         }
     }
 
-    // Makes the cache of a secret's tree, which is to sign by this leaf, for a level, unless it is there.
+    // Makes a level's cache of a secret's tree, which is to sign by this leaf, unless it is there.
     pub(crate) fn keep<P: TreeProgress>(
         &mut self,
         level: u8,
@@ -222,7 +218,7 @@ impl Caches {
         Ok(())
     }
 
-    /// The cache of a new tree of a level, which is to sign by its first leaf.
+    /// A new tree of a level with its cache, ready to sign by its first leaf.
     pub(crate) fn begin<P: TreeProgress>(
         &self,
         level: u8,
@@ -243,7 +239,7 @@ impl Caches {
         Ok((cache, made))
     }
 
-    /// Keeps the cache of a level's new tree in the place of the one before.
+    /// Replaces a level's cache by its new tree's.
     pub(crate) fn replace(&mut self, level: u8, cache: LmsCache)
         requires { level < 8 }
         ensures there { HasLevel self.new level cache }
@@ -253,7 +249,7 @@ impl Caches {
         self.levels[usize::from(level)] = Some(cache);
     }
 
-    /// The tree of a secret, of which a leaf is to sign: by the cache of a level, where that is the secret's.
+    /// The tree of a secret, ready to sign by a leaf: from the level's cache, if that is the secret's, else made anew.
     pub(crate) fn signing_tree(&mut self, level: u8, secret: LmsSecret, leaf: u32) -> SigningTree
         requires few { level < 8 }
         requires inside { leaf < 2 ^ height_of secret.pair.tree }
@@ -271,7 +267,7 @@ impl Caches {
         }
     }
 
-    /// How many leaves the cache of a level has made, if it is that of a secret's tree.
+    /// How many leaves a level's cache has made, if it is the secret's.
     pub(crate) fn leaves(&self, level: u8, secret: &LmsSecret) -> Option<u64>
         requires { level < 8 }
         ensures { IsSome result ↔ HasLevel self.now level secret.now }
@@ -282,7 +278,7 @@ impl Caches {
         }
     }
 
-    /// How many leaves the cache of a secret's XMSS tree has made, if there is one.
+    /// How many leaves the XMSS cache has made, if it is the secret's.
     pub(crate) fn xmss_leaves(&self, secret: &XmssSecret) -> Option<u64>
         ensures { IsSome result ↔ (self.now.xmss ≡ Some secret.now) }
     {
@@ -292,7 +288,6 @@ impl Caches {
         }
     }
 
-    // Whether there is the cache of a secret's XMSS tree.
     fn has_xmss(&self, secret: &XmssSecret) -> bool
         ensures { (result ≡ true) ↔ (self.now.xmss ≡ Some secret.now) }
     {
@@ -323,8 +318,8 @@ impl Caches {
         Ok(())
     }
 
-    // Writes the authentication path of a leaf of an XMSS tree, and answers its root: by the cache, where that is the
-    // secret's.
+    // Writes the authentication path of an XMSS leaf, and answers the root: from the cache, if that is the secret's,
+    // else made anew.
     fn xmss_root(&mut self, secret: XmssSecret, leaf: u32, into: &mut [[u8; 32]]) -> [u8; 32]
         requires inside { leaf < 2 ^ xmss_height_of secret.tree }
         requires room { length into.old ≡ xmss_height_of secret.tree }
@@ -343,8 +338,8 @@ impl Caches {
         }
     }
 
-    /// Writes the authentication path of a leaf of a key of XMSS, if its recorded root is its tree's; else its record,
-    /// the first, is damaged.
+    /// Writes the authentication path of an XMSS leaf. Err(0), record 0 is damaged, where the recorded root isn't the
+    /// tree's.
     pub(crate) fn xmss_link(
         &mut self,
         secret: XmssSecret,

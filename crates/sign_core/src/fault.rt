@@ -28,19 +28,19 @@ pub enum SignFault {
     /// 27: the message can't be read; no name was bound.
     #[error("the message can't be read")]
     MessageRead,
-    /// 28: what record k says of the key isn't so; nothing changed.
+    /// 28: record k isn't sound; nothing changed.
     #[error("record {0} isn't sound")]
     Damaged(u32),
     /// 29: memory was refused; no name was bound.
     #[error("memory was refused")]
     OutOfMemory,
-    /// 30: the store doesn't take as many records; nothing changed.
+    /// 30: the store has no room for the records; nothing changed.
     #[error("the store takes no further record")]
     LedgerFull,
     /// 31: the records go on in another file; nothing changed.
     #[error("the records go on in another file")]
     Moved,
-    /// 32: no such leaves to retire; nothing changed.
+    /// 32: the tree has no such leaves to retire; nothing changed.
     #[error("the tree has no such leaves to retire")]
     RetireRange,
     /// 33: the name is longer than a file of the key's version can hold; nothing changed.
@@ -49,10 +49,10 @@ pub enum SignFault {
     /// 40: the store has no key.
     #[error("the store has no key")]
     NoKey,
-    /// 43: slot k of the store spells no record.
+    /// 43: slot k of the store holds no readable record.
     #[error("slot {0} spells no record")]
     Unreadable(u32),
-    /// 44: the records up to that of slot k aren't legal.
+    /// 44: record k isn't legal where it stands; the records before it are.
     #[error("record {0} isn't legal where it stands")]
     Illegal(u32),
     /// 45: the store's device failed while its records were read.
@@ -83,7 +83,7 @@ pub enum ServeFault {
 impl ServeFault {
     ghost use Rattle.sign_core.specs.Fault.{serve_number_of};
 
-    /// The number by which the fault is reported.
+    /// The number that reports the fault: 27, 35 or 36.
     pub fn number(self) -> u8
         ensures { result ≡ serve_number_of self }
     {
@@ -99,7 +99,7 @@ impl SignFault {
     ghost use Rattle.sign_core.specs.inner.Fault.{closes};
     ghost use Rattle.sign_core.specs.Fault.{number_of};
 
-    /// The number by which the fault is reported.
+    /// The number that reports the fault.
     pub fn number(self) -> u8
         ensures { result ≡ number_of self }
     {
@@ -126,7 +126,7 @@ impl SignFault {
         }
     }
 
-    // Whether a signer that answers it is closed from then on.
+    // Whether the signer is closed after this answer.
     pub(crate) fn closes(self) -> bool
         ensures { result ≡ closes self }
     {

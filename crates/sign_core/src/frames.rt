@@ -1,4 +1,4 @@
-//! Frames of requests, as reads of an input give them: what stands before a message, and the message.
+//! Frames of requests, read from an input: the head before a message, and the message.
 
 ghost use Rattle.std.specs.Prelude.{◌≡◌, ◌<◌, length, OnErr, OnOk};
 ghost use Rattle.sign_core.specs.inner.Frames.{FillsBuffer, ReadsField, ReadsHead, Skips, bytes_of, said_by};
@@ -12,14 +12,14 @@ use std::io;
 use std::io::ErrorKind;
 use typecodes::{Message, MessageFailed, PieceTaker, read_full, read_to_end};
 
-/// What stands before a message: the bytes of the name, and how many bytes the message is to have.
+/// The head of a frame: the bytes of the name, and the announced length of the message in bytes.
 #[derive(Drop)]
 pub(crate) struct Head {
     pub(crate) name: ArrayVec<u8, 255>,
     pub(crate) announced: u32,
 }
 
-// Fills a buffer with the next bytes of an input.
+// Fills a buffer from an input: 35 where the input ends before, 27 where a read fails.
 fn fill<I: Message>(input: &mut I, buffer: &mut [u8]) -> Result<(), ServeFault>
     ensures { FillsBuffer I.Message buffer.new input.old input.new result }
 {
@@ -30,7 +30,7 @@ fn fill<I: Message>(input: &mut I, buffer: &mut [u8]) -> Result<(), ServeFault>
     }
 }
 
-// Reads a name of so many bytes, of which nothing else is known.
+// Reads the bytes of a name, without a check that they are one.
 fn read_name<I: Message>(input: &mut I, size: u8) -> Result<ArrayVec<u8, 255>, ServeFault>
     ensures { ReadsField I.Message (block size) bytes_of input.old input.new result }
 {
@@ -43,7 +43,7 @@ fn read_name<I: Message>(input: &mut I, size: u8) -> Result<ArrayVec<u8, 255>, S
     }
 }
 
-// Reads what stands before a message, of which the size of the name was read.
+// Reads the rest of a head, after the size of the name.
 fn read_after<I: Message>(input: &mut I, size: u8) -> Result<Head, ServeFault>
     ensures { ReadsField I.Message (after_size size) said_by input.old input.new result }
 {
@@ -54,7 +54,7 @@ fn read_after<I: Message>(input: &mut I, size: u8) -> Result<Head, ServeFault>
     Ok(Head { name, announced })
 }
 
-/// Reads what stands before the next message; None where the input ends before.
+/// Reads the next head; None where the input ends before it.
 pub(crate) fn read_head<I: Message>(input: &mut I) -> Result<Option<Head>, ServeFault>
     ensures { ReadsHead I.Message input.old input.new result }
 {
@@ -70,7 +70,7 @@ pub(crate) fn read_head<I: Message>(input: &mut I) -> Result<Option<Head>, Serve
     }
 }
 
-/// The message of a frame: the next bytes of an input, of which so many are left.
+/// The message of a frame: the next `left` bytes of an input.
 #[derive(Drop)]
 pub(crate) struct FrameMessage<'a, I> {
     pub(crate) input: &'a mut I,
@@ -83,7 +83,7 @@ impl<I: Message> Message for FrameMessage<'_, I> {
 
     ghost remaining = { λ _. None };
 
-    // A read is one of the input's.
+    // Each read is a read of the input.
     ghost transition = { λ old outcome new. (new.input.ghost_name ≡ old.input.ghost_name)
         × ReadsPart I.Message old.left old.input.now outcome new.left new.input.now };
 
@@ -103,7 +103,6 @@ impl<I: Message> Message for FrameMessage<'_, I> {
     }
 }
 
-// What takes the pieces of a message, and keeps nothing of them.
 #[derive(Drop)]
 struct Discard {}
 
@@ -125,7 +124,7 @@ impl PieceTaker for Discard {
     ghost takes_more = { λ _ _ _ _ _ _ _. tt };
 }
 
-/// Reads what is left of a message, and keeps nothing of it.
+/// Reads the rest of a message, and discards it.
 pub(crate) fn skip<M: Message>(message: &mut M) -> Result<(), MessageFailed>
     ensures { Skips M.Message message.old message.new result }
 {

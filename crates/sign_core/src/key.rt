@@ -22,13 +22,13 @@ pub enum AnyPublic {
     Xmss(XmssPublic),
 }
 
-/// Why bytes spell no public key.
+/// Why bytes are no public key.
 #[derive(Clone, Copy, Debug, PartialEq, Eq, Error)]
 pub enum KeyFault {
-    /// 6: no public key has so many bytes.
+    /// 6: no public key has this length in bytes.
     #[error("no public key has {0} bytes")]
     Length(usize),
-    /// 2 or 3: what is wrong with the bytes as a key of their length.
+    /// 2 or 3: the first fault in a key of this length.
     #[error("the public key can't be read: {0}")]
     Unreadable(ReadFault),
 }
@@ -36,8 +36,8 @@ pub enum KeyFault {
 impl AnyPublic {
     ghost use Rattle.sign_core.specs.declared.key.AnyPublic.{AnyPublic as Key};
 
-    /// The key that the bytes spell, of the scheme that their length names. Otherwise what is wrong: the
-    /// length (6), or else the first fault (2 or 3) in the layout of the scheme's keys.
+    /// Decodes a key of the scheme that the length names. Refuses a wrong length (6), or else the first fault in the
+    /// scheme's layout (2 or 3).
     pub fn read(bytes: &[u8]) -> Result<Self, KeyFault>
         ensures ok { IfOk result (λ key. SpellsKey key bytes.now) }
         ensures err { IfErr result (KeyHasFault bytes.now) }
@@ -57,7 +57,7 @@ impl AnyPublic {
         }
     }
 
-    /// The bytes that spell the key: 56, 60 or 68.
+    /// The key's 56, 60 or 68 bytes.
     pub fn write(&self) -> ArrayVec<u8, 68>
         ensures { SpellsKey self.now result.items }
     {
@@ -81,7 +81,6 @@ impl AnyPublic {
     }
 }
 
-// The bytes, as a list of at most 68.
 fn to_array_vec(bytes: &[u8]) -> ArrayVec<u8, 68>
     requires { length bytes.now ≤ 68 }
     ensures { result.items ≡ bytes.now }
@@ -92,9 +91,9 @@ fn to_array_vec(bytes: &[u8]) -> ArrayVec<u8, 68>
     }
 }
 
-/// Verifies that the bytes of a signature sign the message under the key, by the key's scheme (RFC 8554
-/// 5.4.2 and 6.3, RFC 8391 4.1.10). The message is any reader, which is read in pieces. The refusals, their order, and
-/// what becomes of the message are the scheme's: see `lms::verify`, `hss::verify` and `xmss::verify`.
+/// Verifies a signature of the message under the key, by the key's scheme (RFC 8554 5.4.2 and 6.3, RFC 8391 4.1.10).
+/// The message is read in pieces. The refusals, their order, and how far the message is read are the scheme's: see
+/// `lms::verify`, `hss::verify` and `xmss::verify`.
 pub fn verify_any<M: Message>(
     public: &AnyPublic,
     message: &mut M,

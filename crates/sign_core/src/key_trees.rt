@@ -35,7 +35,7 @@ impl KeyTrees {
     ghost use Rattle.sign_core.specs.Textbook.{damaged_in, is_sound_at, secret_at, secret_by, signings_above, trees_of};
     ghost use Rattle.state_file.specs.declared.record.Secret.TheVariants.{Xmss};
 
-    /// Those of a key of LMS, which has one level, or of HSS. A key of XMSS has none: its secret is given back.
+    /// The trees of an LMS key, which has one level, or of an HSS key. An XMSS key's secret comes back instead.
     pub(crate) fn of(secret: &Secret) -> Result<Self, XmssSecret>
         ensures trees { IfOk result (λ trees. trees_of secret.now ≡ Some (trees_in trees)) }
         ensures xmss { IfErr result (λ own. secret.now ≡ Xmss own) }
@@ -75,7 +75,6 @@ impl KeyTrees {
             .unwrap_or(&self.top.pair)
     }
 
-    /// The secret of the tree that an Extend makes.
     pub(crate) fn secret_of(&self, extend: &Extend) -> LmsSecret
         ensures { result ≡ secret_by (trees_in self.now) (Some (ExtendRecord extend.now)) }
     {
@@ -86,7 +85,7 @@ impl KeyTrees {
         }
     }
 
-    /// The secret of the tree that a place stands for.
+    /// The secret of the tree at a place; the top tree's, where no Extend stands.
     pub(crate) fn secret_at(&self, ledger: &Ledger, place: u32) -> LmsSecret
         ensures { result ≡ secret_at (trees_in self.now) ledger.now.records place }
     {
@@ -96,7 +95,7 @@ impl KeyTrees {
         }
     }
 
-    // Whether the recorded root of a tree, and of an Extend the recorded digest, too, are those that were made.
+    // Whether a tree's recorded root is the one that was made, and for an Extend the recorded digest, too.
     fn is_sound(&self, ledger: &Ledger, level: u8, place: u32, tree: &SigningTree) -> bool
         requires trees { AreTreesOf self.now ledger.now.key }
         requires stands { IsTreeAt ledger.now.records level place }
@@ -113,7 +112,7 @@ impl KeyTrees {
         }
     }
 
-    // The tree of a level at a place, of which a leaf is to sign; or the place, if its record is not sound.
+    // The tree at a place, ready to sign by a leaf; or the place, if its record isn't sound.
     fn sound_tree(
         &self,
         ledger: &Ledger,
@@ -140,8 +139,8 @@ impl KeyTrees {
         Ok(tree)
     }
 
-    /// The tree of a level at a place, of which a leaf is to sign, after the trees above it, from the Key's down, were
-    /// added; or the place of the first record of the chain that isn't sound.
+    /// Adds the trees above the tree at a place, from the Key's down, and answers this tree, ready to sign by a leaf.
+    /// Or answers the place of the chain's first record that isn't sound.
     pub(crate) fn chain_to(
         &self,
         ledger: &Ledger,
@@ -178,8 +177,8 @@ impl KeyTrees {
         self.sound_tree(ledger, caches, level, place, leaf)
     }
 
-    /// The chain of the current trees down to a level with a free leaf: those above, and the level's own, which is to
-    /// sign by its next leaf; or the place of the first of their records that isn't sound.
+    /// The chain of the current trees down to a level with a free leaf: the trees above, and the level's own, ready to
+    /// sign by its next leaf. Or the place of the chain's first record that isn't sound.
     #[inline(never)]
     pub(crate) fn standing(
         &self,
@@ -212,9 +211,8 @@ impl KeyTrees {
     }
 }
 
-// The leaves by which the trees of a chain sign, at the places of their levels, from the top down to this one: at this
-// level the leaf of a binding, or where there is none, the next one of the current tree; above it, the one that signs
-// the tree below.
+// The leaf by which each tree of a chain signs, at the index of its level. At the lowest level it is the binding's
+// leaf, or without a binding the current tree's next one; above it, the leaf that signs the tree below.
 fn signing_leaves(ledger: &Ledger, lowest: u8, bound: Option<&Binding>) -> [u32; 8]
     requires { lowest < 8 }
 {
@@ -240,9 +238,9 @@ impl Caches {
     ghost use Rattle.sign_core.specs.Caches.{LacksLevel};
     ghost use Rattle.sign_core.specs.inner.Links.{AreTreesOf};
 
-    /// Makes the caches of the current LMS trees from the top down to a level whose records stand before a place, each
-    /// unless it is there. A cache that is made keeps the block of the leaf by which its tree is to sign: under a name
-    /// that is bound, or where none is given, under a new one.
+    /// Makes the missing caches of the current LMS trees from the top down to a level, for trees whose records stand
+    /// before a place. A new cache keeps the block of the leaf by which its tree is to sign: for the binding, or
+    /// without one for a new name.
     pub(crate) fn keep_chain<P: TreeProgress>(
         &mut self,
         trees: &KeyTrees,

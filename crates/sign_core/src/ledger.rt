@@ -1,5 +1,4 @@
-//! The records of a key as a signer keeps them in memory: the trees and bindings that they make, and what is
-//! looked up in them. A Retire takes no memory.
+//! The ledger: a key's records in memory, and what is looked up in them. A Retire takes no memory.
 
 ghost use Rattle.std.specs.Prelude.{◌≡◌, ◌<◌, ◌≤◌, ◌+◌, ◌-◌, ◌^◌, ◌∷◌, ◌++◌, [], ℕ, Some, None, true, length};
 ghost use Rattle.std.specs.Prelude.{option_map, slice_get, MatchOption, OnOk, OnErr, IfOk, IfErr, ◌↔◌};
@@ -57,7 +56,7 @@ pub(crate) struct Made {
     pub(crate) parent: u32,
 }
 
-/// The binding of a name: the place of its record, and the leaf that it names in the tree of a place.
+/// A name's binding. `place` is the place of its record, `tree` the place of the record that makes the leaf's tree.
 #[derive(Clone, Copy)]
 pub(crate) struct Binding {
     pub(crate) place: u32,
@@ -74,14 +73,12 @@ fn can_move(version: Version) -> bool
     matches!(version, Version::One)
 }
 
-// Whether a record takes memory in a ledger.
 fn takes_memory(entry: &Record) -> bool
     ensures { TakesMemory entry.now ↔ (result ≡ true) }
 {
     matches!(entry, Record::Extend(_) | Record::Bound(_))
 }
 
-// The public key that a key's record says.
 fn public_of(key: &Key) -> AnyPublic
     ensures { public_in key.now ≡ Some result }
 {
@@ -111,8 +108,7 @@ fn public_of(key: &Key) -> AnyPublic
     }
 }
 
-/// The records of a key, a legal list of them. Names are found by a `HashMap` that hashes with a fixed seed, so that
-/// the time to find one is a mean.
+/// A legal list of a key's records. Its `HashMap`s hash with a fixed seed, so the time of a lookup is a mean.
 #[derive(Drop)]
 pub struct Ledger {
     // for contracts alone
@@ -179,13 +175,13 @@ impl Ledger {
         }
     }
 
-    /// That of a list of records, which it takes up in their order. The list is legal at an `Ok`. The faults:
+    /// Takes up a list of records in their order. At an `Ok` the list is legal. The refusals:
     ///
     /// - 40 `Empty`: there is no record.
     /// - 44 `Illegal(k)`: record k is the first at which the list stops being legal, 0 where it doesn't begin with a
     ///   Key.
-    /// - 46 `OutOfMemory`: memory was refused for an Extend or a Bound, up to which the list is legal. A list of 2^32
-    ///   records or more is answered so, too, at the 2^32nd record.
+    /// - 46 `OutOfMemory`: memory was refused for an Extend or a Bound, up to which the list is legal; or the 2^32nd
+    ///   record was reached.
     pub fn replay(alloc: Global, records: &[Record]) -> Result<Self, LedgerFault>
         ensures records { IfOk result (λ ledger. ledger.records ≡ records.now) }
         ensures key { IfOk result (λ ledger. key_in records.now ≡ Some ledger.key) }
@@ -200,7 +196,7 @@ impl Ledger {
         Ok(ledger)
     }
 
-    // That of a first record, if it is a Key.
+    // The ledger of a first record, if it is a Key.
     fn begin(alloc: Global, first: &Record) -> Result<Self, LedgerFault>
         ensures records { IfOk result (λ ledger. ledger.records ≡ first.now ∷ []) }
         ensures key { IfOk result (λ ledger. key_in (first.now ∷ []) ≡ Some ledger.key) }
@@ -214,7 +210,6 @@ impl Ledger {
         }
     }
 
-    /// The key.
     pub(crate) fn key(&self) -> &Key
         ensures key { result.now ≡ self.now.key }
         ensures first { key_in self.now.records ≡ Some result.now }
@@ -224,14 +219,14 @@ impl Ledger {
         &self.key
     }
 
-    /// The public key of record 0. It only reads, and takes no memory.
+    /// The public key of record 0. It takes no memory.
     pub fn public_key(&self) -> AnyPublic
         ensures { public_of_key (key_in self.now.records) ≡ Some result }
     {
         public_of(&self.key)
     }
 
-    /// How many records there are.
+    /// The number of records.
     pub fn len(&self) -> u32
         ensures { result ≡ length self.now.records }
     {
@@ -254,7 +249,6 @@ impl Ledger {
         self.made.get(&place).copied()
     }
 
-    /// The binding of a name.
     pub(crate) fn find(&self, name: &Name) -> Option<Binding>
         ensures { result ≡ binding_kept self.now.key.secret self.now.records name.now }
     {
@@ -276,7 +270,6 @@ impl Ledger {
         is_top || self.identifiers.contains_key(identifier)
     }
 
-    /// The current tree of a level, with its next leaf.
     pub(crate) fn current(&self, level: u8) -> Option<Tree>
         requires { level < 8 }
         ensures { result ≡ tree_at self.now.key.secret self.now.records level }
@@ -284,8 +277,8 @@ impl Ledger {
         self.trees.get(usize::from(level))
     }
 
-    /// How many leaves are free at each level, in its current tree; 0 where it has none. It only reads, and takes no
-    /// memory.
+    /// The number of free leaves in each level's current tree, from the top down; 0 for a level without one. It takes
+    /// no memory.
     pub fn left(&self) -> ArrayVec<u32, 8>
         ensures { (key : K) → key_in self.now.records ≡ Some key →
             result.items ≡ free_counts key.secret self.now.records }
@@ -297,7 +290,6 @@ impl Ledger {
         counts
     }
 
-    // How many leaves of a level's current tree are free.
     fn free_leaves(&self, level: u8) -> u32
         requires { level < levels_of self.now.key.secret }
         ensures { result ≡ free_at self.now.key.secret self.now.records level }
@@ -321,7 +313,6 @@ impl Ledger {
         None
     }
 
-    /// Whether a record can stand after these.
     pub(crate) fn can_follow(&self, entry: &Record) -> bool
         ensures { result ≡ can_follow (Some self.now.key) self.now.records entry.now }
     {
@@ -335,7 +326,6 @@ impl Ledger {
             }
     }
 
-    // Whether a leaf of a level's current tree can be named.
     fn is_free(&self, level: u8, leaf: u32) -> bool
         requires { level < levels_of self.now.key.secret }
         ensures { result ≡ is_free self.now.key.secret self.now.records level leaf }
@@ -347,7 +337,7 @@ impl Ledger {
         }
     }
 
-    // Whether an Extend can stand after these records, of which the last one isn't a Moved.
+    // Whether an Extend can follow these records, if they don't end with a Moved.
     fn takes_extend(&self, extend: &Extend) -> bool
         ensures { result ≡ can_follow_legal self.now.key self.now.records (ExtendRecord extend.now) }
     {
@@ -357,7 +347,7 @@ impl Ledger {
             && !self.has_identifier(&extend.identifier)
     }
 
-    // Whether a Bound can.
+    // The same for a Bound.
     fn takes_bound(&self, bound: &Bound) -> bool
         ensures { result ≡ can_follow_legal self.now.key self.now.records (BoundRecord bound.now) }
     {
@@ -370,7 +360,7 @@ impl Ledger {
             && has_randomizer
     }
 
-    // Whether a Retire can.
+    // The same for a Retire.
     fn takes_retire(&self, upto: u32) -> bool
         ensures { result ≡ can_follow_legal self.now.key self.now.records (RetireRecord upto) }
     {
@@ -378,8 +368,8 @@ impl Ledger {
         self.current(bottom).is_some() && upto <= self.key.secret.leaves(bottom)
     }
 
-    /// Takes up one more record, if it can stand after these. Nothing changes at an `Err`, but that there may be more
-    /// memory.
+    /// Takes up one more record, if it can follow these. An `Err` changes nothing, except that more memory may be
+    /// reserved.
     pub(crate) fn take_up(&mut self, entry: &Record) -> Result<(), LedgerFault>
         ensures { TakesUp self.old self.new entry.now result }
     {
@@ -391,7 +381,7 @@ impl Ledger {
         Ok(())
     }
 
-    // Makes room for one more record, if it takes memory.
+    // Refuses a 2^32nd record, and reserves memory if the record takes some.
     fn make_room(&mut self, entry: &Record) -> Result<(), LedgerFault>
         ensures stays { Stays self.old self.new }
         ensures untaken { (TakesMemory entry.now → ⊥) → self.new.spare ≡ self.old.spare }
@@ -407,8 +397,8 @@ impl Ledger {
         Ok(())
     }
 
-    /// Makes room for so many more records. No clause bounds how much memory is reserved: `HashMap` says of `reserve`
-    /// and `shrink_to` only what there is room for at least.
+    /// Makes room for more records. No clause bounds how much memory is reserved: `HashMap` promises only a least room
+    /// after `reserve` and `shrink_to`.
     pub(crate) fn reserve(&mut self, additional: usize) -> Result<(), AllocError>
         ensures key { self.new.key ≡ self.old.key }
         ensures records { self.new.records ≡ self.old.records }
@@ -421,7 +411,7 @@ impl Ledger {
         self.identifiers.reserve(additional)
     }
 
-    /// Adds a record that can stand after these, an Extend or a Bound into room that was made for it.
+    /// Adds a record that can follow these. An Extend or a Bound needs reserved room.
     pub(crate) fn push(&mut self, entry: Record)
         requires { CanPush entry self.old }
         ensures grows { Grows entry self.old self.new }
@@ -435,7 +425,6 @@ impl Ledger {
         }
     }
 
-    // Adds an Extend.
     fn push_extend(&mut self, extend: Extend)
         requires { CanPush (ExtendRecord extend) self.old }
         ensures grows { Grows (ExtendRecord extend) self.old self.new }
@@ -452,7 +441,6 @@ impl Ledger {
         self.count += 1;
     }
 
-    // Adds a Bound.
     fn push_bound(&mut self, bound: Bound)
         requires { CanPush (BoundRecord bound) self.old }
         ensures grows { Grows (BoundRecord bound) self.old self.new }
@@ -481,7 +469,6 @@ impl Ledger {
         self.count += 1;
     }
 
-    // Adds a Retire, which takes no memory.
     fn push_retire(&mut self, upto: u32)
         requires { CanPush (RetireRecord upto) self.old }
         ensures grows { Grows (RetireRecord upto) self.old self.new }
@@ -492,7 +479,6 @@ impl Ledger {
         self.count += 1;
     }
 
-    // Adds a Moved, which takes no memory.
     fn push_moved(&mut self)
         requires { CanPush MovedRecord self.old }
         ensures grows { Grows MovedRecord self.old self.new }

@@ -25,12 +25,13 @@
 //!
 //! The contract for the crates above: each call of `create`, `open`, `sign` and `retire` is a step of the world of one
 //! key, by a chance that the store, the source and the message decide (`specs/Signer.antt`, `specs/World.antt`). Over
-//! every list of such steps, and of stops at any moment, no leaf signs two digests, a name has one signature, and each
-//! signature that was handed out is valid (`once_law`, `specs/Headline.antt`). `migrate_key` moves a key to one new
-//! state file, and no stop leaves two files that can sign (`specs/Migration.antt`); across it the runs of the old file
-//! go on (`moves_law`). `create_telling`, `sign_telling` and `serve_telling` are `create_in`, `sign` and `serve`, and
-//! tell a `TreeProgress` of the trees that they make. `AnyPublic` and `verify_any` are the keys of the three schemes by
-//! their lengths (`specs/Key.antt`).
+//! every list of such steps, and of crashes at any moment, no leaf signs two digests, a name has one signature, and
+//! every signature handed out is valid (`once_law`, `specs/Headline.antt`).
+//!
+//! `migrate_key` moves a key to one new state file, and no crash leaves two files that can sign
+//! (`specs/Migration.antt`). The old file's runs go on across it (`moves_law`). `create_telling`, `sign_telling` and
+//! `serve_telling` also tell a `TreeProgress` of the trees that they make. `AnyPublic` and `verify_any` are for keys of
+//! the three schemes, by their lengths (`specs/Key.antt`).
 #![tactic(auto)]
 
 mod caches;

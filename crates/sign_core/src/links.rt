@@ -1,4 +1,4 @@
-//! The trees of a chain: each with the leaf that is to sign, and then with what that signs.
+//! The trees of a chain: each with the leaf that is to sign, and with what it signs.
 
 ghost use Rattle.std.specs.Prelude.{◌≡◌, ◌<◌, ◌^◌};
 ghost use Rattle.typecodes.specs.Types.{height_of};
@@ -12,7 +12,8 @@ use lms::{LmsPublic, LmsTree, write_public};
 use state_file::Extend;
 use typecodes::{LmsPair, LmsSecret, LmsType, OtsType};
 
-/// A tree of a chain with its root, and the leaf of it that is to sign, with the leaf's authentication path.
+/// A tree of a chain with its root, the leaf that is to sign, and the leaf's authentication path, as many nodes as the
+/// tree is high.
 #[derive(Clone, Copy)]
 pub(crate) struct SigningTree {
     pub(crate) secret: LmsSecret,
@@ -22,7 +23,7 @@ pub(crate) struct SigningTree {
     pub(crate) ghost inside: { leaf < 2 ^ height_of secret.pair.tree },
 }
 
-/// A tree of a chain, and what its leaf signs with: C, and the digest Q of what it signs.
+/// A tree of a chain, and what its leaf signs: C, and the digest Q.
 #[derive(Clone, Copy)]
 pub(crate) struct Link {
     pub(crate) tree: SigningTree,
@@ -34,7 +35,7 @@ impl SigningTree {
     ghost use Rattle.lms.specs.Secret.{public_of};
     ghost use Rattle.sign_core.specs.inner.Links.{IsMade, says_key};
 
-    /// The tree of a secret, of which a leaf is to sign. Each leaf is made once.
+    /// The tree of a secret, ready to sign by a leaf. Each leaf is made once.
     pub(crate) fn new(secret: LmsSecret, leaf: u32) -> Self
         requires { leaf < 2 ^ height_of secret.pair.tree }
         ensures secret { result.secret ≡ secret }
@@ -53,7 +54,7 @@ impl SigningTree {
         }
     }
 
-    /// The tree, whose leaf signs a digest with this C.
+    /// The tree as a link: its leaf signs a digest with this C.
     pub(crate) fn signing(self, randomizer: [u8; 32], digest: [u8; 32]) -> Link
         ensures tree { result.tree ≡ self }
         ensures randomizer { result.randomizer ≡ randomizer }
@@ -66,7 +67,6 @@ impl SigningTree {
         }
     }
 
-    /// The public key of the tree.
     pub(crate) fn public(&self) -> LmsPublic
         ensures value { result.pair ≡ self.now.secret.pair }
         ensures identifier { result.identifier ≡ self.now.secret.identifier }
@@ -80,7 +80,7 @@ impl SigningTree {
         }
     }
 
-    // Whether an Extend says the tree's root, and the digest of its public key under the parent's I.
+    // Whether an Extend has the tree's root, and the digest of its public key under the parent's I.
     pub(crate) fn is_said_by(&self, extend: &Extend, parent: [u8; 16]) -> bool
         requires { IsMade self.now }
         ensures { result ≡ says_key extend.now parent (public_of self.now.secret) }
@@ -127,7 +127,7 @@ impl Link {
     }
 }
 
-// Q, the digest of a public key, which a leaf of the tree of this I signs with this C.
+// Q, the digest of a public key, for a leaf of the tree with this I, and this C.
 fn key_digest(
     identifier: [u8; 16],
     leaf: u32,

@@ -9,28 +9,28 @@ use state_file::{Disk, MigrateFault, Place, Refused, fill, seal};
 use std::alloc::Global;
 
 /// Moves the records of a key from a file of version 1 to a new one of version 2, where they go on: the old file gets a
-/// Moved at its end, and signs no more. Gives both disks back, and how many records the new file has.
+/// Moved at its end, and signs no more. Gives both disks back, and the new file's number of records.
 ///
-/// A stop at any moment leaves the old records, with a Moved or without; and a new place as it was, without a key, or
-/// with all of the records. If no stop before leaves two files that can sign, none afterwards does. A migration that
-/// was stopped or has failed is run again from the beginning, to the same new place.
+/// A crash at any moment leaves the old records, with a Moved or without; and a new place as it was, without a key, or
+/// with all of the records. If no crash before it leaves two files that can sign, none afterwards does. A migration
+/// that was cut or has failed is run again from the beginning, to the same new place.
 ///
-/// The refusals come in this order, and only a 45 changes what a file stands for:
+/// The refusals, in this order; only 45 may change a file's records:
 ///
-/// - 40 `NoKey`, 41 `NotKeyFile`, 42 `Version`, 43 `Damaged(k)`: what the old place has, as `FileStore::open` says it;
-///   45 `DeviceFailed`: a disk failed, here or later.
+/// - 40 `NoKey`, 41 `NotKeyFile`, 42 `Version`, 43 `Damaged(k)`: as `FileStore::open` answers for the old place; 45
+///   `DeviceFailed`: a disk failed, here or later.
 /// - 44 `Illegal(k)`: record k is the first at which the old records stop being legal; 46 `OutOfMemory`: memory was
 ///   refused for one of them.
 /// - 42 `Version`: they are legal, and of version 2.
 /// - 50 `KeyThere`: the new place may have a key.
 /// - 52 `Full`: the old file has no room for a Moved.
 ///
-/// All refusals but 45 leave the old place as it was, synced, and those before 50 leave the new one untouched. 45 comes
-/// exactly where one call of one of the two disks was refused. Over honest disks none of these is a read past the end.
-/// That memory was refused for 46 is tested.
+/// Every refusal but 45 leaves the old place as it was, synced; before 50 the new one is untouched. 45 comes exactly
+/// where one call of one of the two disks was refused; over honest disks it is no read past the end. That memory was
+/// refused for 46 is tested.
 ///
-/// A stop inside of the call is the end of one whose disks refuse every call from there on. The clauses hold of that
-/// one, too: moments of two disks can't be paired in a contract.
+/// A crash inside the call is the end of one whose disks refuse every call from there on, and the clauses hold of that
+/// one, too. A contract can't pair moments of two disks.
 pub fn migrate_key<D: Disk + Drop, E: Disk + Drop>(
     alloc: Global,
     old: D,

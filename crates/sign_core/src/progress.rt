@@ -4,13 +4,13 @@ ghost use Rattle.std.specs.Prelude.{◌≤◌};
 
 use merkle::{Progress, Silent};
 
-/// What is told of the trees that a call makes: which tree is begun, and how many of its leaves were made. It can
-/// change nothing of what is made.
+/// Is told of the trees that a call makes: which tree is begun, and how many of its leaves are made. It can't change
+/// them.
 pub trait TreeProgress {
-    /// The tree of a level, which has so many leaves, is begun.
+    /// The tree of a level is begun, with this number of leaves.
     fn begin(&self, level: u8, leaves: u64);
 
-    /// So many of its leaves were made until now.
+    /// This number of its leaves is made by now.
     fn tell(&self, made: u64);
 }
 
@@ -20,7 +20,7 @@ impl TreeProgress for Silent {
     fn tell(&self, made: u64) {}
 }
 
-/// What is told of the leaves of one tree, and passes it on.
+/// The progress of one tree, told as its leaves are made.
 #[derive(Drop)]
 pub(crate) struct TreeLeaves<'a, P> {
     progress: &'a P,
@@ -28,7 +28,7 @@ pub(crate) struct TreeLeaves<'a, P> {
 }
 
 impl<'a, P: TreeProgress> TreeLeaves<'a, P> {
-    /// Tells that the tree of a level, which is so high, is begun.
+    /// Tells that a level's tree of this height is begun.
     pub(crate) fn begin(progress: &'a P, level: u8, height: u8) -> Self
         requires { height ≤ 25 }
     {

@@ -7,8 +7,7 @@ use crate::source::{Source, SourceFault};
 use rand_core::TryRng;
 use typecodes::Count;
 
-/// A source that draws from a generator of random bytes, as that of the operating system. What it will give isn't
-/// known.
+/// A source that draws from a generator of random bytes, such as the operating system's. Its next bytes aren't known.
 #[derive(Drop)]
 pub struct RngSource<T: TryRng> {
     rng: T,
@@ -37,8 +36,7 @@ impl<T: TryRng> Source for RngSource<T> {
 
     ghost upcoming = { λ source. None };
 
-    /// Fills `into` with the bytes that the generator gives; it fails where the generator fails. That it fails only
-    /// there is tested.
+    /// Fills `into` from the generator; answers 23 if the generator fails. That it fails only then is tested.
     fn fill(&mut self, into: &mut [u8]) -> Result<(), SourceFault>
         ensures fills { Fills (rng_failures_of self.old) (rng_failures_of self.new) None None into.new result }
         ensures gives { OnOk result (T.may_fill (rng_of self.old) into.new (rng_of self.new)) }

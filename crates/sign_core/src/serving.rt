@@ -1,4 +1,4 @@
-//! `serve`: requests over an input, each of which has its reply on an output.
+//! `serve`: requests from an input, each with its reply on an output.
 
 ghost use Rattle.std.specs.Prelude.{◌≡◌, ◌<◌, ◌^◌, vec_capacity};
 ghost use Rattle.sign_core.specs.inner.Frames.{WasReadOrFailed, said_by};
@@ -18,24 +18,23 @@ use std::alloc::Global;
 use std::io::Write;
 use typecodes::{Message, Name, write_all};
 
-// How many replies are written at most.
+// The greatest number of replies.
 const REPLIES: u64 = 1 << 32;
 
-/// What is replied to a request.
+/// The reply to a request.
 #[derive(Clone, Copy)]
 pub(crate) enum Reply {
     /// The signature.
     Signed,
-    /// That the signer refuses.
+    /// The signer's refusal.
     Refused(SignFault),
-    /// That its name is none.
+    /// 34: the bytes are no name.
     BadName,
 }
 
 impl Reply {
     ghost use Rattle.sign_core.specs.inner.Serving.{is_unread};
 
-    // Whether it says that the message can't be read.
     fn is_unread(&self) -> bool
         ensures { result ≡ is_unread self.now }
     {
@@ -45,21 +44,25 @@ impl Reply {
 
 /// Answers the requests of an input one after the other, and writes the reply to each before it reads the next one. A
 /// request is the size of its name in one byte, the name, the size of its message in four bytes, and the message, which
-/// is signed as it is read. A reply is its number in one byte, the size of its body in four, and the body: 0 has the
-/// signature, 28 the slot in four bytes, and any other number nothing. It takes no memory but what the signer takes.
+/// is signed as it is read. A reply is its number in one byte, the size of its body in four, and the body: the
+/// signature for 0, the slot in four bytes for 28, and nothing for any other number. All sizes are big-endian.
 ///
 /// A name that isn't 1 to 128 visible characters of ASCII is answered 34. After a refusal the rest of the message is
-/// read first, and kept nowhere.
+/// read first, and discarded.
 ///
-/// It ends with the number of replies where the input ends between two frames, and after 2^32 replies. It ends with 35
-/// where the input ends before the message of a frame, and with 27 where it ends inside the message or a read of it
-/// fails: then that is replied, too, unless the signer had refused for another reason before. It ends with 36 where a
-/// reply can't be written; what was bound stays bound.
+/// It ends with the number of replies where the input ends between two frames, and after 2^32 replies. Else it ends
+/// with
 ///
-/// A message is read as far as it comes, whether or not its reply can be written. What follows is tested, since reader
-/// and writer have no trace in common. A reply is written after the last byte of its message was read and before the
-/// next request is, and is passed on at once. 36 comes only where a write fails. 27 comes only where a read fails or
-/// the input ends, also of a reader that doesn't say how its reads end. No memory is taken but the signer's.
+/// - 35 where the input ends inside a frame, before its message;
+/// - 27 where the input ends inside a message, or a read fails;
+/// - 36 where a reply can't be written; what was bound stays bound.
+///
+/// 35 and 27 are replied, too; a message's 27 only if the signer hadn't refused for another reason.
+///
+/// A message is read as far as it comes, whether or not its reply can be written. Reader and writer have no trace in
+/// common, so the following is tested. A reply is written after the last byte of its message was read and before the
+/// next request is, and is flushed at once. 36 comes only where a write fails. 27 comes only where a read fails or the
+/// input ends, also of a reader that doesn't say how its reads end. It takes no memory but the signer's.
 pub fn serve<S: Store, R: Source, I: Message, W: Write>(
     alloc: Global,
     signer: &mut Signer<S, R>,
@@ -72,7 +75,7 @@ pub fn serve<S: Store, R: Source, I: Message, W: Write>(
     serve_telling(alloc, signer, reader, writer, &Silent::new())
 }
 
-/// As `serve`, and the progress is told of the trees that each request makes, as by `sign_telling`.
+/// As `serve`, telling the progress of the trees that each request makes, as `sign_telling`.
 pub fn serve_telling<S: Store, R: Source, I: Message, W: Write, P: TreeProgress>(
     alloc: Global,
     signer: &mut Signer<S, R>,
@@ -94,7 +97,7 @@ pub fn serve_telling<S: Store, R: Source, I: Message, W: Write, P: TreeProgress>
     Ok(REPLIES)
 }
 
-// Reads the next frame and replies to it; false where the input is at its end.
+// Reads the next frame and replies to it; false at the end of the input.
 fn take_turn<S: Store, R: Source, I: Message, W: Write, P: TreeProgress>(
     signer: &mut Signer<S, R>,
     reader: &mut I,
@@ -122,8 +125,8 @@ fn take_turn<S: Store, R: Source, I: Message, W: Write, P: TreeProgress>(
     Ok(true)
 }
 
-// Answers a request whose head was read, and reads its message to the end, or as far as it comes: false where that
-// isn't all of it. Only then the reply is written.
+// Answers a request after its head, and reads its message as far as it comes: false where that isn't all of it. Then it
+// writes the reply.
 fn answer<S: Store, R: Source, I: Message, W: Write, P: TreeProgress>(
     signer: &mut Signer<S, R>,
     reader: &mut I,
@@ -164,7 +167,7 @@ fn size_of(announced: u32) -> u32
     announced
 }
 
-// Reads what is left of a message after this was answered: false where it can't be read.
+// Reads the rest of a message after this reply; false where it can't be read.
 fn finish<M: Message>(message: &mut M, reply: &Reply) -> bool
     ensures { Finishes M.Message (is_unread reply.now) message.old message.new result }
 {
@@ -174,7 +177,7 @@ fn finish<M: Message>(message: &mut M, reply: &Reply) -> bool
     skip(message).is_ok()
 }
 
-// Asks the signer to sign a message under a name, where the bytes are one.
+// Asks the signer to sign a message, if the bytes are a name.
 fn ask<S: Store, R: Source, M: Message, P: TreeProgress>(
     signer: &mut Signer<S, R>,
     name: &[u8],
@@ -195,8 +198,7 @@ fn ask<S: Store, R: Source, M: Message, P: TreeProgress>(
     }
 }
 
-// Writes what is replied to a request, where it is Ok with this signature. The request's message was read to its end
-// before, or can't be read.
+// Writes a reply, for Ok with this signature. The message was read to its end before, or can't be read.
 fn write_answer<M: Message, W: Write>(
     message: &M,
     writer: &mut W,
@@ -216,7 +218,7 @@ fn write_answer<M: Message, W: Write>(
     }
 }
 
-// Writes a reply, and passes it on. A body has fewer than 2^32 bytes, as each signature has.
+// Writes a reply and flushes it. A body has fewer than 2^32 bytes, as each signature has.
 fn write_reply<W: Write>(writer: &mut W, number: u8, body: &[u8]) -> Result<(), ServeFault>
     ensures { WritesReply (reply_frame number body.now) (W.contents writer.old) (W.contents writer.new) result }
 {
@@ -233,7 +235,7 @@ fn write_reply<W: Write>(writer: &mut W, number: u8, body: &[u8]) -> Result<(), 
     }
 }
 
-// Writes a part of a reply: all of its bytes, or those before a write that fails.
+// Writes all of the bytes, or those before a write that fails.
 fn write_part<W: Write>(writer: &mut W, bytes: &[u8]) -> Result<(), ServeFault>
     ensures { WritesReply bytes.now (W.contents writer.old) (W.contents writer.new) result }
 {

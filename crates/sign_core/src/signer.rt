@@ -57,7 +57,7 @@ impl<S: Store, R: Source> Model for Signer<S, R> {
         × (key_in s.ledger.records ≡ Some s.ledger.key) };
 }
 
-// Appends a record to a store that runs and has room; only a Key comes first, and after it what its file can hold.
+// Appends a record: 29 where memory is refused, else 25.
 fn append<S: Store>(store: &mut S, entry: &Record) -> Result<(), SignFault>
     requires running { S.stopped store.old ≡ false }
     requires room { length (S.list store.old) < S.most store.old }
@@ -70,7 +70,7 @@ fn append<S: Store>(store: &mut S, entry: &Record) -> Result<(), SignFault>
     })
 }
 
-// Looks whether a store has no record yet.
+// Refuses a store that has a record, or can't be read.
 fn load_first<S: Store>(store: &mut S) -> Result<(), SignFault>
     ensures { LooksForKey S.Store store.old store.new result }
 {
@@ -85,7 +85,7 @@ fn load_first<S: Store>(store: &mut S) -> Result<(), SignFault>
     }
 }
 
-// For the prover: the same bytes, each of which is below 256.
+// For the prover: the same bytes, each below 256.
 fn bytes_of<const N: usize>(bytes: [u8; N]) -> [u8; N]
     ensures same { result ≡ bytes.entry }
     ensures range { AreBytes result }
@@ -93,7 +93,6 @@ fn bytes_of<const N: usize>(bytes: [u8; N]) -> [u8; N]
     bytes
 }
 
-// Draws a field of a secret.
 fn draw_field<R: Source, const N: usize>(random: &mut R) -> Result<[u8; N], SignFault>
     ensures drawn { DrawsBytes (R.failures random.old) (R.failures random.new)
         (R.upcoming random.old) (R.upcoming random.new) result }
@@ -103,7 +102,6 @@ fn draw_field<R: Source, const N: usize>(random: &mut R) -> Result<[u8; N], Sign
     Ok(bytes_of(bytes))
 }
 
-// Draws what a key is made from.
 fn draw_secret<R: Source>(spec: &Spec, random: &mut R) -> Result<Secret, SignFault>
     ensures { DrawsSecret R.Source spec.now random.old random.new result }
 {
@@ -145,7 +143,7 @@ fn root_of<P: TreeProgress>(secret: &Secret, progress: &P) -> [u8; 32]
     }
 }
 
-// How many levels a key of the spec has, which are 1 to 8 by their type.
+// The number of a key's levels, 1 to 8 by their type.
 fn level_count(spec: &Spec) -> usize
     ensures spec { IsSpec spec.now }
     ensures few { result ≤ 8 }
@@ -156,7 +154,7 @@ fn level_count(spec: &Spec) -> usize
     }
 }
 
-// Makes a key of a version where no record stands, and appends its record.
+// Makes a key in a store without records, and appends its record.
 fn create_key<S: Store, R: Source, P: TreeProgress>(
     version: Version,
     spec: &Spec,
@@ -184,7 +182,7 @@ fn create_key<S: Store, R: Source, P: TreeProgress>(
     Ok(key)
 }
 
-// Loads record `slot` of a store that is opened, None after the last.
+// Loads record `slot`, None after the last, with an opening's faults.
 fn load_at<S: Store>(store: &mut S, slot: u32) -> Result<Option<Record>, SignFault>
     ensures { LoadsRecord S.Store store.old store.new slot result }
 {
@@ -210,7 +208,6 @@ fn load_key<S: Store>(store: &mut S) -> Result<Key, SignFault>
     }
 }
 
-// The key that a record is.
 fn key_of(entry: Record) -> Option<Key>
     ensures key { IfSome result (λ key. entry ≡ KeyRecord key) }
     ensures other { result ≡ None → is_key entry ≡ false }
@@ -221,7 +218,7 @@ fn key_of(entry: Record) -> Option<Key>
     }
 }
 
-// Takes up the next record that was loaded, where it can follow those before it.
+// Takes up the next loaded record: 44 where it can't follow, else 46.
 fn take_up(ledger: &mut Ledger, entry: &Record) -> Result<(), SignFault>
     ensures { TakesUpLoaded ledger.old ledger.new entry.now result }
 {
@@ -256,9 +253,8 @@ impl<S: Store, R: Source> Signer<S, R> {
     ghost use Rattle.state_file.specs.Slot.{FitsVersion, version_in};
     ghost use Rattle.state_file.specs.declared.record.Version.TheVariants.{One};
 
-    /// Makes a key of version 1 in a store that has none, and the signer of it, as `create_in` does.
-    ///
-    /// The caller gives a store that takes at least one record.
+    /// Makes a key of version 1 in a store that has none, and its signer, as `create_in`. The store must take at least
+    /// one record.
     pub fn create(
         alloc: Global,
         spec: Spec,
@@ -271,15 +267,12 @@ impl<S: Store, R: Source> Signer<S, R> {
         Signer::create_in(alloc, Version::One, spec, store, random)
     }
 
-    /// Makes a key of a version in a store that has none, and the signer of it: draws what the key is made from, makes
-    /// the top tree's root, and appends the key's record. It takes no memory of its own. A refusal gives back the store
-    /// and the source.
+    /// Makes a key in a store that has none, and its signer: draws the key's secret, makes the top tree's root, and
+    /// appends the key's record. It takes no memory of its own. A refusal gives back the store and the source.
     ///
-    /// The caller gives a store that takes at least one record.
-    ///
-    /// Where record 0 is there or can't be loaded, the source is as it was. A create may look for a key again after a
-    /// look that was answered: the last look decides. An append may load slots past the end of the list. Bodies that do
-    /// so are proved, and records and law are the same.
+    /// The store must take at least one record. Where record 0 is there or can't be loaded, the source is as it was.
+    /// The contract lets a create look for a key more than once, where the last look decides. It lets an append load
+    /// slots past the end of the list. Records and law are the same then.
     pub fn create_in(
         alloc: Global,
         version: Version,
@@ -293,7 +286,7 @@ impl<S: Store, R: Source> Signer<S, R> {
         Signer::create_telling(alloc, version, spec, store, random, &Silent::new())
     }
 
-    /// As `create_in`, and the progress is told of the top tree while its root is made.
+    /// As `create_in`, telling the progress of the top tree while its root is made.
     pub fn create_telling<P: TreeProgress>(
         alloc: Global,
         version: Version,
@@ -322,12 +315,12 @@ impl<S: Store, R: Source> Signer<S, R> {
         }
     }
 
-    /// Opens the signer on the records of a store: it loads them in their order. A refusal gives back the store and
-    /// the source.
+    /// Opens the signer on the records of a store, loaded in their order. A refusal gives back the store and the
+    /// source.
     ///
-    /// Each slot is loaded once, from 0 on, and none after the first that refuses it: of two refusals that of the
-    /// earlier record comes. 46 comes only where the store counts a refusal, or a record that it goes over takes
-    /// memory. That memory was indeed refused, where it comes at an Extend or a Bound, is tested.
+    /// Each slot is loaded once, from 0 on, and none after the first that is refused: the earliest record's refusal is
+    /// answered. 46 comes only where the store counts a refusal, or where a loaded record takes memory. That memory was
+    /// indeed refused for an Extend or a Bound is tested.
     pub fn open(alloc: Global, store: S, random: R) -> Result<Self, Refused<(S, R), SignFault>>
         ensures { Opens S.Store store random result }
     {
@@ -347,14 +340,15 @@ impl<S: Store, R: Source> Signer<S, R> {
         }
     }
 
-    /// The public key of record 0. It only reads, and takes no memory.
+    /// The public key of record 0. It takes no memory.
     pub fn public_key(&self) -> AnyPublic
         ensures { public_of_key (key_in self.now.records) ≡ Some result }
     {
         self.ledger.public_key()
     }
 
-    /// How many leaves are free at each level, in its current tree. It only reads, and takes no memory.
+    /// The number of free leaves in each level's current tree, from the top down; 0 for a level without one. It takes
+    /// no memory.
     pub fn left(&self) -> ArrayVec<u32, 8>
         ensures { (key : K) → key_in self.now.records ≡ Some key →
             result.items ≡ free_counts key.secret self.now.records }
@@ -362,7 +356,7 @@ impl<S: Store, R: Source> Signer<S, R> {
         self.ledger.left()
     }
 
-    // Refuses where the signer is closed, or its records go on elsewhere.
+    // Refuses a closed signer (26), or records that go on in another file (31).
     fn check_open(&self) -> Result<(), SignFault>
         ensures open { OnOk result (self.now.is_open ≡ true) }
         ensures stays { OnOk result (has_moved self.now.records ≡ false) }
@@ -401,7 +395,7 @@ impl<S: Store, R: Source> Signer<S, R> {
         }
     }
 
-    // The next leaf of the current bottom tree, and how many leaves that has; 0 where there is none.
+    // The current bottom tree's next leaf, and its number of leaves; both 0 where there is none.
     fn bottom(&self) -> (u32, u32)
         ensures { IsBottom self.now.records result }
     {
@@ -413,7 +407,8 @@ impl<S: Store, R: Source> Signer<S, R> {
         }
     }
 
-    /// Retires the leaves of the current bottom tree below `upto`: they sign nothing any more.
+    /// Retires the leaves of the current bottom tree below `upto`: they sign nothing any more. Where there is none to
+    /// retire, it records nothing. Refusals in their order: 26, 31, 32, 30, 25 or 29.
     pub fn retire(&mut self, upto: u32) -> Result<(), SignFault>
         ensures { Retires S.Store self.old self.new upto result }
     {

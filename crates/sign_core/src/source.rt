@@ -14,23 +14,22 @@ use typecodes::Count;
 #[error("the source has no bytes to give")]
 pub struct SourceFault;
 
-/// What gives random bytes.
+/// A source of random bytes.
 pub trait Source {
     ghost use Rattle.sign_core.specs.Source.{Fills};
 
     // how often it has failed
     ghost failures: { Self → ℕ };
 
-    // the bytes that it has still to give, where these are known
+    // the bytes still to come, if they are known
     ghost upcoming: { Self → Option (List ℕ) };
 
-    /// Fills `into` with the next bytes.
+    /// Fills `into` with the next bytes, or answers 23.
     fn fill(&mut self, into: &mut [u8]) -> Result<(), SourceFault>
         ensures { Fills (failures self.old) (failures self.new) (upcoming self.old) (upcoming self.new) into.new
             result };
 }
 
-/// Draws the next bytes of a source.
 pub(crate) fn draw<R: Source, const N: usize>(random: &mut R) -> Result<[u8; N], SignFault>
     ensures drawn { DrawsBytes (R.failures random.old) (R.failures random.new)
         (R.upcoming random.old) (R.upcoming random.new) result }
@@ -43,7 +42,7 @@ pub(crate) fn draw<R: Source, const N: usize>(random: &mut R) -> Result<[u8; N],
     }
 }
 
-/// A source of given bytes in their order, for tests and known answers.
+/// A source of known bytes in their order, for tests and known answers.
 #[derive(Drop)]
 pub struct TapeSource<'a> {
     bytes: &'a [u8],
@@ -72,7 +71,7 @@ impl Source for TapeSource<'_> {
 
     ghost upcoming = { λ source. Some (left_in source) };
 
-    /// Fills `into` with the next bytes, where as many are left.
+    /// Fills `into` with the next bytes; answers 23 if fewer are left.
     fn fill(&mut self, into: &mut [u8]) -> Result<(), SourceFault>
         ensures gives { Fills (tape_failures_of self.old) (tape_failures_of self.new)
             (Some (left_in self.old)) (Some (left_in self.new)) into.new result }

@@ -1,4 +1,4 @@
-//! The current trees of a key's levels, kept in memory.
+//! The current trees of a key's levels, in memory.
 
 ghost use Rattle.std.specs.Prelude.{◌≡◌, ◌<◌, ◌+◌, ◌^◌, [], ◌∷◌};
 ghost use Rattle.state_file.specs.declared.record.Key.{Key};
@@ -24,7 +24,7 @@ impl CurrentTrees {
     ghost use Rattle.sign_core.specs.inner.Trees.{FollowsBound, FollowsExtend, FollowsRetire};
     ghost use Rattle.sign_core.specs.Trees.{HasTrees};
 
-    /// Those of a Key alone: its own tree, with no leaf used.
+    /// The trees of a Key alone: its own tree, with no leaf used.
     pub(crate) fn of_key() -> Self
         ensures { (secret : Secret) (key : Key) → HasTrees secret (KeyRecord key ∷ []) result.levels }
     {
@@ -33,7 +33,6 @@ impl CurrentTrees {
         CurrentTrees { levels }
     }
 
-    /// The tree of a level, if it has one.
     pub(crate) fn get(&self, level: usize) -> Option<Tree>
         requires { level < 8 }
         ensures { result ≡ kept_at self.now.levels level }
@@ -42,7 +41,7 @@ impl CurrentTrees {
         levels[level]
     }
 
-    // The trees of the levels above one.
+    // The trees above this level, and none from it downwards.
     fn above(&self, level: usize) -> [Option<Tree>; 8]
         requires { level < 8 }
         ensures { AreAbove self.now.levels level result }
@@ -54,7 +53,7 @@ impl CurrentTrees {
         levels
     }
 
-    // A new tree of a level, made by the record at a place.
+    // Begins a level's tree. The trees below it are no longer current.
     fn make(&mut self, level: usize, place: u32)
         requires { level < 8 }
         ensures { IsBegun self.old.levels level place self.new.levels }
@@ -64,7 +63,7 @@ impl CurrentTrees {
         self.levels = levels;
     }
 
-    // Raises the next leaf of a level's tree, if it is below a number.
+    // Raises the next leaf of a level's tree to at least this number.
     fn raise(&mut self, level: usize, next: u32)
         requires { level < 8 }
         ensures { IsRaised self.old.levels level next self.new.levels }
@@ -97,7 +96,7 @@ impl CurrentTrees {
         self.raise(bottom, leaf + 1);
     }
 
-    /// Takes up a Retire of the bottom tree's leaves below a number.
+    /// Takes up a Retire of the bottom tree's leaves below `upto`.
     pub(crate) fn retire(&mut self, bottom: usize, upto: u32)
         requires few { bottom < 8 }
         ensures { FollowsRetire self.old.levels bottom upto self.new.levels }

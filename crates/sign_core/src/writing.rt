@@ -16,7 +16,7 @@ use crate::links::Link;
 use hss::Level;
 use state_file::Secret;
 
-/// How many bytes a key's signatures have.
+/// The length of a key's signatures in bytes.
 pub(crate) fn signature_len(secret: &Secret) -> u32
     ensures { result ≡ signature_size secret.now }
 {
@@ -27,7 +27,7 @@ pub(crate) fn signature_len(secret: &Secret) -> u32
     }
 }
 
-// Makes room for a signature of the key.
+// Gives `out` the length of a signature of the key.
 pub(crate) fn make_room(secret: &Secret, out: &mut Vec<u8>) -> Result<(), SignFault>
     ensures room { OnOk result (length out.new.items ≡ signature_size secret.now) }
     ensures refused { IfErr result (λ fault. fault ≡ SignFault.OutOfMemory) }
@@ -43,7 +43,7 @@ pub(crate) fn make_room(secret: &Secret, out: &mut Vec<u8>) -> Result<(), SignFa
     Ok(())
 }
 
-// Fills an empty output, which has room for so many bytes. No contract says that `resize` takes no memory then.
+// Fills an empty output within its room. No contract says that `resize` takes no memory then.
 fn fill(out: &mut Vec<u8>, size: usize)
     requires empty { length out.old.items ≡ 0 }
     requires room { size ≤ vec_capacity out.old }
@@ -60,7 +60,7 @@ impl Link {
     ghost use Rattle.lms.specs.Writing.{signature_bytes, textbook};
     ghost use Rattle.sign_core.specs.inner.Links.{IsMade};
 
-    /// Writes the textbook signature by the link's leaf alone: that of an LMS key.
+    /// Writes the textbook signature by the link's leaf alone, as for an LMS key.
     pub(crate) fn write(&self, into: &mut [u8])
         requires made { IsMade self.now.tree }
         requires room { length into.old ≡ lms_signature_len_of self.now.tree.secret.pair }
@@ -81,8 +81,8 @@ impl Link {
     }
 }
 
-/// Writes the signature of a key whose chain of trees is this, from the top down, over the whole of `into`. A key of
-/// XMSS has no chain.
+/// Writes the signature of a key with this chain of trees, from the top down, over the whole of `into`. An XMSS key has
+/// no chain.
 pub(crate) fn write_chain(secret: &Secret, links: &[Link], into: &mut [u8])
     requires few { length links.now ≤ 8 }
     requires made { AreMade links.now }
@@ -98,7 +98,7 @@ pub(crate) fn write_chain(secret: &Secret, links: &[Link], into: &mut [u8])
     }
 }
 
-// Writes the textbook signature of the chain of an HSS key, 1 to 8 levels, from the top down.
+// Writes an HSS key's textbook signature by its chain, 1 to 8 levels from the top down.
 fn write_hss_links(links: &[Link], into: &mut [u8])
     requires some { 0 < length links.now }
     requires few { length links.now ≤ 8 }
@@ -113,7 +113,7 @@ fn write_hss_links(links: &[Link], into: &mut [u8])
     hss::write_signature(&places[..last], &places[last], into);
 }
 
-/// The levels of a signature that the links of a chain make. The places after theirs are of no meaning.
+/// The links of a chain as levels of a signature. The places after them have no meaning.
 #[derive(Clone, Copy)]
 struct LinkLevels<'a> {
     places: [Level<'a>; 8],
@@ -122,7 +122,7 @@ struct LinkLevels<'a> {
 impl<'a> LinkLevels<'a> {
     ghost use Rattle.sign_core.specs.inner.Writing.{AreLevelsOf};
 
-    // Those of 1 to 8 links, in their order.
+    // The levels of 1 to 8 links, in their order.
     fn of(links: &'a [Link]) -> Self
         requires some { 0 < length links.now }
         requires few { length links.now ≤ 8 }

@@ -50,7 +50,7 @@ fn begin_ledger<D: Disk + Drop>(
     }
 }
 
-// Takes up the next record, where it can follow those before it.
+// Takes up the next record, with a migration's faults.
 fn take_next(ledger: &mut Ledger, entry: &Record) -> Result<(), MigrateFault>
     ensures { TakesUpNext ledger.old ledger.new entry.now result }
 {
@@ -83,7 +83,7 @@ fn load_ledger<D: Disk + Drop>(
     Ok(ledger)
 }
 
-// Whether legal records are of version 1, which alone can move.
+// Whether legal records are of version 1, the only one that can move.
 fn check_version(ledger: &Ledger) -> Result<(), MigrateFault>
     ensures judges { JudgesRecords ledger.now.records result }
     ensures refuses { IfErr result (λ fault. fault ≡ MigrateFault.Version) }
@@ -118,8 +118,8 @@ fn fault_of(fault: OpenFault) -> MigrateFault
     }
 }
 
-/// Opens the old place, whose records are then judged: those of a key of version 1 are found, or it is refused why
-/// there are none. The records are legal (44), or memory is refused (46), before their version is looked at (42).
+/// Opens the old place, if it has legal records of version 1. Whether they are legal (44) and memory (46) come before
+/// their version (42).
 pub(crate) fn open_old<D: Disk + Drop>(
     alloc: Global,
     old: D,

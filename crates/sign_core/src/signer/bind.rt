@@ -1,4 +1,4 @@
-//! A new name: room for its records and its signature, the trees that it wants, its binding, and its signature.
+//! A new name: room for its records and signature, its new trees, its binding, and its signature.
 
 ghost use Rattle.std.specs.Prelude.{◌≡◌, ◌<◌, ◌-◌, [], None, Some, true, false, length, vec_capacity, IfErr, OnErr};
 ghost use Rattle.std.specs.Prelude.{◌+◌, IfOk, OnOk};
@@ -33,7 +33,7 @@ pub(crate) struct TreeSeeds {
     pub(crate) randomizer: [u8; 32],
 }
 
-// Draws what a new tree wants: I, which is compared with those of the records, and then SEED and C.
+// Draws for a new tree: I, which the records must not have yet (24), and then SEED and C.
 fn draw_tree<R: Source>(random: &mut R, ledger: &Ledger) -> Result<TreeSeeds, SignFault>
     ensures { DrawsTree ledger.now.records (R.failures random.old) (R.failures random.new)
         (R.upcoming random.old) (R.upcoming random.new) result }
@@ -52,8 +52,7 @@ fn draw_tree<R: Source>(random: &mut R, ledger: &Ledger) -> Result<TreeSeeds, Si
 }
 
 impl<S: Store, R: Source> Signer<S, R> {
-    // Makes room for the records of a new name, of which this level is the deepest with a free leaf, and for its
-    // signature.
+    // Makes room for a new name's records and signature, and the caches. `level` is the deepest with a free leaf.
     #[inline(never)]
     pub(super) fn prepare<P: TreeProgress>(
         &mut self,
@@ -79,8 +78,8 @@ impl<S: Store, R: Source> Signer<S, R> {
         self.cache(level, progress)
     }
 
-    // Makes the caches of the trees that a new name needs, of which this level is the deepest with a free leaf: each
-    // once for a signer, as long as the tree is the current one.
+    // Makes the missing caches for a new name; `level` is the deepest with a free leaf. A signer makes each once, as
+    // long as its tree is current.
     fn cache<P: TreeProgress>(&mut self, level: u8, progress: &P) -> Result<(), SignFault>
         requires level { UnderKey self.old.records (λ key. level < levels_of key.secret) }
         ensures keeps { KeepsAll self.old self.new }
@@ -100,8 +99,8 @@ impl<S: Store, R: Source> Signer<S, R> {
         cached.map_err(|_| SignFault::OutOfMemory)
     }
 
-    // Begins a tree of the next level below a standing chain, and records it: the chain's last tree signs it by its
-    // next leaf. The answer is the new tree, which is to sign by its first leaf.
+    // Begins and records a tree below a standing chain; the next leaf of the chain's last tree signs it. Answers the
+    // new tree, ready to sign by its first leaf.
     #[inline(never)]
     fn extend<P: TreeProgress>(
         &mut self,
@@ -147,8 +146,8 @@ impl<S: Store, R: Source> Signer<S, R> {
         Ok(made)
     }
 
-    // Makes the wanted records of a new name below a standing chain, one after the other: an Extend for each level that
-    // has no tree, and the Bound. Then it writes the signature.
+    // Makes a new name's records below a standing chain, one after the other: an Extend for each level without a tree,
+    // and the Bound. Then it writes the signature.
     #[inline(never)]
     pub(super) fn fulfil<M: Message, P: TreeProgress>(
         &mut self,

@@ -1,4 +1,4 @@
-//! The signature of a name that is bound, again.
+//! The signature of a bound name, again.
 
 ghost use Rattle.std.specs.Prelude.{◌≡◌, ◌<◌, ◌-◌, Some, vec_capacity, IfErr, OnErr, ◌≢◌};
 ghost use Rattle.sign_core.specs.Caches.{LacksCache};
@@ -22,7 +22,7 @@ use lmots::LmOts;
 use state_file::Store;
 use typecodes::{Message, XmssSecret};
 
-// Makes the cache of an XMSS key's tree, which is to sign by this leaf, unless it is there.
+// As `Caches::keep_xmss`, with a signer's fault.
 fn cache_xmss<P: TreeProgress>(
     caches: &mut Caches,
     secret: &XmssSecret,
@@ -38,7 +38,7 @@ fn cache_xmss<P: TreeProgress>(
 }
 
 impl<S: Store, R: Source> Signer<S, R> {
-    // The signature of a name that is bound, where the message has the recorded digest. Nothing changes but caches.
+    // The signature of a bound name, if the message has the recorded digest. Only caches change.
     #[inline(never)]
     pub(super) fn repeat<M: Message, P: TreeProgress>(
         &mut self,
@@ -63,7 +63,7 @@ impl<S: Store, R: Source> Signer<S, R> {
         answer
     }
 
-    // Makes the caches that a bound name lacks: one for each current tree that is older than the binding.
+    // Makes the missing caches for a bound name: one for each current tree that is older than the binding.
     fn cache_bound<P: TreeProgress>(
         &self,
         caches: &mut Caches,
@@ -89,7 +89,7 @@ impl<S: Store, R: Source> Signer<S, R> {
             .map_err(|_| SignFault::OutOfMemory)
     }
 
-    // The signature of a name that is bound under a key of LMS or HSS, where the message has the recorded digest.
+    // `repeat` for a key of LMS or HSS.
     #[inline(never)]
     pub(super) fn repeat_chain<M: Message, P: TreeProgress>(
         &self,
@@ -130,7 +130,7 @@ impl<S: Store, R: Source> Signer<S, R> {
         Ok(())
     }
 
-    // The same under a key of XMSS.
+    // `repeat` for a key of XMSS.
     #[inline(never)]
     pub(super) fn repeat_xmss<M: Message, P: TreeProgress>(
         &self,

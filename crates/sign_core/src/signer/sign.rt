@@ -53,11 +53,11 @@ pub(super) fn read_xmss_digest<M: Message>(
 }
 
 impl<S: Store, R: Source> Signer<S, R> {
-    /// How many leaves the cache of a level's current tree has made, as far as a u64 goes; None where the level has no
+    /// How many leaves the cache of a level's current tree has made, at most `u64::MAX`; None where the level has no
     /// cache of its current tree.
     ///
-    /// That the number is the cache's count of leaves is tested, as is that a signer uses its caches: a signature
-    /// doesn't depend on them. That a signer which was just made or opened has none is tested, too.
+    /// No signature depends on caches, so tests check the rest: the number is the cache's count of leaves, a signer
+    /// uses its caches, and one just made or opened has none.
     pub fn cache_leaves(&self, level: u8) -> Option<u64>
         ensures few { UnderKey self.now.records (λ key. levels_of key.secret ≤ level → result ≡ None) }
         ensures chain { UnderKey self.now.records (λ key. (trees : Trees) → trees_of key.secret ≡ Some trees →
@@ -79,19 +79,17 @@ impl<S: Store, R: Source> Signer<S, R> {
         }
     }
 
-    /// Signs a message under a name: writes the signature's bytes over `out`. A name that is bound has one digest and
-    /// one signature (21 for another message); a new one takes the next leaf, and is bound in the store before it
-    /// signs.
+    /// Signs a message under a name: writes the signature's bytes over `out`. A bound name has one digest and one
+    /// signature (21 for another message). A new name takes the next leaf, and is bound in the store before it signs.
     ///
-    /// Refusals in their order: 26, 31; under a bound name 27, 21, 29, 28; under a new one 33, 22, 30, 29, 28, then 23,
-    /// 24, 29 for its cache and 25 for each tree that is wanted, 23 for C, 27, 25; 29 also where the store answers 46
+    /// Refusals in their order: 26, 31; under a bound name 27, 21, 29, 28; under a new one 33, 22, 30, 29, 28; then for
+    /// each new tree 23, 24, 29 for its cache and 25; then 23 for C, 27, 25. 29 also comes where the store answers 46
     /// to an append. After a refusal `out` is empty.
     ///
     /// Once the binding's append has answered Ok, `sign` answers Ok. It draws I, SEED and C for each new tree and C for
     /// the binding; for XMSS it draws nothing. The message is read to its end, or can't be read (27), or is as it was.
     /// A message takes no memory, however long it is (`tests/run` counts the growths). No clause says which caches
-    /// there are after 28, 29, an Ok or a failure. That 29 comes before 28, where a record is damaged and memory is
-    /// refused, too, is tested.
+    /// there are after 28, 29, an Ok or a failure. That 29 comes before 28, where both apply, is tested.
     pub fn sign<M: Message>(
         &mut self,
         name: &Name,
@@ -102,15 +100,15 @@ impl<S: Store, R: Source> Signer<S, R> {
             (vec_capacity out.old) (answered_with result out.new.items) }
         ensures empty { OnErr result (out.new.items ≡ []) }
         ensures capacity { KeepsCapacity self.old.records (vec_capacity out.old) (vec_capacity out.new) }
-        // A request of a name that is bound changes nothing but caches, and with 21 and 27 not even these.
+        // A request for a bound name changes only caches, and with 21 and 27 not even these.
         ensures repeat { IsSome (binding_in self.old.records name.now) →
             KeepsForRepeat self.old self.new (is_fault is_before_repeat result) }
     {
         self.sign_telling(name, message, out, &Silent::new())
     }
 
-    /// As `sign`, and the progress is told of each tree whose cache is made: of those that stand, and of new ones. Of
-    /// other leaves it isn't told: of a further block of a cache, and of a tree that isn't current any more.
+    /// As `sign`, telling the progress of each tree whose cache is made, standing or new. It isn't told of other
+    /// leaves: a further block of a cache, or a tree that isn't current any more.
     pub fn sign_telling<M: Message, P: TreeProgress>(
         &mut self,
         name: &Name,
@@ -132,10 +130,10 @@ impl<S: Store, R: Source> Signer<S, R> {
         Ok(())
     }
 
-    // As `sign_telling`, but an `Err` may leave anything in `out`.
+    // As `sign_telling`, without clearing `out` on error.
     //
-    // Neither this nor a step of it that makes trees or holds a chain is inlined. Such steps never run together, and in
-    // one function their frames would be added up. Nor is `extend`, since `fulfil` calls itself.
+    // Neither this nor a step that makes trees or holds a chain is inlined. They never run together, and in one
+    // function their frames would add up. Nor is `extend`, since `fulfil` calls itself.
     #[inline(never)]
     fn sign_into<M: Message, P: TreeProgress>(
         &mut self,
