@@ -1,4 +1,4 @@
--- What stands after a refusal: the old records, after a request for a new name the trees, too, that it had begun, and
+-- What stands after a refusal: the old records; after a request for a new name also the trees that it had begun; and
 -- perhaps the record whose append failed.
 use Rattle.std.specs.Prelude.{◌≡◌, ◌≢◌, ◌⊎◌, ℕ, suc, ◌+◌, ◌-◌, ◌<◌, ◌≤◌, List, [], ◌∷◌, ◌++◌, length, take, slice_get}
 use Rattle.std.specs.Prelude.{Some, None, Err}
@@ -21,8 +21,8 @@ use Rattle.sign_core.specs.Records.{binding_in, deepest}
 use Rattle.sign_core.specs.World.{Chance, Creation, Draw, Fate, Opening, Outcome, State, created, new_key, opened}
 use Rattle.sign_core.specs.World.{requested, retired, secret_from}
 
--- These records were acknowledged and stand. Only after 25 one more may stand, the one whose append failed, and it is
--- such a record.
+-- These records were acknowledged and stand. Only after 25 one more may stand, the one whose append failed, and it has
+-- this property.
 pub record Leaves {A : Type 0} (records : List Record) (IsWanted : Record → Type 0) (outcome : Outcome A)
     : Type 0 where
   pub acknowledged : outcome.acknowledged ≡ records
@@ -54,7 +54,7 @@ pub record BindsGiven (key : Key) (before : List Record) (name : List ℕ) (chan
   pub given : chance.given ≡ Some message
   pub binds : BindsName key before name message chance.bound.fields bound
 
--- the record that is wanted after these trees: the next one's, or after the last the name's binding
+-- the next record after these trees: the next tree's, or after the last one the name's binding
 abbrev pub IsNextWanted : Key → (before : List Record) → (level : ℕ) → (name : List ℕ) → Chance
     → (trees : List Record) → Record → Type 0
 IsNextWanted key before level name chance trees entry =
@@ -62,8 +62,8 @@ IsNextWanted key before level name chance trees entry =
     × BeginsDrawn key (before ++ trees) level chance.trees (length trees) entry)
     ⊎ ((length trees ≡ bottom_of key.secret - level) × BindsGiven key (before ++ trees) name chance entry)
 
--- The old records stand, and after them so many of the wanted trees, from the top down, each made of its draw; they
--- bind no name. The record whose append failed is the next one that was wanted.
+-- The old records stand, and after them the begun trees, from the top down, each made of its draw; they bind no name.
+-- The record whose append failed is the next one.
 pub record LeavesTrees (key : Key) (before : List Record) (level : ℕ) (name : List ℕ) (chance : Chance)
     (outcome : Outcome (List ℕ)) : Type 0 where
   pub trees : List Record
@@ -73,14 +73,14 @@ pub record LeavesTrees (key : Key) (before : List Record) (level : ℕ) (name : 
   pub leaves : Leaves (before ++ trees) (IsNextWanted key before level name chance trees) outcome
   pub unbound : (other : List ℕ) → binding_in (before ++ trees) other ≡ binding_in before other
 
--- what is drawn for so many trees and for the record that is wanted after them, which may fail
+-- what is drawn for the begun trees and for the next record, which may fail
 abbrev pub AreDrawnFor : (below : ℕ) → Chance → (begun : ℕ) → (drawn : List ℕ) → Type 0
 AreDrawnFor below chance begun drawn =
     ((begun < below) × (drawn ≡ bytes_drawn (take (suc begun) chance.trees)))
     ⊎ ((begun ≡ below) × (drawn ≡ bytes_drawn (take begun chance.trees) ++ concat chance.bound.fields))
 
--- A request for a new name leaves the trees that it began. It drew all fields of these and of the next record that it
--- wanted; what it drew where it answers 24 is said by `DrewAgain`.
+-- A request for a new name leaves the trees that it began. It drew all fields of these and of the next record; after 24
+-- see `DrewAgain`.
 pub record LeavesBegun (state : State) (name : List ℕ) (chance : Chance) (outcome : Outcome (List ℕ)) : Type 0 where
   pub key : Key
   pub level : ℕ
@@ -96,7 +96,7 @@ LeavesRequested state name chance outcome =
 
 -- ---- the other events
 
--- the Key of a version, of the secret that was drawn
+-- the Key with this version and the drawn secret
 abbrev pub IsDrawnKey : Version → Spec → (fields : List (List ℕ)) → (drawn : List ℕ) → Record → Type 0
 IsDrawnKey version spec fields drawn entry = (secret : Secret) × (secret_from spec fields ≡ Some secret)
     × (drawn ≡ concat fields) × (entry ≡ KeyRecord (new_key version secret))
@@ -107,8 +107,8 @@ IsDrawnKey version spec fields drawn entry = (secret : Secret) × (secret_from s
 abbrev pub IsRefusal : {A : Type 0} → Outcome A → Type 0
 IsRefusal outcome = (fault : SignFault) × (outcome.answer ≡ Err fault)
 
--- What each event leaves where it is refused: a request the trees that it had begun, every other event the old records,
--- and each perhaps the one record more that it wanted next.
+-- What a refused event leaves: a request the trees that it had begun, any other event the old records; and each perhaps
+-- the record whose append failed.
 pub record AfterRefusalLaw : Type 0 where
   pub request : (limit : ℕ) (state : State) (name : List ℕ) (chance : Chance)
       → IsRefusal (requested limit state name chance)

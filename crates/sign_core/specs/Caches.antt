@@ -1,4 +1,4 @@
--- The caches of current trees, and which one a signature lacks.
+-- The caches of current trees, and which one is missing for a signature.
 use Rattle.std.specs.Prelude.{◌≡◌, ◌≢◌, ◌⊎◌, ℕ, ◌<◌, ◌≤◌, List, slice_index_or, Option, Some, None}
 use Rattle.typecodes.specs.Types.{height_of, xmss_height_of}
 use Rattle.merkle.specs.Cache.{View}
@@ -14,7 +14,7 @@ use Rattle.state_file.specs.declared.record.Secret.TheVariants.{Xmss}
 use Rattle.sign_core.specs.Records.{current}
 use Rattle.sign_core.specs.Textbook.{Trees, secret_at, trees_of}
 
--- A cache is that of a secret's tree: it has the tree's height, and its leaves and joins are the secret's.
+-- A cache of a secret's tree: its height, leaves and joins are the secret's.
 pub record IsLmsCache (secret : LmsSecret) (cache : View LmsTree) : Type 0 where
   pub height : cache.height ≡ height_of secret.pair.tree
   pub leaves : lms_leaves_of (lms_secret_of cache.tree) ≡ lms_leaves_of secret
@@ -25,8 +25,8 @@ pub record IsXmssCache (secret : XmssSecret) (cache : View XmssTree) : Type 0 wh
   pub leaves : xmss_leaves_of (xmss_secret_of cache.tree) ≡ xmss_leaves_of secret
   pub joins : xmss_joins_of (xmss_secret_of cache.tree) ≡ xmss_joins_of secret
 
--- What callers see of the caches of a signer: for each level the secret of the LMS tree of which there is one, and that
--- of an XMSS tree.
+-- A signer's caches as callers see them: for each level the secret of its cached LMS tree, and the secret of a cached
+-- XMSS tree.
 pub record Cached : Type 0 where
   pub levels : List (Option LmsSecret)
   pub xmss : Option XmssSecret
@@ -44,7 +44,8 @@ abbrev pub HasCurrent : Trees → List Record → (level : ℕ) → Cached → T
 HasCurrent trees records level cached =
     (tree : ℕ) × (current level records ≡ Some tree) × HasLevel cached level (secret_at trees records tree)
 
--- The cache of a current tree isn't there, of some level down to this one, whose record stands before this place.
+-- The cache of a current tree is missing, at some level down to this one, for a tree whose record stands before this
+-- place.
 pub record LacksLevel (key : Key) (records : List Record) (lowest before : ℕ) (cached : Cached) : Type 0 where
   pub trees : Trees
   pub of_key : trees_of key.secret ≡ Some trees
@@ -55,14 +56,14 @@ pub record LacksLevel (key : Key) (records : List Record) (lowest before : ℕ) 
   pub earlier : tree < before
   pub lacks : HasLevel cached level (secret_at trees records tree) → ⊥
 
--- The cache of the one tree of an XMSS key isn't there.
+-- The cache of an XMSS key's tree is missing.
 pub record LacksXmss (key : Key) (cached : Cached) : Type 0 where
   pub secret : XmssSecret
   pub of_key : key.secret ≡ Xmss secret
   pub lacks : cached.xmss ≢ Some secret
 
--- The cache of a tree isn't there that a signature needs by the records before this place, down to this level: that of
--- a current LMS tree, or of an XMSS key's one tree.
+-- A cache that a signature needs is missing: a current LMS tree's, down to this level and by the records before this
+-- place, or an XMSS key's.
 abbrev pub LacksCache : Key → List Record → (lowest : Option ℕ) → (before : ℕ) → Cached → Type 0
 LacksCache key records None before cached = ⊥
 LacksCache key records (Some lowest) before cached =

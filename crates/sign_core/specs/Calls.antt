@@ -1,4 +1,4 @@
--- Chains of calls: each comes to its end, or the power goes at a moment of it.
+-- Chains of calls: each ends, or a crash comes at a moment of it.
 use Rattle.std.specs.Prelude.{◌≡◌, ◌⊎◌, ℕ, List, [], ◌∷◌, length, map, take, true}
 use Rattle.state_file.specs.declared.record.Record.{Record}
 use Rattle.state_file.specs.declared.record.Secret.{Secret}
@@ -10,13 +10,13 @@ use Rattle.sign_core.specs.Once.{IsOnce}
 use Rattle.sign_core.specs.World.{Chance, Event, World, after, beginning, closed_on, create, created, opened, reopen}
 use Rattle.sign_core.specs.World.{migrate, migrated, request, requested, retire, retired, run, stop}
 
--- An event comes to its end; or the power goes at a moment of it, or after its append failed and before the next
--- opening, and leaves these records.
+-- An event ends; or a crash comes at a moment of it, or after its append failed and before the next opening, and leaves
+-- these records.
 pub data Step : Type 0 where
   ends : Event → Step
   stops : Event → (left : List Record) → Step
 
--- The records that an event reaches. What a stop in a migration leaves, a migration leaves that ends so.
+-- The records that an event reaches. What a crash in a migration leaves, some whole migration leaves.
 abbrev pub reached_by : (limit : ℕ) → World → Event → List Record
 reached_by limit world (create spec chance) = reached (created world.state spec chance)
 reached_by limit world (reopen chance) = reached (opened world.state chance)
@@ -37,14 +37,13 @@ acknowledged_by limit world stop = world.state.records
 abbrev pub IsOpenAfter : (limit : ℕ) → World → Event → Type 0
 IsOpenAfter limit world event = (after limit world event).state.is_open ≡ true
 
--- The step can come: what the power's going leaves is a beginning, no shorter than the records before, of those that
--- the event reaches.
+-- The step can come: a crash leaves a beginning of the records that the event reaches, no shorter than the old records.
 abbrev pub IsStep : (limit : ℕ) → World → Step → Type 0
 IsStep limit world (ends event) = IsEvent event
 IsStep limit world (stops event left) =
     IsEvent event × IsBeginning (length world.state.records) (reached_by limit world event) left
 
--- the world after it; where the power goes, nothing is handed out and no signer is open
+-- the world after it; a crash hands nothing out, and leaves no signer open
 abbrev pub stepped : (limit : ℕ) → World → Step → World
 stepped limit world (ends event) = after limit world event
 stepped limit world (stops event left) = record { state = closed_on left; handed = world.handed }
@@ -65,7 +64,7 @@ pub record IsRun (limit : ℕ) (before left : World) : Type 0 where
   pub leads : run limit before events ≡ left
 
 pub record CallsLaw : Type 0 where
-  -- a chain of calls, with stops at any moment, is a run of the world
+  -- a chain of calls, with crashes at any moment, is a run of the world
   pub runs : (limit : ℕ) (world : World) (steps : List Step) → AreSteps limit world steps
       → IsRun limit world (after_steps limit world steps)
   -- so the law over all runs holds after it
@@ -74,18 +73,18 @@ pub record CallsLaw : Type 0 where
   -- while a signer is open, all its records are acknowledged
   pub acknowledged : (limit : ℕ) (world : World) (event : Event) → IsOpenAfter limit world event
       → acknowledged_by limit world event ≡ (after limit world event).state.records
-  -- what a request draws under a key is what an event's request draws
+  -- draws under a key are draws of an event
   pub draws : (secret : Secret) (chance : Chance) → AreDrawsOf secret chance → AreDraws chance
 
 -- ---- calls on a store
 
--- An event as a call on a store, which it leaves so.
+-- An event as a call on a store, and the store after it.
 pub record Call (S : Type 0) : Type 0 where
   pub event : Event
   pub store : S
 
--- The event can come, and a stop at any moment of the call leaves a beginning, no shorter than the records before, of
--- those that the event reaches; or the call leaves the store as it was.
+-- The event can come. A crash at any moment of the call leaves a beginning of the records that the event reaches, no
+-- shorter than the old records; or the call leaves the store as it was.
 pub record IsCall {S : Type 0} (moment : S → ℕ) (left_since : S → ℕ → List Record → Type 0) (limit : ℕ)
     (world : World) (old : S) (call : Call S) : Type 0 where
   pub possible : IsEvent call.event
@@ -93,9 +92,9 @@ pub record IsCall {S : Type 0} (moment : S → ℕ) (left_since : S → ℕ → 
       (IsBeginning (length world.state.records) (reached_by limit world call.event))
       ⊎ (call.store ≡ old)
 
--- A call that lasts: while a signer is open after it, a stop right then leaves the world's records, and nothing else.
--- The store is as honest as it was. That a stop leaves what some events leave says nothing of a signature that was
--- handed out before, as events without it may leave the same. So a chain of lives needs calls that last.
+-- A call that lasts: while a signer is open after it, a crash then leaves the world's records, and nothing else.
+-- Honesty stays. That a crash leaves what some events leave says nothing of a signature handed out before: events
+-- without it may leave the same. So a chain of lives needs calls that last.
 pub record IsLastingCall {S : Type 0} (g : store.Ghosts S) (limit : ℕ) (world : World) (old : S) (call : Call S)
     : Type 0 where
   pub is_call : IsCall g.moment g.left_since limit world old call
@@ -123,13 +122,13 @@ store_after_calls old (call ∷ calls) = store_after_calls call.store calls
 abbrev pub events_of : {S : Type 0} → List (Call S) → List Event
 events_of calls = map (λ call. call.event) calls
 
--- So many of the events come to their end, and then events that can come leave these records, and hand out nothing.
+-- The first `ended` events end, and then events that can come leave these records, and hand nothing out.
 pub record IsStoppedIn (limit : ℕ) (world : World) (events : List Event) (left : List Record) : Type 0 where
   pub ended : ℕ
   pub possible : AllEvents (take ended events)
   pub stopped : IsLeftBy limit (run limit world (take ended events)) left
 
--- What the power's going leaves, at any moment since the first of these calls, is what a run of the world leaves.
+-- What a crash leaves, at any moment since the first of these calls, a run of the world leaves.
 abbrev pub StoppedLaw : {S : Type 0} → store.Ghosts S → Type 0
 StoppedLaw {S = S} g = (limit : ℕ) (world : World) (first : S) (calls : List (Call S)) (left : List Record)
     → ((list : List Record) → g.left_since first (g.moment first) list → list ≡ world.state.records)

@@ -1,4 +1,4 @@
--- What is left where an append is cut off, and where a stop comes inside of an event.
+-- What is left where an append is cut, and where a crash comes inside an event.
 use Rattle.std.specs.Prelude.{◌≡◌, ℕ, List, length, map, ◌≢◌, ◌⊎◌, ◌≤◌, ◌++◌, None, take}
 use Rattle.std.specs.Option.{option_to_list}
 use Rattle.typecodes.specs.declared.spec.Spec.{Spec}
@@ -9,7 +9,7 @@ use Rattle.sign_core.specs.Events.{IsEvent, AllEvents}
 
 -- ---- cuts
 
--- the other outcome of an append that is cut off
+-- the other outcome of an append that is cut
 abbrev pub turned : Fate → Fate
 turned acked = acked
 turned cut_old = cut_new
@@ -36,7 +36,7 @@ turned_creation chance = record {
   fate = turned chance.fate;
 }
 
--- what was reached: the acknowledged records, and the one whose append was cut off, if one was
+-- the acknowledged records, and the one whose append was cut, if any
 abbrev pub reached : {A : Type 0} → Outcome A → List Record
 reached outcome = outcome.acknowledged ++ option_to_list outcome.failed
 
@@ -52,7 +52,7 @@ pub record IsOther {A : Type 0} (first second : Outcome A) : Type 0 where
   pub left : first.failed ≢ None → ((first.state.records ≡ first.acknowledged) × (second.state.records ≡ reached first))
       ⊎ ((first.state.records ≡ reached first) × (second.state.records ≡ first.acknowledged))
 
--- Where an append is cut off, the event with the other outcome is one that can come as well, and leaves the other list.
+-- Where an append is cut, the event with the other outcome can come as well, and leaves the other list.
 pub record CutLaw : Type 0 where
   pub creates : (state : State) (spec : Spec) (chance : Creation)
       → IsOther (created state spec chance) (created state spec (turned_creation chance))
@@ -64,7 +64,7 @@ pub record CutLaw : Type 0 where
       → (IsEvent (create spec creation) → IsEvent (create spec (turned_creation creation)))
       × (IsEvent (request name chance) → IsEvent (request name (turned_chance chance)))
 
--- ---- stops inside of an event
+-- ---- crashes inside an event
 
 -- a beginning of all, no shorter than this
 pub record IsBeginning (least : ℕ) (all left : List Record) : Type 0 where
@@ -78,8 +78,8 @@ pub record IsLeftBy (limit : ℕ) (world : World) (left : List Record) : Type 0 
   pub possible : AllEvents events
   pub leads : run limit world events ≡ record { state = closed_on left; handed = world.handed }
 
--- A stop inside of an event leaves a beginning of what the event reaches, no shorter than the records before it. That
--- is what some whole events leave: the event with its append cut off there, or a stop alone.
+-- A crash inside an event leaves a beginning of what the event reaches, no shorter than the old records. Whole events
+-- leave this as well: the event with its append cut there, or a crash alone.
 pub record StopLaw : Type 0 where
   pub creates : (limit : ℕ) (world : World) (spec : Spec) (chance : Creation) (left : List Record)
       → IsEvent (create spec chance)

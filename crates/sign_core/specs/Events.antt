@@ -38,12 +38,12 @@ randomizer_sizes (LmsSecret secret) = 32 ∷ []
 randomizer_sizes (HssSecret levels identifier seed) = 32 ∷ []
 randomizer_sizes (XmssSecret secret) = []
 
--- The draws of a request: those of trees, and C for the binding.
+-- A request's draws: for each new tree, and C for the binding.
 pub record AreDraws (chance : Chance) : Type 0 where
   pub trees : AllByRecursion IsTreeDraw chance.trees
   pub bound : AreFields (32 ∷ []) chance.bound.fields
 
--- The draws of a request under a key: for the binding C, but nothing for XMSS.
+-- A request's draws under a key: as `AreDraws`, but for XMSS no C.
 pub record AreDrawsOf (secret : Secret) (chance : Chance) : Type 0 where
   pub trees : AllByRecursion IsTreeDraw chance.trees
   pub bound : AreFields (randomizer_sizes secret) chance.bound.fields

@@ -18,7 +18,7 @@ pub data Ending : Type 0 where
   ended : Ending
   broken : Ending
 
--- The read that says so: none; one that gave nothing; one that failed, whatever the kind of its error.
+-- The last read, by the ending: none; one that gave nothing; one that failed, with any kind of error.
 abbrev pub LastRead : Ending → (last : List ReadOutcome) → Type 0
 LastRead going last = last ≡ []
 LastRead ended last = last ≡ Ok [] ∷ []
@@ -30,7 +30,7 @@ LeavesNone going left = Unit {0}
 LeavesNone ended left = IsAtEnd left
 LeavesNone broken left = Unit {0}
 
--- Reads of an input gave these bytes, and then ended so.
+-- Reads of an input gave these bytes, and then had this ending.
 pub record ReadsInput {M : Type 0} (m : message.Ghosts M) (given : List ℕ) (ending : Ending) (old new : M)
     : Type 0 where
   pub earlier : List ReadOutcome
@@ -47,20 +47,20 @@ pub record ReadsInput {M : Type 0} (m : message.Ghosts M) (given : List ℕ) (en
 abbrev pub byte : Layout ℕ
 byte = field 1 (λ bytes. done (slice_index bytes 0))
 
--- what stands between the size of a name and a message: the name, and the size of the message
+-- a head after its first byte: the name, and the size of the message
 abbrev pub after_size : (size : ℕ) → Layout (List ℕ × ℕ)
 after_size size = do
   name ← block size
   announced ← number
   done (name, announced)
 
--- what stands before a message: the size of the name, the name, and the size of the message
+-- a head: the size of the name, the name, and the size of the message
 abbrev pub head : Layout (List ℕ × ℕ)
 head = do
   size ← byte
   after_size size
 
--- A request: its name, how many bytes its message is to have, those that came, and whether these are all.
+-- A request: its name, the announced length of its message in bytes, the bytes that came, and whether they are all.
 pub record Request : Type 0 where
   pub name : List ℕ
   pub announced : ℕ
@@ -76,14 +76,13 @@ IsFrame request bytes =
 abbrev pub IsWholeMessage : Request → Type 0
 IsWholeMessage request = (request.is_whole ≡ true) × (length request.message ≡ request.announced)
 
--- Where an input ends or a read of it fails, fewer bytes of a message came than were announced; but a read may fail
--- after the last one, too.
+-- Where an input ends, fewer bytes of a message came than were announced. A read may also fail after the last one.
 abbrev pub CutsAt : Ending → (came announced : ℕ) → Type 0
 CutsAt going came announced = ⊥
 CutsAt ended came announced = came < announced
 CutsAt broken came announced = came ≤ announced
 
--- The message was cut so.
+-- The message was cut, with this ending.
 abbrev pub IsCut : Ending → Request → Type 0
 IsCut ending request =
     (request.is_whole ≡ false) × CutsAt ending (length request.message) request.announced
@@ -92,15 +91,14 @@ IsCut ending request =
 abbrev pub given_by : Request → Option (List ℕ)
 given_by request = if request.is_whole then Some request.message else None
 
--- The bytes are a beginning of what a layout spells, and no more: one of its fields isn't there as a whole, wherever
--- they begin.
+-- The bytes end inside a field of the layout, at whatever offset they begin.
 abbrev pub CutsField : {V : Type 0} → Layout V → List ℕ → Type 0
 CutsField layout bytes = (from : ℕ) → (place : ℕ) × HasFault layout bytes from (fault_at place Truncated)
 
 -- ---- how frames are read
 
--- What a read of a frame's message does, of which so many bytes are left: it gives some of the input's, at most as
--- many; none where none are left; and an error where a read of the input fails, or the input is at its end.
+-- A read of a frame's message with `left` bytes to come: it gives at most as many of the input's; none where none are
+-- left; and an error where a read of the input fails, or the input is at its end.
 abbrev pub ReadsPart : {M : Type 0} → message.Ghosts M → (left : ℕ) → M → ReadOutcome → (after : ℕ) → M → Type 0
 ReadsPart m left old (Ok bytes) after new = (after + length bytes ≡ left)
     × (((bytes ≡ []) × (left ≡ 0) × (new ≡ old))

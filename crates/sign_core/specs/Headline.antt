@@ -23,7 +23,7 @@ use Rattle.sign_core.specs.World.{Event, Handed, World, beginning, run}
 
 -- ---- the leaves that a signature uses: read off its bytes, its message and the public key alone
 
--- A leaf of a tree signs this digest. A tree goes by its I, that of XMSS by the public key.
+-- A leaf of a tree signs this digest. A tree is named by its I, an XMSS tree by the public key.
 pub record LeafUse : Type 0 where
   pub identifier : List ℕ
   pub leaf : ℕ

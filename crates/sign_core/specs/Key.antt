@@ -1,4 +1,4 @@
--- Public keys of every scheme: how they are spelled, and what their verification answers.
+-- Public keys of every scheme: their bytes, and what verification under them answers.
 use Rattle.std.specs.Prelude.{◌≡◌, ◌≢◌, ◌⊎◌, ℕ, List, Option, length, Result}
 use Rattle.typecodes.specs.declared.refusal.Refusal.{Refusal}
 use Rattle.typecodes.specs.Layout.{Spells, HasFault}
@@ -14,14 +14,14 @@ use Rattle.sign_core.specs.declared.key.AnyPublic.TheVariants.{Lms, Hss, Xmss}
 use Rattle.sign_core.specs.declared.key.KeyFault.{KeyFault}
 use Rattle.sign_core.specs.declared.key.KeyFault.TheVariants.{Length, Unreadable}
 
--- A key is spelled as its scheme says (RFC 8554 5.3 and 6.1, RFC 8391 4.1.7).
+-- The bytes of a key, by its scheme (RFC 8554 5.3 and 6.1, RFC 8391 4.1.7).
 abbrev pub SpellsKey : AnyPublic → List ℕ → Type 0
 SpellsKey (Lms key) bytes = Spells lms_public_key key bytes
 SpellsKey (Hss key) bytes = Spells hss_public_key key bytes
 SpellsKey (Xmss key) bytes = Spells xmss_public_key key bytes
 
--- What is wrong with bytes that spell no key: they have no scheme's length, which is 56, 60 or 68 bytes; or
--- they have one's, and as a key of this scheme they have this fault.
+-- What is wrong with bytes that are no key: their length isn't 56, 60 or 68 bytes; or they have this fault as a key of
+-- the scheme with their length.
 abbrev pub KeyHasFault : List ℕ → KeyFault → Type 0
 KeyHasFault bytes (Length n) = (n ≡ length bytes) × (n ≢ 56) × (n ≢ 60) × (n ≢ 68)
 KeyHasFault bytes (Unreadable fault) =
@@ -35,7 +35,7 @@ KeyVerdict (Lms key) message bytes result = LmsVerdict key message bytes result
 KeyVerdict (Hss key) message bytes result = HssVerdict key message bytes result
 KeyVerdict (Xmss key) message bytes result = XmssVerdict key message bytes result
 
--- and becomes of the message what the key's scheme says
+-- What verification leaves of the message, by the key's scheme.
 abbrev pub KeyLeavesMessage : {M A : Type 0} → Transition M → (M → Option (List ℕ)) → AnyPublic → List ℕ → M → M
     → Result A Refusal → Type 0
 KeyLeavesMessage transition remaining (Lms key) text old new result =

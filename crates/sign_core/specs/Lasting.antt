@@ -15,7 +15,7 @@ pub record LastsInto (earlier later : World) : Type 0 where
   pub records_are : later.state.records ≡ earlier.state.records ++ records
   pub handed_are : later.handed ≡ earlier.handed ++ handed
 
--- what records say that a migration carries over: all but Moved, whatever the version
+-- the records that a migration carries over: all but Moved, whatever the version
 abbrev pub lasting : List Record → List Record
 lasting [] = []
 lasting (KeyRecord key ∷ rest) = in_version One (KeyRecord key) ∷ lasting rest
@@ -24,7 +24,7 @@ lasting (BoundRecord bound ∷ rest) = BoundRecord bound ∷ lasting rest
 lasting (Retire upto ∷ rest) = Retire upto ∷ lasting rest
 lasting (MovedRecord ∷ rest) = lasting rest
 
--- .. the same of what lasts
+-- `LastsInto`, for what a migration carries over
 pub record IsCarriedInto (earlier later : World) : Type 0 where
   pub records : List Record
   pub handed : List Handed
@@ -39,8 +39,7 @@ IsNoMigration (retire upto fate) = Unit {0}
 IsNoMigration (migrate fate) = ⊥
 IsNoMigration stop = Unit {0}
 
--- No event takes a record or a signature away, or puts another in its place. A migration alone changes the version, and
--- drops a Moved.
+-- No event removes or replaces a record or a signature. Only a migration changes the version, and drops a Moved.
 pub record LastingLaw : Type 0 where
   pub lasts : (limit : ℕ) (world : World) (events : List Event) → AllByRecursion IsNoMigration events
       → LastsInto world (run limit world events)

@@ -1,4 +1,4 @@
--- What a ledger keeps of the records in memory, and that it is theirs.
+-- What a ledger holds of the records in memory, and that it matches them.
 use Rattle.std.specs.Prelude.{◌≡◌, ◌⊎◌, ℕ, ◌+◌, ◌-◌, ◌^◌, ◌<◌, Bool, List, [], length, take, drop, slice_get, nat_eq}
 use Rattle.std.specs.Prelude.{Option, Some, None, option_map, is_some}
 use Rattle.std.specs.Cmp.Lexicographic.{pointwise}
@@ -21,7 +21,7 @@ use Rattle.sign_core.specs.Records.{binding_in, first_illegal, has_identifier, h
 use Rattle.sign_core.specs.Trees.{HasTrees}
 use Rattle.sign_core.specs.Textbook.{AllHaveSizes, tree_before}
 
--- What callers see of a ledger: its key, its records, the Key's first, and for how many more records it has memory.
+-- A ledger as callers see it: its key, its records from the Key on, and for how many more records it has memory.
 pub record Table : Type 0 where
   pub key : Key
   pub records : List Record
@@ -73,8 +73,8 @@ binding_kept secret records name = option_map (kept_of secret records) (binding_
 
 -- ---- a ledger
 
--- What a ledger keeps is what its records say: the Extends by their places, the bindings by their names, which I stand
--- after the Key's, the current trees with their next leaves, how many records there are, and whether a Moved is last.
+-- A ledger's parts match its records: the Extends by place, the bindings by name, each I after the Key's, the current
+-- trees with their next leaves, the number of records, and whether a Moved is last.
 pub record IsTableOf (records : List Record) (key : Key) (made : ByPlace Made) (bindings : ByText Binding)
     (identifiers : ByText ℕ) (levels : List (Option Tree)) (count : ℕ) (moved : Bool) : Type 0 where
   pub legal : IsLegal records
@@ -106,7 +106,7 @@ fault_number OutOfMemory = 46
 
 -- ---- a list of records that is taken up
 
--- The list is legal up to a record that takes memory, or up to the 2^32nd; it is no first one.
+-- The list is legal up to a record that takes memory, or up to the 2^32nd; it isn't the first.
 pub record RunsOutOfMemory (records : List Record) : Type 0 where
   pub place : ℕ
   pub entry : Record

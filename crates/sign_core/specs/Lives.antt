@@ -1,5 +1,5 @@
--- The lives of one disk that keeps what was synced. In each a store is opened on the disk, or prepared; calls on the
--- store come to their end; and the power goes, at any moment. The next life begins with what that left.
+-- The lives of one disk that keeps what was synced. In each a store is opened on the disk or prepared, calls on the
+-- store end, and a crash comes at any moment. The next life begins with what it left.
 use Rattle.std.specs.Prelude.{◌≡◌, ◌⊎◌, ℕ, IsTrue, List, [], ◌∷◌, Some, false}
 use Rattle.state_file.specs.Carried.{carried, with_moved}
 use Rattle.state_file.specs.declared.disk.Disk as disk
@@ -20,33 +20,33 @@ use Rattle.sign_core.specs.World.{Handed, World, beginning, closed_on, run}
 
 -- ---- a store on a disk
 
--- what `FileStore::open` gives: a store of the records that the disk's content spells
+-- what `FileStore::open` gives: a store of the records in the disk's content
 pub record IsOpenedOn {D : Type 0} (d : disk.Ghosts D) (on : D) (store : FileStore D d) : Type 0 where
   pub records : SpellsRecords (d.state on).content (records_of store)
   pub running : has_stopped store ≡ false
   pub honest : d.honest (disk_of store) ≡ d.honest on
 
--- what `FileStore::format` gives: a store of no record, where the disk has no key
+-- what `FileStore::format` gives: a store without a record, where the disk has no key
 pub record IsPreparedOn {D : Type 0} (d : disk.Ghosts D) (on : D) (store : FileStore D d) : Type 0 where
   pub records : records_of store ≡ []
   pub prepares : PreparesPlace (d.state on).content (d.state (disk_of store))
   pub running : has_stopped store ≡ false
   pub honest : d.honest (disk_of store) ≡ d.honest on
 
--- the store is had by one of the two
+-- the store was opened or prepared
 abbrev pub IsStoreOn : {D : Type 0} (d : disk.Ghosts D) → (on : D) → FileStore D d → Type 0
 IsStoreOn d on store = IsOpenedOn d on store ⊎ IsPreparedOn d on store
 
--- what a stop at any moment of one of the two leaves, whatever it answers
+-- what a crash at any moment of an opening or preparing leaves, whatever the answer
 abbrev pub IsTriedOn : {D : Type 0} → disk.Ghosts D → (old new : D) → Type 0
 IsTriedOn d old new = LeavesOnly d.moment d.left_since old new (MayLeave (d.state old))
     ⊎ LeavesOnly d.moment d.left_since old new (LeftByFormat (d.state old))
 
 -- ---- one life
 
--- A life of the disk. It has no store: an opening or preparing is refused, or the power goes in it, and it takes the
--- disk from `old` to `new`. Or it has this store; these calls come to their end; and the power goes in `last`. Where it
--- goes between two calls, `last` is one that leaves the store as it was.
+-- A life of the disk. Without a store, an opening or preparing is refused, or a crash comes in it, and it takes the
+-- disk from `old` to `new`. With this store, these calls end, and the crash comes in `last`; for one between two calls,
+-- `last` leaves the store as it was.
 pub data Life (D : Type 0) (d : disk.Ghosts D) : Type 0 where
   fails : (old new : D) → Life D d
   serves : (on : D) → FileStore D d → List (Call (FileStore D d)) → (last : Call (FileStore D d)) → Life D d
@@ -55,33 +55,33 @@ pub data Life (D : Type 0) (d : disk.Ghosts D) : Type 0 where
 abbrev pub world_on : {D : Type 0} {d : disk.Ghosts D} → FileStore D d → List Handed → World
 world_on store handed = world_of (closed_on (records_of store)) handed
 
--- .. and after those that came to their end
+-- .. and after the calls that ended
 abbrev pub world_after : {D : Type 0} {d : disk.Ghosts D} → (limit : ℕ) → FileStore D d → List (Call (FileStore D d))
     → List Handed → World
 world_after limit store calls handed = run limit (world_on store handed) (events_of calls)
 
--- the contents that the power's going may leave in it
+-- the contents that a crash in it may leave
 abbrev pub left_by : {D : Type 0} (d : disk.Ghosts D) → Life D d → List ℕ → Type 0
 left_by d (fails old new) content = d.left_since new (d.moment old) content
 left_by d (serves on store calls last) content =
     d.left_since (disk_of last.store) (d.moment (disk_of (store_after_calls store calls))) content
 
--- its disk at its end, where the power doesn't go
+-- its disk at its end, without a crash
 abbrev pub disk_at_end : {D : Type 0} {d : disk.Ghosts D} → Life D d → D
 disk_at_end (fails old new) = new
 disk_at_end (serves on store calls last) = disk_of last.store
 
--- what has been handed out after it: what the calls that came to their end hand out, and no more
+-- what has been handed out after it: what the ended calls hand out, and no more
 abbrev pub handed_by : {D : Type 0} {d : disk.Ghosts D} → (limit : ℕ) → List Handed → Life D d → List Handed
 handed_by limit handed (fails old new) = handed
 handed_by limit handed (serves on store calls last) = (world_after limit store calls handed).handed
 
--- The disk keeps what was synced, and whatever a stop may leave of it now, the life before may have left.
+-- The disk keeps what was synced, and whatever a crash may leave of it now, the life before may have left.
 pub record IsAtStart {D : Type 0} (d : disk.Ghosts D) (before : List ℕ → Type 0) (on : D) : Type 0 where
   pub honest : IsTrue (d.honest on)
   pub holds : (content : List ℕ) → MayLeave (d.state on) content → before content
 
--- A store is had, and calls on it lead to the one in which the power goes.
+-- There is a store, and calls on it lead to the one in which the crash comes.
 pub record IsServingLife {D : Type 0} (d : disk.Ghosts D) (g : store.Ghosts (FileStore D d)) (limit : ℕ)
     (handed : List Handed) (on : D) (store : FileStore D d) (calls : List (Call (FileStore D d)))
     (last : Call (FileStore D d)) : Type 0 where
@@ -116,14 +116,14 @@ abbrev pub handed_by_all : {D : Type 0} {d : disk.Ghosts D} → (limit : ℕ) �
 handed_by_all limit handed [] = handed
 handed_by_all limit handed (life ∷ lives) = handed_by_all limit (handed_by limit handed life) lives
 
--- The content stands for a list of records. Events that can come lead from one world to another with these records, in
--- which no signer is open, and this was handed out.
+-- The content stands for a list of records. Events that can come lead from one world to another with these records,
+-- without an open signer, in which this was handed out.
 pub record IsLeftByRun (limit : ℕ) (first : World) (handed : List Handed) (content : List ℕ) : Type 0 where
   pub records : List Record
   pub stands : StandsFor records content
   pub runs : IsRun limit first (world_of (closed_on records) handed)
 
--- the contents to which runs of the world lead, in which this was handed out
+-- the contents to which runs of the world lead that handed this out
 abbrev pub LedTo : (limit : ℕ) → List Handed → List ℕ → Type 0
 LedTo limit handed content = IsLeftByRun limit beginning handed content
 
@@ -131,32 +131,31 @@ LedTo limit handed content = IsLeftByRun limit beginning handed content
 abbrev pub CanMigrate : List Record → Type 0
 CanMigrate records = (key : Key) × (key_in records ≡ Some key) × (key.version ≡ One)
 
--- What holds of all lives of a disk, where runs of the world lead to what may be left as the first one begins.
+-- All lives of a disk, where runs of the world lead to what may be left as the first one begins.
 pub record LivesLaw {D : Type 0} (d : disk.Ghosts D) (g : store.Ghosts (FileStore D d)) : Type 0 where
-  -- So it is of a disk without a key, with nothing handed out: its lives are such lives, and leave what these leave.
+  -- a disk without a key, and nothing handed out, is such a disk: its lives are such lives, and leave the same
   pub without_key : (limit : ℕ) (lives : List (Life D d)) → AreLives d g limit HasNoKey [] lives
       → AreLives d g limit (LedTo limit []) [] lives
   pub left_without_key : (limit : ℕ) (lives : List (Life D d)) (content : List ℕ) → left_by_all d HasNoKey lives content
       → left_by_all d (LedTo limit []) lives content
-  -- So it is of the new place of a migration: where a content to which runs lead stands for records of version 1, they
-  -- lead, with the same handed out, to one that stands for what a migration carries over, and to one with a Moved.
+  -- so is the new place of a migration: if runs lead to a content of records of version 1, they lead, with the same
+  -- handed out, to a content of what a migration carries over, and to one with a Moved
   pub migrates : (limit : ℕ) (handed : List Handed) (records : List Record) (content moved : List ℕ)
       → LedTo limit handed content → StandsFor records content → CanMigrate records
       → StandsFor (carried records) moved ⊎ StandsFor (with_moved records) moved → LedTo limit handed moved
-  -- where the power went, the next life may begin with the content that this left, all of it synced
+  -- after a crash, the next life may begin with the content that it left, all of it synced
   pub after_power : (limit : ℕ) (handed : List Handed) (lives : List (Life D d)) (on : D) (content : List ℕ)
       → IsTrue (d.honest on) → d.state on ≡ settled content → left_by_all d (LedTo limit handed) lives content
       → IsAtStart d (left_by_all d (LedTo limit handed) lives) on
-  -- where it didn't, with the disk that the life hands back
+  -- without a crash, with the disk that the life hands back
   pub goes_on : (limit : ℕ) (handed : List Handed) (lives : List (Life D d)) (life : Life D d)
       → IsTrue (d.honest (disk_at_end life))
       → IsLife d g limit (left_by_all d (LedTo limit handed) lives) (handed_by_all limit handed lives) life
       → IsAtStart d (left_by d life) (disk_at_end life)
-  -- a store has the records that the disk's content stands for, and so those that the life before left
+  -- a store has the records of the disk's content, and so what the life before left
   pub finds : (on : D) (store : FileStore D d) (records : List Record) → IsStoreOn d on store
       → StandsFor records (d.state on).content → records_of store ≡ records
-  -- whatever content the last life leaves, a run of the world leads there, which hands out what the calls that came to
-  -- their end handed out
+  -- a run of the world leads to whatever content the last life leaves, and hands out what the ended calls handed out
   pub leaves : (limit : ℕ) (handed : List Handed) (lives : List (Life D d)) (content : List ℕ)
       → AreLives d g limit (LedTo limit handed) handed lives → left_by_all d (LedTo limit handed) lives content
       → LedTo limit (handed_by_all limit handed lives) content

@@ -25,7 +25,7 @@ abbrev pub IsOfOtherVersion : List ℕ → Type 0
 IsOfOtherVersion content = OpensAs content unknown_version
     ⊎ ((records : List Record) × SpellsRecords content records × IsLegal records × (version_in records ≡ Two))
 
--- What each refusal reports of a content that spells no such records.
+-- What each refusal reports of a content without such records.
 abbrev pub ReportsOld : List ℕ → MigrateFault → Type 0
 ReportsOld content NoKey = OpensAs content no_key
 ReportsOld content NotKeyFile = OpensAs content no_key_file

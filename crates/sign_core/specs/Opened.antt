@@ -19,13 +19,13 @@ pub record AreWellFormed (records : List Record) : Type 0 where
   pub legal : IsLegal records
   pub sizes : AllHaveSizes records
 
--- Over these records the bytes are a valid signature of the message: under the public key of record 0.
+-- The bytes are a valid signature of the message under the public key of record 0.
 pub record IsValidOver (records : List Record) (message signature : List ℕ) : Type 0 where
   pub public : AnyPublic
   pub keyed : public_of_key (key_in records) ≡ Some public
   pub verifies : IsValidUnder public message signature
 
--- Of the chain of trees from the Key's down to this one, this record is the first, from the top, that isn't sound.
+-- The record at `slot` is the first that isn't sound in the chain from the Key's tree down to this one.
 pub record IsFirstDamaged (key : Key) (records : List Record) (level tree slot : ℕ) : Type 0 where
   pub place : ℕ
   pub is : slice_get (chain level records tree) place ≡ Some slot
@@ -33,14 +33,14 @@ pub record IsFirstDamaged (key : Key) (records : List Record) (level tree slot :
   pub above : (i k : ℕ) → i < place → slice_get (chain level records tree) i ≡ Some k
       → is_sound_at key records k ≡ true
 
--- .. of the chain under which a name's binding stands, or, where it has none, under which a new name signs
+-- the same in the chain of a name's binding, or without one in the chain by which a new name signs
 abbrev pub IsDamagedFor : Key → List Record → Option (ℕ × Bound) → (slot : ℕ) → Type 0
 IsDamagedFor key records (Some (k, bound)) slot =
     IsFirstDamaged key records (bottom_of key.secret) (tree_before (bottom_of key.secret) records k) slot
 IsDamagedFor key records None slot = (level : ℕ) × (deepest key.secret records ≡ Some level)
     × IsFirstDamaged key records level (tree_before level records (length records)) slot
 
--- What holds over them.
+-- What holds over well-formed records.
 pub record OpenedLaw : Type 0 where
   -- they are opened, where nothing fails
   pub reopens : (state : State) → AreWellFormed state.records → Reopens state

@@ -35,9 +35,9 @@ pub record AreOpeningsAnswered (world : World) : Type 0 where
       → chance.failed_load ≡ None → secret_from spec chance.fields ≡ Some secret → chance.has_room ≡ true
       → chance.fate ≡ acked
       → BeginsKey world.state spec chance (new_key chance.version secret)
-  -- there are no records, or they are sound: their roots and digests are those of the recorded secrets
+  -- there are no records, or they are sound
   pub sound : (world.state.records ≡ []) ⊎ AreSound world.state.records
-  -- so no opening is answered that the records aren't legal
+  -- so no opening is refused for records that aren't legal
   pub legal : (chance : Opening) (slot : ℕ) → CanStopOpening chance
       → (opened world.state chance).answer ≢ Err (Illegal slot)
   -- an opening where nothing fails opens the signer on the records and answers the public key, where there is a key

@@ -1,5 +1,5 @@
--- What the records of a key say, for every scheme: which trees are current, which of their leaves are free, what a
--- request for a new name wants, and what is bound. A tree goes by the place of the record that makes it.
+-- What a key's records determine, for every scheme: current trees, their free leaves, what a new name needs, and
+-- bindings. A tree is named by the place of the record that makes it.
 use Rattle.std.specs.Prelude.{◌≡◌, ◌⊎◌, ℕ, zero, suc, ◌+◌, ◌-◌, ◌≤◌, Bool, true, false, not, List, [], ◌∷◌}
 use Rattle.std.specs.Prelude.{length, take, map, reverse, fold, max, nat_eq, nat_lt, nat_le, find, slice_get, is_some}
 use Rattle.std.specs.Prelude.{Option, Some, None, if◌then◌else◌, ◌&&◌, replicate}
@@ -49,13 +49,13 @@ same_tree (Some a) (Some b) = nat_eq a b
 same_tree (Some a) None = false
 same_tree None other = false
 
--- the tree that an Extend at place j makes, if the tree above is the one that was current there before it
+-- the tree of an Extend at place j, if the tree above is still the one that was current before it
 abbrev pub under : (above : List Record → Option ℕ) → List Record → Option ℕ → Option ℕ
 under above records None = None
 under above records (Some j) = if same_tree (above (take j records)) (above records) then Some j else None
 
--- The current tree of a level. That of level 0 is the Key's; that of a lower level is the tree of the last Extend of
--- that level, if its parent is the current tree of the level above.
+-- The current tree of a level. At level 0 it is the Key's; below, the tree of the level's last Extend, if its parent is
+-- the current tree above.
 abbrev pub current : ℕ → List Record → Option ℕ
 current zero = λ records. Some 0
 current (suc level) = λ records. under (current level) records (last_from (suc level) 0 None records)
@@ -79,7 +79,7 @@ abbrev pub number_in : (tree : ℕ) → Option (ℕ × ℕ) → ℕ
 number_in tree None = 0
 number_in tree (Some (other, n)) = if nat_eq other tree then n else 0
 
--- the numbers that records reach in a tree, those from place k on
+-- the numbers that records from place k on reach in a tree
 abbrev pub numbers_from : Secret → (all : List Record) → (tree k : ℕ) → List Record → List ℕ
 numbers_from secret all tree k [] = []
 numbers_from secret all tree k (entry ∷ rest) =
@@ -113,21 +113,21 @@ free_at secret records level =
 abbrev pub free_counts : Secret → List Record → List ℕ
 free_counts secret records = map (free_at secret records) (range_with_len 0 (levels_of secret))
 
--- ---- what a request for a new name wants
+-- ---- what a new name needs
 
 -- the deepest level whose current tree has a free leaf
 abbrev pub deepest : Secret → List Record → Option ℕ
 deepest secret records =
     find (λ level. nat_lt 0 (free_at secret records level)) (reverse (range_with_len 0 (levels_of secret)))
 
--- An Extend for each level below it, and a Bound: this many records. Each takes the next leaf of its parent tree, or of
--- the bottom tree.
+-- How many records a new name needs: an Extend for each level below the deepest with a free leaf, and a Bound. Each
+-- takes the next leaf of its parent tree, or of the bottom tree.
 abbrev pub wanted_count : Secret → (deepest_level : ℕ) → ℕ
 wanted_count secret level = levels_of secret - level
 
 -- ---- what is bound
 
--- whether two lists of bytes are one
+-- whether two lists of bytes are equal
 abbrev pub are_same : List ℕ → List ℕ → Bool
 are_same a b = pointwise nat_eq a b
 
@@ -139,7 +139,7 @@ binds name (ExtendRecord extend) = None
 binds name (Retire upto) = None
 binds name Moved = None
 
--- a name's binding with its place, where the record at place k is looked at before later ones
+-- a name's binding with its place: the record at place k's, or else a later one
 abbrev pub or_later : (k : ℕ) → Option Bound → Option (ℕ × Bound) → Option (ℕ × Bound)
 or_later k (Some bound) later = Some (k, bound)
 or_later k None later = later
@@ -167,13 +167,13 @@ has_identifier records identifier = is_some (find (λ entry. is_of identifier (i
 
 -- ---- which records can be added
 
--- whether a leaf of a level's current tree, if there is one, can be named
+-- whether a leaf of a level's current tree can be named
 abbrev pub is_free : Secret → List Record → (level leaf : ℕ) → Bool
 is_free secret records level leaf =
     is_some (current level records) && nat_lt leaf (leaves_at secret level)
     && nat_le (next_at secret records level) leaf
 
--- C stands in the records of bindings, but for XMSS, where it is zero
+-- a binding's C is any; for XMSS it is zero
 abbrev pub has_randomizer : Secret → (randomizer : List ℕ) → Bool
 has_randomizer (Lms secret) randomizer = true
 has_randomizer (Hss levels identifier seed) randomizer = true
@@ -183,12 +183,12 @@ has_randomizer (Xmss secret) randomizer = are_same randomizer (replicate 32 0)
 abbrev pub leaves_of_current : Secret → List Record → (level : ℕ) → ℕ
 leaves_of_current secret records level = if is_some (current level records) then leaves_at secret level else 0
 
--- whether records of this version may go on in another file: those of version 1 may, and go on in version 2
+-- whether records of this version may go on in another file, in version 2
 abbrev pub can_move : Version → Bool
 can_move One = true
 can_move Two = false
 
--- whether a record can stand after these, which are some and legal
+-- whether a record can follow these, a legal list of one record or more
 abbrev pub can_follow_legal : Key → (before : List Record) → Record → Bool
 can_follow_legal key before (KeyRecord other) = false
 can_follow_legal key before (ExtendRecord extend) =
@@ -206,7 +206,7 @@ can_follow (Some key) before entry = not (has_moved before) && can_follow_legal 
 can_follow None [] (KeyRecord key) = true
 can_follow None before entry = false
 
--- the first record, from place k on, that can't stand after those before it
+-- the first record, from place k on, that can't follow the records before it
 abbrev pub illegal_from : (all : List Record) → (k : ℕ) → List Record → Option ℕ
 illegal_from all k [] = None
 illegal_from all k (entry ∷ rest) =

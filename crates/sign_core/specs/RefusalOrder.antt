@@ -1,4 +1,4 @@
--- Which refusal each event answers: of the causes that are there, the first one in this order decides.
+-- Which refusal each event answers: the first cause that applies, in this order.
 use Rattle.std.specs.Prelude.{◌≡◌, ◌≢◌, ◌⊎◌, ◌↔◌, ℕ, zero, suc, ◌+◌, ◌-◌, ◌<◌, ◌≤◌, true, false, List, [], ◌∷◌}
 use Rattle.std.specs.Prelude.{length, IsOk, Option, Some, None, Result, Err}
 use Rattle.typecodes.specs.declared.spec.Spec.{Spec}
@@ -25,13 +25,13 @@ use Rattle.sign_core.specs.World.{created, first_draw, later_draws, opened, requ
 
 -- ---- causes in their order
 
--- A fault is answered that has such a cause; or none has one, and what comes after decides.
+-- A fault with such a cause is answered; or no fault has one, and `Rest` decides.
 pub record Unless {A : Type 0} (HasCause : SignFault → Type 0) (Rest : Result A SignFault → Type 0)
     (answer : Result A SignFault) : Type 0 where
   pub decided : ((fault : SignFault) × HasCause fault × (answer ≡ Err fault))
       ⊎ (((fault : SignFault) → HasCause fault → ⊥) × Rest answer)
 
--- This fault alone has a cause: this one.
+-- This fault alone has a cause, and this is the cause.
 abbrev pub Of : SignFault → (Cause : Type 0) → SignFault → Type 0
 Of named Cause fault = (fault ≡ named) × Cause
 
@@ -39,7 +39,7 @@ Of named Cause fault = (fault ≡ named) × Cause
 abbrev pub IsUnsound : (damaged : Option ℕ) → SignFault → Type 0
 IsUnsound damaged fault = (slot : ℕ) × (damaged ≡ Some slot) × (fault ≡ Damaged slot)
 
--- an append is cut off (25), or there is no memory for its record (29)
+-- an append is cut (25), or there is no memory for its record (29)
 abbrev pub AfterAppend : {A : Type 0} → Fate → (Rest : Result A SignFault → Type 0) → Result A SignFault → Type 0
 AfterAppend fate Rest =
     Unless (Of StoreFailed ((fate ≡ cut_old) ⊎ (fate ≡ cut_new)))
@@ -58,7 +58,7 @@ abbrev pub HasChanged : Key → List Record → (k : ℕ) → Bound → (given :
 HasChanged key records k bound given = (message : List ℕ) × (given ≡ Some message)
     × (digest_at key records k bound.leaf bound.randomizer message ≢ bound.digest)
 
--- Under a name that is bound by the record at place k: 27, 21, 29, 28.
+-- Under a name that the record at place k binds: 27, 21, 29, 28.
 abbrev pub RefusesRepeat : State → Key → (k : ℕ) → Bound → Chance → Result (List ℕ) SignFault → Type 0
 RefusesRepeat state key k bound chance =
     let bottom = bottom_of key.secret in
@@ -75,8 +75,7 @@ HasNoLeaf secret records = (level : ℕ) → level < levels_of secret → free_a
 abbrev pub BeginsWith : (fields : List (List ℕ)) → (identifier : List ℕ) → Type 0
 BeginsWith fields identifier = (others : List (List ℕ)) × (fields ≡ identifier ∷ others)
 
--- For a new tree: 23 where I isn't drawn, 24 where it is known, 23 where SEED or C isn't drawn, and those of its
--- append.
+-- For a new tree: 23 where I isn't drawn, 24 where it is known, 23 where SEED or C isn't drawn, and its append's.
 abbrev pub RefusesTree : (IsKnown : List ℕ → Type 0) → Draw → (Rest : Result (List ℕ) SignFault → Type 0)
     → Result (List ℕ) SignFault → Type 0
 RefusesTree IsKnown draw Rest =
@@ -84,8 +83,8 @@ RefusesTree IsKnown draw Rest =
     (Unless (Of RandomRepeated ((identifier : List ℕ) × BeginsWith draw.fields identifier × IsKnown identifier))
     (Unless (Of RandomFailed (length draw.fields < 3)) (AfterAppend draw.fate Rest)))
 
--- For the wanted records, of which so many are new trees, one after the other: the I of each tree is known to those
--- after it. And for the binding 23 where C isn't drawn, 27, and those of its append.
+-- For `below` new trees, one after the other: the I of each is known to the later ones. Then for the binding: 23 where
+-- C isn't drawn, 27, and its append's.
 abbrev pub RefusesWanted : Key → Chance → (below : ℕ) → List Draw → (IsKnown : List ℕ → Type 0)
     → Result (List ℕ) SignFault → Type 0
 RefusesWanted key chance zero = λ draws IsKnown.
@@ -97,7 +96,7 @@ RefusesWanted key chance (suc below) = λ draws IsKnown.
     (RefusesWanted key chance below (later_draws draws)
     (λ identifier. IsKnown identifier ⊎ BeginsWith fields identifier))
 
--- Under a new name, where this level is the deepest with a free leaf: 30, 29, 28, and those of the wanted records.
+-- Under a new name, where this level is the deepest with a free leaf: 30, 29, 28, and `RefusesWanted`.
 abbrev pub RefusesAt : (limit : ℕ) → State → Key → Chance → (level : ℕ) → Result (List ℕ) SignFault → Type 0
 RefusesAt limit state key chance level =
     let records = state.records in
@@ -107,35 +106,35 @@ RefusesAt limit state key chance level =
     (RefusesWanted key chance (bottom_of key.secret - level) chance.trees
     (λ identifier. has_identifier records identifier ≡ true))))
 
--- Under a new name that a file of the key's version can hold: 22, and then those.
+-- Under a new name that a file of the key's version can hold: 22, and `RefusesAt`.
 abbrev pub RefusesNew : (limit : ℕ) → State → Key → Chance → Result (List ℕ) SignFault → Type 0
 RefusesNew limit state key chance =
     Unless (Of Exhausted (HasNoLeaf key.secret state.records))
     (λ answer. (level : ℕ) × (deepest key.secret state.records ≡ Some level)
     × RefusesAt limit state key chance level answer)
 
--- Under a name, by the binding that it has; where it has none, 33 if it is longer than such a file can hold, and then
--- those.
+-- Under a bound name `RefusesRepeat`; under a new one 33 if it is longer than a file of the key's version can hold, and
+-- `RefusesNew`.
 abbrev pub RefusesName : (limit : ℕ) → State → Key → (name : List ℕ) → Chance → Option (ℕ × Bound)
     → Result (List ℕ) SignFault → Type 0
 RefusesName limit state key name chance (Some (k, bound)) = RefusesRepeat state key k bound chance
 RefusesName limit state key name chance None =
     Unless (Of LongName (name_most key.version < length name)) (RefusesNew limit state key chance)
 
--- A request: 26, 31, and those of its name, by the binding that this has.
+-- A request: 26, 31, and `RefusesName`.
 abbrev pub RefusesRequest : (limit : ℕ) → State → Key → (name : List ℕ) → Chance → Result (List ℕ) SignFault → Type 0
 RefusesRequest limit state key name chance =
     WhereOpen state (RefusesName limit state key name chance (binding_in state.records name))
 
 -- ---- the other events
 
--- A retiring that records nothing, as no leaf below this one is free, is Ok; else 30 and those of the append.
+-- A retiring is Ok, and records nothing, where no leaf below `upto` is free; else 30, and its append's.
 abbrev pub RefusesRecord : (limit : ℕ) → State → (next upto : ℕ) → Fate → Result (Unit {0}) SignFault → Type 0
 RefusesRecord limit state next upto fate answer = ((upto ≤ next) × IsOk answer)
     ⊎ ((next < upto)
     × Unless (Of LedgerFull (limit < length state.records + 1)) (AfterAppend fate IsOk) answer)
 
--- A retiring: 26, 31, 32, and those.
+-- A retiring: 26, 31, 32, and `RefusesRecord`.
 abbrev pub RefusesRetire : (limit : ℕ) → State → Key → (upto : ℕ) → Fate → Result (Unit {0}) SignFault → Type 0
 RefusesRetire limit state key upto fate =
     let bottom = bottom_of key.secret in
@@ -143,7 +142,7 @@ RefusesRetire limit state key upto fate =
     (Unless (Of RetireRange (leaves_of_current key.secret state.records bottom < upto))
     (RefusesRecord limit state (next_at key.secret state.records bottom) upto fate))
 
--- A create: what record 0 couldn't be loaded for, 50, 23, 29, and those of the append.
+-- A create: why record 0 couldn't be loaded, 50, 23, 29, and its append's.
 abbrev pub RefusesCreate : {A : Type 0} → State → Spec → Creation → Result A SignFault → Type 0
 RefusesCreate state spec chance =
     Unless (λ fault. chance.failed_load ≡ Some fault)
@@ -151,12 +150,12 @@ RefusesCreate state spec chance =
     (Unless (Of RandomFailed (length chance.fields < length (key_sizes spec)))
     (Unless (Of OutOfMemory (chance.has_room ≡ false)) (AfterAppend chance.fate IsOk))))
 
--- a record isn't legal (44), and each that is before it or there could be loaded
+-- a record isn't legal (44), and all up to it could be loaded
 abbrev pub IsIllegalFirst : List Record → Opening → SignFault → Type 0
 IsIllegalFirst records chance fault = (k : ℕ) × (first_illegal records ≡ Some k) × (fault ≡ Illegal k)
     × ((slot : ℕ) (other : SignFault) → chance ≡ Some (slot, other) → k < slot)
 
--- An opening: 44, what a record couldn't be loaded for, 40.
+-- An opening: 44, why a record couldn't be loaded, 40.
 abbrev pub RefusesOpening : {A : Type 0} → State → Opening → Result A SignFault → Type 0
 RefusesOpening state chance =
     Unless (IsIllegalFirst state.records chance)
@@ -169,7 +168,7 @@ RefusesOpening state chance =
 abbrev pub RefuseAlike : {A : Type 0} → (one other : Result A SignFault) → Type 0
 RefuseAlike one other = (fault : SignFault) → (one ≡ Err fault) ↔ (other ≡ Err fault)
 
--- Each answer is the refusal of the first cause that is there, and Ok where there is none; and no other answer is.
+-- Each answer is the refusal of the first cause that applies, or Ok without one; and no other answer is.
 pub record RefusalLaw : Type 0 where
   pub request : (limit : ℕ) (state : State) (key : Key) (name : List ℕ) (chance : Chance)
       → key_in state.records ≡ Some key → AreDrawsOf key.secret chance

@@ -22,14 +22,14 @@ use Rattle.sign_core.specs.World.{refused, randomizer_from, requested}
 use Rattle.sign_core.specs.Events.{tree_sizes, randomizer_sizes, AreDrawsOf}
 use Rattle.sign_core.specs.Headline.{IsBoundTo}
 
--- ---- draws of which none is missing
+-- ---- draws without a failure
 
 -- as many fields as sizes, and an append that is acknowledged
 pub record IsComplete (sizes : List ℕ) (draw : Draw) : Type 0 where
   pub fields : length draw.fields ≡ length sizes
   pub acknowledged : draw.fate ≡ acked
 
--- What a request draws for so many new trees and a binding: nothing of it fails.
+-- A request's draws for `trees` new trees and a binding: none of them fails.
 pub record AreComplete (secret : Secret) (trees : ℕ) (chance : Chance) : Type 0 where
   pub enough : length chance.trees ≡ trees
   pub each : (i : ℕ) (draw : Draw) → slice_get chance.trees i ≡ Some draw → IsComplete tree_sizes draw
@@ -61,7 +61,7 @@ pub record BindsName (key : Key) (before : List Record) (name message : List ℕ
 abbrev pub bytes_drawn : List Draw → List ℕ
 bytes_drawn draws = concat (map (λ (draw : Draw). concat draw.fields) draws)
 
--- all that is drawn where nothing is missing: for each new tree, and then for the binding
+-- all that is drawn without a failure: for each new tree, and then for the binding
 abbrev pub all_drawn : Chance → List ℕ
 all_drawn chance = bytes_drawn chance.trees ++ concat chance.bound.fields
 
@@ -84,8 +84,8 @@ pub record IsSigned (key : Key) (records : List Record) (level : ℕ) (name mess
   pub read : outcome.is_read ≡ true
   pub uncut : outcome.failed ≡ None
 
--- With these records there was one more draw for a new tree, after so many had been begun, and its I stands in them.
--- Nothing was drawn but all fields of those trees, and this I.
+-- After `begun` new trees one more I was drawn, and it stands in the records that are left. Nothing was drawn but all
+-- fields of these trees, and this I.
 pub record DrewAgain (before : List Record) (draws : List Draw) (left : List Record) (drawn : List ℕ) : Type 0 where
   pub begun : ℕ
   pub draw : Draw
@@ -110,8 +110,8 @@ pub record AreRequestsAnswered (limit : ℕ) (world : World) : Type 0 where
   pub read : (name signature : List ℕ) (chance : Chance)
       → (requested limit world.state name chance).answer ≡ Ok signature
       → IsSome chance.given × ((requested limit world.state name chance).is_read ≡ true)
-  -- a request to an open signer whose name is bound to another digest is refused as changed, and changes nothing; no
-  -- record follows a Moved
+  -- a request to an open signer under a name bound to another digest is refused as changed, and changes nothing; the
+  -- records don't end with a Moved
   pub changed : (key : Key) (k : ℕ) (bound : Bound) (name message : List ℕ) (chance : Chance)
       → world.state.is_open ≡ true → has_moved world.state.records ≡ false → key_in world.state.records ≡ Some key
       → binding_in world.state.records name ≡ Some (k, bound) → chance.given ≡ Some message
@@ -138,8 +138,8 @@ pub record AreRequestsAnswered (limit : ℕ) (world : World) : Type 0 where
       → has_moved world.state.records ≡ false → key_in world.state.records ≡ Some key
       → binding_in world.state.records name ≡ None → name_most key.version < length name
       → requested limit world.state name chance ≡ refused world.state LongName
-  -- any other new name is signed where a leaf is free, the store takes the records that are wanted and nothing fails,
-  -- but for an I that was drawn before
+  -- any other new name is signed if a leaf is free, the store takes the records that it needs and nothing fails, except
+  -- for an I that was drawn before
   pub fresh : (key : Key) (level : ℕ) (name message : List ℕ) (chance : Chance) → world.state.is_open ≡ true
       → has_moved world.state.records ≡ false → key_in world.state.records ≡ Some key
       → binding_in world.state.records name ≡ None → length name ≤ name_most key.version
@@ -153,7 +153,7 @@ pub record AreRequestsAnswered (limit : ℕ) (world : World) : Type 0 where
       → (requested limit world.state name chance).answer ≡ Err RandomRepeated
       → DrewAgain world.state.records chance.trees (requested limit world.state name chance).state.records
       (requested limit world.state name chance).drawn
-  -- a request draws I, SEED and C at most for each level below the top, and C for the binding, but XMSS nothing
+  -- a request draws at most I, SEED and C for each level below the top, and C for the binding; for XMSS nothing
   pub draws : (key : Key) (name : List ℕ) (chance : Chance) → key_in world.state.records ≡ Some key
       → AreDrawsOf key.secret chance
       → length (requested limit world.state name chance).drawn
@@ -169,7 +169,7 @@ pub record AreRequestsAnswered (limit : ℕ) (world : World) : Type 0 where
       → binding_in world.state.records name ≡ None → length name ≤ name_most key.version
       → ((requested limit world.state name chance).answer ≡ Err Exhausted)
       ↔ (deepest key.secret world.state.records ≡ None)
-  -- no request is answered that a record is damaged
+  -- no request is refused for a damaged record
   pub undamaged : (name : List ℕ) (chance : Chance) (slot : ℕ)
       → (requested limit world.state name chance).answer ≢ Err (Damaged slot)
   -- a request whose append the store fails closes the signer

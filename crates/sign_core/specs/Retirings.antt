@@ -15,23 +15,22 @@ pub record IsActive (state : State) (key : Key) : Type 0 where
   pub stays : has_moved state.records ≡ false
   pub keyed : key_in state.records ≡ Some key
 
--- The current bottom tree has leaves up to this number, and the next one isn't as far.
+-- The current bottom tree has leaves up to this number, which is beyond the next one.
 pub record IsBeyondNext (records : List Record) (key : Key) (upto : ℕ) : Type 0 where
   pub inside : upto ≤ leaves_of_current key.secret records (bottom_of key.secret)
   pub beyond : next_at key.secret records (bottom_of key.secret) < upto
 
 -- What retirings answer in a world, and what they change.
 pub record AreRetiringsAnswered (limit : ℕ) (world : World) : Type 0 where
-  -- a retiring up to a leaf beyond the next one is recorded, where the tree has these leaves, the store has room and
-  -- nothing fails
+  -- a retiring beyond the next leaf is recorded, if the tree has these leaves, the store has room and nothing fails
   pub retires : (key : Key) (upto : ℕ) → world.state.is_open ≡ true → has_moved world.state.records ≡ false
       → key_in world.state.records ≡ Some key
       → upto ≤ leaves_of_current key.secret world.state.records (bottom_of key.secret)
       → next_at key.secret world.state.records (bottom_of key.secret) < upto
       → length world.state.records + 1 ≤ limit
       → retired limit world.state upto acked ≡ answered (open_on (world.state.records ++ Retire upto ∷ [])) tt
-  -- after a Moved one is refused; so is one up to more leaves than the tree has; one up to a leaf that is no further
-  -- than the next is answered; and none of them changes anything
+  -- one after a Moved is refused; so is one of more leaves than the tree has; one no further than the next leaf is
+  -- answered; and none of them changes anything
   pub moved : (key : Key) (upto : ℕ) (fate : Fate) → world.state.is_open ≡ true
       → has_moved world.state.records ≡ true → key_in world.state.records ≡ Some key
       → retired limit world.state upto fate ≡ refused world.state Moved
@@ -42,7 +41,7 @@ pub record AreRetiringsAnswered (limit : ℕ) (world : World) : Type 0 where
       → upto ≤ leaves_of_current key.secret world.state.records (bottom_of key.secret)
       → upto ≤ next_at key.secret world.state.records (bottom_of key.secret)
       → retired limit world.state upto fate ≡ answered world.state tt
-  -- one beyond the next leaf is refused where the store is full, or has no memory, and changes nothing
+  -- one beyond the next leaf is refused where the store is full, or memory is refused, and changes nothing
   pub full : (key : Key) (upto : ℕ) (fate : Fate) → IsActive world.state key
       → IsBeyondNext world.state.records key upto → limit < length world.state.records + 1
       → retired limit world.state upto fate ≡ refused world.state LedgerFull

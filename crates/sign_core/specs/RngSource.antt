@@ -2,7 +2,6 @@
 use Rattle.std.specs.Prelude.{ℕ}
 use Rattle.sign_core.specs.declared.rng_source.RngSource.{RngSource}
 
--- the generator
 abbrev pub rng_of : {T E : Type 0} → RngSource T E → T
 rng_of source = source.rng
 

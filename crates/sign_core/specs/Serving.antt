@@ -1,4 +1,4 @@
--- What serving requests over an input comes to: their answers, the replies that are written, and what it ends with.
+-- What serving requests over an input does: the answers, the replies that are written, and how it ends.
 use Rattle.std.specs.Prelude.{◌≡◌, ◌⊎◌, ℕ, ◌<◌, ◌≤◌, ◌^◌, Bool, true, false, List, [], ◌∷◌, ◌++◌, length, map, Option}
 use Rattle.std.specs.Prelude.{Some, None, Result, Ok, Err, IsSome}
 use Rattle.std.specs.List.{concat}
@@ -32,13 +32,13 @@ abbrev pub body_of : SignFault → List ℕ
 body_of (Damaged slot) = big_bytes 4 slot
 body_of _ = []
 
--- the bytes of what is replied, where it is Ok with this signature
+-- the bytes of a reply, for Ok with this signature
 abbrev pub reply_bytes : Reply → (signature : List ℕ) → List ℕ
 reply_bytes Signed signature = reply_frame 0 signature
 reply_bytes (Refused fault) signature = reply_frame (number_of fault) (body_of fault)
 reply_bytes BadName signature = reply_frame 34 []
 
--- a request and what is replied to it
+-- a request and its reply
 pub record Exchange : Type 0 where
   pub request : Request
   pub reply : Reply
@@ -49,16 +49,16 @@ reply_of exchange = reply_bytes exchange.reply exchange.signature
 
 -- ---- answers
 
--- A request is answered by a step of the world, as a call of sign is, whose message gave this, if it was read: the text
--- of all of it, or nothing, where it can't be read.
+-- A request is answered by a step of the world, as by a call of sign. Its message gave this, if it was read: all of its
+-- text, or None where it can't be read.
 pub record SignsGiven {S R : Type 0} (g : store.Ghosts S) (r : source.Ghosts R) (old new : View S R) (name : List ℕ)
     (given : Option (List ℕ)) (capacity : ℕ) (answer : Result (List ℕ) SignFault) : Type 0 where
   pub answers : AnswersRequest g r old new name capacity answer
   pub message : answers.outcome.is_read ≡ true → answers.chance.given ≡ given
   pub repeat : IsSome (binding_in old.records name) → KeepsForRepeat old new (is_fault is_before_repeat answer)
 
--- What is replied to a request is the signer's answer, whose output had this capacity; or the name's bytes are no name,
--- and the signer isn't asked.
+-- The reply is the signer's answer, with an output of this capacity; or the name's bytes are no name, and the signer
+-- isn't asked.
 abbrev pub AnswersBy : {S R : Type 0} → store.Ghosts S → source.Ghosts R → Reply → (signature : List ℕ) → Request
     → (old new : View S R) → (capacity : ℕ) → Type 0
 AnswersBy g r Signed signature request old new capacity =
@@ -67,7 +67,7 @@ AnswersBy g r (Refused fault) signature request old new capacity =
     IsName request.name × SignsGiven g r old new request.name (given_by request) capacity (Err fault)
 AnswersBy g r BadName signature request old new capacity = (IsName request.name → ⊥) × (new ≡ old)
 
--- The output's capacity isn't given away, and grows no further than the signature takes.
+-- The output keeps its capacity, which grows no further than the signature takes.
 abbrev pub AnswersExchange : {S R : Type 0} → store.Ghosts S → source.Ghosts R → Exchange → (old new : View S R)
     → (capacity after : ℕ) → Type 0
 AnswersExchange g r exchange old new capacity after =
@@ -89,8 +89,8 @@ AreFrames [] bytes = bytes ≡ []
 AreFrames (first ∷ later) bytes = (own : List ℕ) × (rest : List ℕ) × (bytes ≡ own ++ rest)
     × IsFrame first.request own × IsWholeMessage first.request × AreFrames later rest
 
--- What is replied to the next bytes of an input, and what is then ended with, if anything: a whole frame; a head that
--- is cut at the input's end (35), or where a read fails (27); or a message that is cut (27).
+-- The reply to the next bytes of an input, and the fault that ends the serving, if any: a whole frame; a head cut at
+-- the input's end (35), or by a read that fails (27); or a message that is cut (27).
 abbrev pub Turn : (bytes : List ℕ) → Ending → List Exchange → (reply : List ℕ) → Option ServeFault → Type 0
 Turn bytes ending exchanges reply None = (exchange : Exchange) × (exchanges ≡ exchange ∷ []) × (ending ≡ going)
     × IsFrame exchange.request bytes × IsWholeMessage exchange.request × (reply ≡ reply_of exchange)
@@ -102,8 +102,8 @@ Turn bytes ending exchanges reply (Some MessageRead) =
     × IsCut ending exchange.request × (reply ≡ reply_of exchange))
 Turn bytes ending exchanges reply (Some WriteFailed) = ⊥
 
--- What a turn comes to, where so much was written: the reply, or a part of it where writing fails (36); or the input is
--- at its end, and nothing is replied.
+-- How a turn ends, and what was written: the reply, or a part of it where writing fails (36); or nothing, at the end of
+-- the input.
 abbrev pub TurnEnds : (bytes : List ℕ) → Ending → List Exchange → (written : List ℕ) → Result Bool ServeFault → Type 0
 TurnEnds bytes ending exchanges written (Ok true) = Turn bytes ending exchanges written None
 TurnEnds bytes ending exchanges written (Ok false) =
@@ -113,8 +113,7 @@ TurnEnds bytes ending exchanges written (Err MessageRead) = Turn bytes ending ex
 TurnEnds bytes ending exchanges written (Err WriteFailed) =
     (lost : List ℕ) × (fault : Option ServeFault) × Turn bytes ending exchanges (written ++ lost) fault
 
--- How an exchange closes after so many whole frames: at the input's end, or after 2^32 replies; or by a turn that
--- fails.
+-- How serving ends after `count` whole frames: at the input's end, or after 2^32 replies; or by a turn that fails.
 abbrev pub Closes : (count : ℕ) → (bytes : List ℕ) → Ending → List Exchange → (written : List ℕ)
     → Result ℕ ServeFault → Type 0
 Closes count bytes ending exchanges written (Ok n) =
@@ -123,8 +122,8 @@ Closes count bytes ending exchanges written (Ok n) =
 Closes count bytes ending exchanges written (Err fault) =
     (count < 2 ^ 32) × TurnEnds bytes ending exchanges written (Err fault)
 
--- An input, which ended so, is whole frames and what closes the exchange; these requests are in it; and the output is
--- their replies, one after the other.
+-- An input is whole frames and the bytes of the last turn; these requests are in it; and the output is their replies,
+-- one after the other.
 pub record Session (input : List ℕ) (ending : Ending) (exchanges : List Exchange) (output : List ℕ)
     (result : Result ℕ ServeFault) : Type 0 where
   pub whole : List Exchange

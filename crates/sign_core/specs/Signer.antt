@@ -42,8 +42,8 @@ use Rattle.sign_core.specs.Textbook.{AllHaveSizes}
 
 -- ---- a signer
 
--- What a signer is, to its callers: its store, its source, its records, whether it is open, for how many more records
--- it has memory, and of which trees it has the caches.
+-- A signer as callers see it: its store, source and records, whether it is open, for how many more records it has
+-- memory, and the trees that it has caches of.
 pub record View (S R : Type 0) : Type 0 where
   pub store : S
   pub random : R
@@ -52,7 +52,7 @@ pub record View (S R : Type 0) : Type 0 where
   pub spare : ℕ
   pub cached : Cached
 
--- one with these parts, and the ledger's records and memory
+-- a signer of these parts, with the ledger's records and memory
 abbrev pub view_of : {S R : Type 0} → S → R → Table → (caches : Cached) → (is_open : Bool) → View S R
 view_of store random ledger caches is_open = record {
   store = store;
@@ -71,13 +71,13 @@ caching view caches = record view { cached = caches }
 abbrev pub state_of : {S R : Type 0} → View S R → State
 state_of view = record { records = view.records; is_open = view.is_open }
 
--- The store runs, it has as many records, and where it is honest it has these.
+-- The store runs and has as many records; an honest one has these.
 pub record IsTied {S : Type 0} (g : store.Ghosts S) (kept_in : S) (records : List Record) : Type 0 where
   pub running : g.stopped kept_in ≡ false
   pub long : length (g.list kept_in) ≡ length records
   pub same : IsTrue (g.honest kept_in) → g.list kept_in ≡ records
 
--- Its records are legal. While it is open they are those of its store; where it is closed, its store has stopped.
+-- Its records are legal. While it is open, they are its store's; where it is closed, its store has stopped.
 pub record IsSigner {S R : Type 0} (g : store.Ghosts S) (view : View S R) : Type 0 where
   pub legal : IsLegal view.records
   pub sizes : AllHaveSizes view.records
@@ -92,7 +92,6 @@ pub record GrowsAlike (old_list new_list old_records new_records : List Record) 
   pub list : new_list ≡ old_list ++ more
   pub records : new_records ≡ old_records ++ more
 
--- the device failed, the source did, or memory was refused
 abbrev pub is_store_failed : SignFault → Bool
 is_store_failed StoreFailed = true
 is_store_failed _ = false
@@ -115,8 +114,8 @@ abbrev pub unreadable_slot : SignFault → List ℕ
 unreadable_slot (Unreadable k) = k ∷ []
 unreadable_slot _ = []
 
--- What a call does to its store: the list grows as the records do; a stop at any moment of it leaves the old records
--- and a beginning of those that were reached; and each failure of the device is answered.
+-- What a call does to its store: the list grows as the records do. A crash at any moment leaves the old records and a
+-- beginning of those that the call reached. Each failure of the device is answered.
 pub record KeepsStore {S A : Type 0} (g : store.Ghosts S) (old new : S) (records : List Record)
     (outcome : Outcome A) : Type 0 where
   pub list : GrowsAlike (g.list old) (g.list new) records outcome.state.records
@@ -126,7 +125,7 @@ pub record KeepsStore {S A : Type 0} (g : store.Ghosts S) (old new : S) (records
   pub honest : g.honest new ≡ g.honest old
   pub most : g.most new ≡ g.most old
 
--- The outcome is that of a call of a signer.
+-- A signer's call ends with this outcome.
 pub record Ends {S R A : Type 0} (g : store.Ghosts S) (old new : View S R) (outcome : Outcome A)
     (answer : Result A SignFault) : Type 0 where
   pub answer_is : outcome.answer ≡ answer
@@ -135,16 +134,16 @@ pub record Ends {S R A : Type 0} (g : store.Ghosts S) (old new : View S R) (outc
   pub store : KeepsStore g old.store new.store old.records outcome
   pub unreadable : g.unreadable new.store ≡ g.unreadable old.store
 
--- .. or of a call that adds nothing, the old list
+-- A crash at any moment of a call that adds nothing leaves the old list.
 abbrev pub LeavesOld : {S : Type 0} → store.Ghosts S → (old new : S) → Type 0
 LeavesOld g old new = WhileRunning (g.honest old) (g.stopped old)
     (LeavesOnly g.moment g.left_since old new (λ left. left ≡ g.list old))
 
--- The memory falls by no more than that for the records that are added.
+-- Memory falls by no more than the added records take.
 abbrev pub UsesMemory : {S R : Type 0} → (old new : View S R) → Type 0
 UsesMemory old new = old.spare + length old.records ≤ new.spare + length new.records
 
--- a signer that changed at most in how much memory it has
+-- a signer that changed at most in its memory and caches
 pub record KeepsAll {S R : Type 0} (old new : View S R) : Type 0 where
   pub store : new.store ≡ old.store
   pub random : new.random ≡ old.random
@@ -157,26 +156,26 @@ is_of_append StoreFailed = true
 is_of_append OutOfMemory = true
 is_of_append _ = false
 
--- It is so unless a record was added, or its append failed.
+-- Kept holds, unless a record was added or its append failed.
 abbrev pub UnlessAppended : {S R A : Type 0} → (old new : View S R) → Result A SignFault → Type 0 → Type 0
 UnlessAppended old new answer Kept = new.records ≡ old.records → is_fault is_of_append answer ≡ false → Kept
 
 -- ---- sign
 
--- how many bytes a key's signatures have
+-- the length of a key's signatures in bytes
 abbrev pub signature_size : Secret → ℕ
 signature_size (Lms secret) = lms_signature_len_of secret.pair
 signature_size (Hss levels identifier seed) = hss_signature_size levels
 signature_size (Xmss secret) = xmss_signature_len_of secret.tree
 
--- how many records a new name wants
+-- how many records a new name needs
 abbrev pub wanted_by : Secret → Option ℕ → ℕ
 wanted_by secret None = 0
 wanted_by secret (Some level) = wanted_count secret level
 
--- What a request lacks memory for. The output, of this capacity, can't take the signature; or there is no memory for as
--- many more records as a name wants that isn't bound; or the cache of a tree isn't there: one that is current, down to
--- the deepest level with a free leaf, or for a name that is bound one that was current before its record, too.
+-- Where a request may be refused memory. The output's capacity is too small for the signature; or there is no memory
+-- for a new name's records; or a cache is missing. For a new name it is a current tree's, down to the deepest level
+-- with a free leaf. For a bound name it is a current tree's that stood before its record.
 abbrev pub LacksMemory : {S R : Type 0} → Key → View S R → (level : Option ℕ) → Option (ℕ × Bound) → (capacity : ℕ)
     → Type 0
 LacksMemory key view level (Some (k, bound)) capacity = (capacity < signature_size key.secret)
@@ -184,31 +183,30 @@ LacksMemory key view level (Some (k, bound)) capacity = (capacity < signature_si
 LacksMemory key view level None capacity = (capacity < signature_size key.secret)
     ⊎ (view.spare < wanted_by key.secret level) ⊎ LacksCache key view.records level (length view.records) view.cached
 
--- What becomes of the message: it was read whole and gave this text, or can't be read; or it is as it was.
+-- The message was read whole and gave this text, or can't be read; or it is as it was.
 abbrev pub IsRead : {M : Type 0} → message.Ghosts M → (is_read : Bool) → (given : Option (List ℕ)) → M → M → Type 0
 IsRead m true (Some text) old new = ReadWhole m.transition m.remaining text old new
 IsRead m true None old new = CantBeRead m.transition old new
 IsRead m false given old new = new ≡ old
 
--- A refusal for want of memory that comes after draws is one of the store, which counts it, or of the cache of a new
--- tree.
+-- A 29 after draws is the store's, which counts it, or is for the cache of a new tree.
 abbrev pub RefusesAfterDraws : {A : Type 0} → Result A SignFault → (before after : ℕ) → Type 0
 RefusesAfterDraws answer before after =
     Counts is_out_of_memory before after answer ⊎ ((answer ≡ Err OutOfMemory) × (after ≡ before))
 
--- A refusal for want of memory is the signer's own, before anything is drawn, or such a one.
+-- A 29 is the signer's own, before anything is drawn, or one after draws.
 abbrev pub RefusesMemory : {A : Type 0} → (has_room : Bool) → Result A SignFault → (before after : ℕ) → Type 0
 RefusesMemory true answer before after = RefusesAfterDraws answer before after
 RefusesMemory false answer before after = after ≡ before
 
--- If memory ran out after a draw, and not in the store, the cache of a new tree was to be made: at least one tree and
--- the binding weren't recorded yet.
+-- If memory ran out after a draw, and not in the store, it was for a new tree's cache: at least one tree and the
+-- binding weren't recorded yet.
 abbrev pub LacksTree : {S R A : Type 0} → store.Ghosts S → (wanted : ℕ) → (old new : View S R) → Result A SignFault
     → Type 0
 LacksTree g wanted old new answer = answer ≡ Err OutOfMemory → g.refusals new.store ≡ g.refusals old.store
     → length new.records + 1 < length old.records + wanted
 
--- 22, 26, 28, 30, 31 and 33 come to a new name before anything is drawn.
+-- Under a new name 22, 26, 28, 30, 31 and 33 come before anything is drawn.
 abbrev pub is_before_draws : SignFault → Bool
 is_before_draws Exhausted = true
 is_before_draws Stopped = true
@@ -227,15 +225,15 @@ is_before_caches Moved = true
 is_before_caches LongName = true
 is_before_caches _ = false
 
--- .. and so do 21 and 27 under a name that is bound, whose message is read and compared first.
+-- .. and so do 21 and 27 under a bound name, whose message is read and compared first.
 abbrev pub is_before_repeat : SignFault → Bool
 is_before_repeat Changed = true
 is_before_repeat MessageRead = true
 is_before_repeat fault = is_before_caches fault
 
--- What an answer keeps as it was, where so many records are wanted: 22, 26, 28, 30, 31 and 33 keep all but the memory,
--- and so does 29 before anything is drawn; later it comes of the store, or of a new tree; 22, 26, 30, 31 and 33 keep
--- the caches; and each answer keeps the store, unless a record was added or its append failed.
+-- What an answer leaves as it was, where `wanted` records are needed. 22, 26, 28, 30, 31, 33, and 29 before any draw
+-- leave all but memory and caches; a later 29 is the store's, or a new tree's. 22, 26, 30, 31 and 33 leave the caches,
+-- too. Each answer leaves the store, unless a record was added or its append failed.
 pub record KeepsAtRefusal {S R A : Type 0} (g : store.Ghosts S) (has_room : Bool) (wanted : ℕ) (old new : View S R)
     (answer : Result A SignFault) : Type 0 where
   pub at_once : is_fault is_before_draws answer ≡ true → KeepsAll old new
@@ -244,13 +242,13 @@ pub record KeepsAtRefusal {S R A : Type 0} (g : store.Ghosts S) (has_room : Bool
   pub lacks_tree : has_room ≡ true → LacksTree g wanted old new answer
   pub store : UnlessAppended old new answer (new.store ≡ old.store)
 
--- What a name that is bound keeps as it was: all but the caches, and where the answer comes before these all.
+-- Under a bound name only caches change, and not even these where the answer comes before them.
 pub record KeepsForRepeat {S R : Type 0} (old new : View S R) (is_early : Bool) : Type 0 where
   pub but_caches : new ≡ caching old new.cached
   pub early : is_early ≡ true → new ≡ old
 
--- A request is answered by a step of the world, by some chance, whose draws are those of the key's scheme: the bytes
--- that are drawn are those that the source gave, and memory is refused only where it is lacking.
+-- A request is answered by a step of the world, by some chance with the draws of the key's scheme. The source gave the
+-- drawn bytes, and memory is refused only where there is too little.
 pub record AnswersRequest {S R : Type 0} (g : store.Ghosts S) (r : source.Ghosts R) (old new : View S R)
     (name : List ℕ) (capacity : ℕ) (answer : Result (List ℕ) SignFault) : Type 0 where
   pub key : Key
@@ -268,7 +266,7 @@ pub record AnswersRequest {S R : Type 0} (g : store.Ghosts S) (r : source.Ghosts
   pub memory : UsesMemory old new
   pub keeps : KeepsAtRefusal g chance.has_room (wanted_by key.secret (deepest key.secret old.records)) old new answer
 
--- A call of sign answers a request so, and the message is read or as it was.
+-- A call of sign answers a request by such a step, and the message is read or as it was.
 pub record Signs {S R M : Type 0} (g : store.Ghosts S) (r : source.Ghosts R) (m : message.Ghosts M)
     (old new : View S R) (name : List ℕ) (before after : M) (capacity : ℕ) (answer : Result (List ℕ) SignFault)
     : Type 0 where
@@ -277,8 +275,8 @@ pub record Signs {S R M : Type 0} (g : store.Ghosts S) (r : source.Ghosts R) (m 
 
 -- ---- retire
 
--- A call of retire is a step of the world; it draws nothing, and memory and caches are as they were. Unless a record
--- was added or its append failed, so is all of the signer.
+-- A call of retire is a step of the world that draws nothing and leaves memory and caches. Unless a record was added or
+-- its append failed, it leaves all of the signer.
 pub record Retires {S R : Type 0} (g : store.Ghosts S) (old new : View S R) (upto : ℕ)
     (answer : Result (Unit {0}) SignFault) : Type 0 where
   pub fate : Fate
@@ -303,14 +301,14 @@ abbrev pub random_after : {S R : Type 0} → Result (View S R) (Refused (S × R)
 random_after (Ok signer) = signer.random
 random_after (Err refused) = refused.given.1
 
--- A signer answers its public key, and is open on the records acknowledged; or the fault is answered.
+-- A signer answers its public key, and is open on the acknowledged records; or the fault is answered.
 abbrev pub IsAnswered : {S R : Type 0} → Result (View S R) (Refused (S × R) SignFault) → Outcome AnyPublic → Type 0
 IsAnswered (Ok signer) outcome = (public : AnyPublic) × (outcome.answer ≡ Ok public)
     × (public_of_key (key_in signer.records) ≡ Some public) × (signer.records ≡ outcome.acknowledged)
     × (signer.is_open ≡ true)
 IsAnswered (Err refused) outcome = outcome.answer ≡ Err refused.fault
 
--- what the load of record 0 failed with, by the store that it failed on
+-- why the load of record 0 failed, by the store that it failed on
 abbrev pub LoadFails : Option SignFault → List Record → (stopped honest : Bool) → Type 0
 LoadFails None list stopped honest = stopped ≡ false
 LoadFails (Some Stopped) list stopped honest = stopped ≡ true
@@ -326,9 +324,9 @@ LeavesSource (Some fault) list old new = new ≡ old
 LeavesSource None [] old new = Unit {0}
 LeavesSource None (entry ∷ entries) old new = new ≡ old
 
--- To make a key of a version in a store is a step of the world, by some chance, with an outcome that is the answer: it
--- takes no memory of its own. The store has stopped where it had before, or the answer is 25; one that had is as it
--- was; and the store has reported one slot more as unreadable, k, where the answer is 43 of k.
+-- Making a key in a store is a step of the world by some chance, and its outcome is the answer. It takes no memory of
+-- its own. The store has stopped if it had before, or after a 25; one that had is as it was. After a 43 of k it has
+-- reported slot k as unreadable.
 pub record MakesKey {S R : Type 0} (g : store.Ghosts S) (r : source.Ghosts R) (version : Version) (spec : Spec)
     (old new : S) (before after : R) (IsAnswer : Outcome AnyPublic → Type 0) : Type 0 where
   pub chance : Creation
@@ -348,7 +346,6 @@ pub record MakesKey {S R : Type 0} (g : store.Ghosts S) (r : source.Ghosts R) (v
   pub unreadable : Collects unreadable_slot (g.unreadable old) (g.unreadable new) outcome.answer
   pub stays : g.stopped old ≡ true → new ≡ old
 
--- A call of create makes a key of a version.
 abbrev pub Creates : {S R : Type 0} → store.Ghosts S → source.Ghosts R → Version → Spec → (kept_in : S) → (random : R)
     → Result (View S R) (Refused (S × R) SignFault) → Type 0
 Creates g r version spec kept_in random result =
@@ -364,8 +361,7 @@ StopsOpening (Some (slot, DeviceFailed)) list stopped honest = (stopped ≡ fals
 StopsOpening (Some (slot, NoMemoryToOpen)) list stopped honest = (stopped ≡ false) × (slot ≤ length list)
 StopsOpening (Some (slot, _)) list stopped honest = ⊥
 
--- Where an opening lacks memory, its store was refused some, and counts it, or one of the records that it goes over
--- takes some.
+-- A 46 is the store's, which counts it, or comes where the records run out of memory.
 abbrev pub RefusesToOpen : {A : Type 0} → List Record → Result A SignFault → (before after : ℕ) → Type 0
 RefusesToOpen records (Err NoMemoryToOpen) before after =
     (after ≡ before + 1) ⊎ ((after ≡ before) × RunsOutOfMemory records)
@@ -376,10 +372,10 @@ abbrev pub slots_below : ℕ → List ℕ
 slots_below zero = []
 slots_below (suc n) = n ∷ slots_below n
 
--- How far an opening goes, by its answer: the loads that it makes, and the records that these give. Ok comes after all
--- records, and after one load more, which finds their end, unless the store takes no more records. 44 of k comes
--- after record k; a load's refusal after the records before its slot; and a want of memory that the store doesn't
--- count, after the record for which there is none.
+-- How far an opening goes, by its answer: the loads that it makes, and the records that they give. Ok comes after all
+-- records and one more load, which finds their end, unless the store takes no more records. 44 of k comes after record
+-- k, a load's refusal after the records before its slot. A 46 that the store doesn't count comes after the record that
+-- found no memory.
 abbrev pub GoesTo : {A : Type 0} (most : ℕ) → Opening → List Record → (refusals_before refusals_after : ℕ)
     → (loads given : ℕ) → Result A SignFault → Type 0
 GoesTo most chance records before after loads given (Ok _) =
@@ -395,11 +391,10 @@ GoesTo most (Some (slot, _)) records before after loads given (Err NoMemoryToOpe
     ⊎ ((given ≡ slot + 1) × (loads ≡ given) × (lacks : RunsOutOfMemory records) × (lacks.place ≡ slot))
 GoesTo most chance records before after loads given (Err _) = ⊥
 
--- To load the records of a store is a step of the world, with an outcome that is the answer. It asks for slot after
--- slot from 0 on, and is given these records; it stops at the first that refuses it, of which `GoesTo` says why. It
--- goes over as many records as the store has, and where the store is honest over its own. The store has stopped where
--- it had before, or the answer is 45; one that had is as it was; and the store has reported one slot more as
--- unreadable, k, where the answer is 43 of k.
+-- Loading the records of a store is a step of the world, and its outcome is the answer. It asks for slot after slot
+-- from 0 on, and ends at the first refusal (`GoesTo`). The records are as many as the store's, and an honest store's
+-- own. The store has stopped if it had before, or after a 45; one that had is as it was. After a 43 of k it has
+-- reported slot k as unreadable.
 pub record LoadsAll {S : Type 0} (g : store.Ghosts S) (old new : S) (IsAnswer : Outcome AnyPublic → Type 0)
     : Type 0 where
   pub records : List Record

@@ -1,5 +1,5 @@
--- The calls of a signer over an honest store are calls of the world's: what each leaves and hands out, and what a stop
--- in it leaves.
+-- A signer's calls over an honest store as calls of the world: what each leaves and hands out, and what a crash in it
+-- leaves.
 use Rattle.std.specs.Prelude.{◌≡◌, ℕ, IsTrue, true, false, List, [], ◌∷◌, ◌++◌, Result, Ok, Err}
 use Rattle.typecodes.specs.declared.message.Message as message
 use Rattle.typecodes.specs.Message.{ReadWhole}
@@ -21,8 +21,8 @@ use Rattle.state_file.specs.declared.record.Version.{Version}
 abbrev pub world_of : State → List Handed → World
 world_of state handed = record { state = state; handed = handed }
 
--- The event can come, and is this call on the store: a stop at any moment of it leaves what a stop of the event leaves.
--- The store is as honest as it was.
+-- The event can come, and is this call on the store: a crash at any moment leaves what a crash of the event leaves.
+-- Honesty stays.
 pub record IsEventOf {S : Type 0} (g : store.Ghosts S) (limit : ℕ) (world : World) (event : Event) (old new : S)
     : Type 0 where
   pub is_call : IsCall g.moment g.left_since limit world old (record { event = event; store = new })
@@ -50,15 +50,15 @@ pub record SignsInWorld {S R M : Type 0} (g : store.Ghosts S) (m : message.Ghost
   pub hands : HandsOut m name before later answer handed
       (after (g.most old.store) (world_of (state_of old) handed) event).handed
 
--- .. and of retire
+-- a call of retire, as this event
 pub record RetiresInWorld {S R : Type 0} (g : store.Ghosts S) (handed : List Handed) (event : Event)
     (old new : View S R) : Type 0 where
   pub is : IsEventOf g (g.most old.store) (world_of (state_of old) handed) event old.store new.store
   pub leaves : IsAfter new (after (g.most old.store) (world_of (state_of old) handed) event)
   pub hands : (after (g.most old.store) (world_of (state_of old) handed) event).handed ≡ handed
 
--- what a create or an opening leaves: a signer that is open on the world's records; or none, and the world has none
--- open, on the records of the store that is handed back
+-- what a create or an opening leaves: a signer open on the world's records; or none, and none in the world, on the
+-- records of the store that is handed back
 abbrev pub OpensIn : {S R : Type 0} → store.Ghosts S → Result (View S R) (Refused (S × R) SignFault) → World → Type 0
 OpensIn g (Ok signer) left = IsAfter signer left
 OpensIn g (Err refused) left = left.state ≡ closed_on (g.list refused.given.0)
@@ -86,8 +86,8 @@ pub record AreClosed {S R : Type 0} (view : View S R) (world : World) : Type 0 w
   pub is_closed : view.is_open ≡ false
   pub none_open : world.state.is_open ≡ false
 
--- A call of a closed signer answers 26 and leaves it closed and its store as it was. It is this event, which leaves the
--- world as it was, and so hands nothing out.
+-- A call of a closed signer answers 26, and leaves the signer closed and the store as it was. It is this event, which
+-- leaves the world as it was, and so hands nothing out.
 pub record IsRefusedCall {S R A : Type 0} (g : store.Ghosts S) (world : World) (event : Event) (old new : View S R)
     (answer : Result A SignFault) : Type 0 where
   pub answer_is : answer ≡ Err Stopped
@@ -97,7 +97,7 @@ pub record IsRefusedCall {S R A : Type 0} (g : store.Ghosts S) (world : World) (
       (record { event = event; store = new.store })
   pub stays : after (g.most old.store) world event ≡ world
 
--- A create or an opening of a store that has stopped answers 26, and hands the store back as it was. It is this event,
+-- A create or an opening on a store that has stopped answers 26, and hands the store back as it was. It is this event,
 -- which leaves the world as it was.
 pub record IsRefusedOpening {S R : Type 0} (g : store.Ghosts S) (world : World) (event : Event) (kept_in : S)
     (result : Result (View S R) (Refused (S × R) SignFault)) : Type 0 where
@@ -109,9 +109,9 @@ pub record IsRefusedOpening {S R : Type 0} (g : store.Ghosts S) (world : World) 
       (record { event = event; store = refused.given.0 })
   pub stays : after (g.most kept_in) world event ≡ world
 
--- Over an honest store each call of an open signer is an event of the world, the one that its contract says, and so is
--- each create and opening. Over any store a call of a closed signer is an event that leaves the world as it was, and so
--- is a create or an opening of a store that has stopped.
+-- Over an honest store each call of an open signer, each create and each opening is the event of the world in its
+-- contract. Over any store a call of a closed signer is an event that leaves the world as it was; so is a create or an
+-- opening on a store that has stopped.
 pub record SignerLaw {S R M : Type 0} (g : store.Ghosts S) (r : source.Ghosts R) (m : message.Ghosts M) : Type 0 where
   pub signs : (old new : View S R) (name : List ℕ) (before later : M) (capacity : ℕ)
       (answer : Result (List ℕ) SignFault) (handed : List Handed) → IsOpenSigner g old → IsName name
@@ -120,7 +120,7 @@ pub record SignerLaw {S R M : Type 0} (g : store.Ghosts S) (r : source.Ghosts R)
   pub retires : (old new : View S R) (upto : ℕ) (answer : Result (Unit {0}) SignFault) (handed : List Handed)
       → IsOpenSigner g old → (retires : Retires g old new upto answer)
       → RetiresInWorld g handed (retire upto retires.fate) old new
-  -- of a closed signer, where the world has none open, whatever records that has
+  -- a closed signer, where the world has none open, on any records
   pub refuses : (old new : View S R) (name : List ℕ) (before later : M) (capacity : ℕ)
       (answer : Result (List ℕ) SignFault) (world : World) → AreClosed old world → IsName name
       → (signs : Signs g r m old new name before later capacity answer)
@@ -136,7 +136,7 @@ pub record SignerLaw {S R M : Type 0} (g : store.Ghosts S) (r : source.Ghosts R)
   pub opens : (kept_in : S) (random : R) (result : Result (View S R) (Refused (S × R) SignFault))
       (handed : List Handed) → IsRunning g kept_in → (opens : Opens g kept_in random result)
       → OpensInWorld g (g.list kept_in) handed (reopen opens.loads.chance) kept_in result
-  -- of a store that has stopped, whatever records the world has
+  -- a store that has stopped, with any records in the world
   pub refuses_creating : (version : Version) (spec : Spec) (kept_in : S) (random : R)
       (result : Result (View S R) (Refused (S × R) SignFault)) (world : World) → g.stopped kept_in ≡ true → IsSpec spec
       → (creates : Creates g r version spec kept_in random result)
@@ -144,12 +144,12 @@ pub record SignerLaw {S R M : Type 0} (g : store.Ghosts S) (r : source.Ghosts R)
   pub refuses_opening : (kept_in : S) (random : R) (result : Result (View S R) (Refused (S × R) SignFault))
       (world : World) → g.stopped kept_in ≡ true → (opens : Opens g kept_in random result)
       → IsRefusedOpening g world (reopen opens.loads.chance) kept_in result
-  -- before a first call a stop leaves the records: of an open signer, and of a store that runs
+  -- before a first call a crash leaves the records of an open signer, and of a store that runs
   pub settled : (view : View S R) (left : List Record) → IsOpenSigner g view
       → g.left_since view.store (g.moment view.store) left → left ≡ view.records
   pub running : (kept_in : S) (left : List Record) → IsRunning g kept_in
       → g.left_since kept_in (g.moment kept_in) left → left ≡ g.list kept_in
-  -- a call lasts after which the signer is open as the world is, and so does one after which the world has none open
+  -- a call lasts if the signer is open after it as the world is, or if the world has none open
   pub lasts : (limit : ℕ) (world : World) (event : Event) (old : S) (new : View S R)
       → IsEventOf g limit world event old new.store → IsTrue (g.honest old) → IsSigner g new
       → IsAfter new (after limit world event)

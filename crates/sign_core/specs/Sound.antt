@@ -11,7 +11,7 @@ pub record AreWhole (records : List Record) : Type 0 where
   pub sound : AreSound records
   pub sizes : AllHaveSizes records
 
--- Each event leaves sound records where there were such, and a create where there were none.
+-- Each event leaves sound records sound. A create where there are none leaves sound records, or none.
 pub record SoundLaw : Type 0 where
   pub stays : (limit : ℕ) (world : World) (event : Event) → IsEvent event → AreWhole world.state.records
       → AreWhole (after limit world event).state.records

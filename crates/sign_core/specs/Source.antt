@@ -1,21 +1,20 @@
--- What a source of random bytes does, and what callers see of one of given bytes.
+-- What a source of random bytes does, and what callers see of a `TapeSource`.
 use Rattle.std.specs.Prelude.{◌≡◌, ℕ, ◌+◌, List, ◌++◌, Option, Some, None, Result, Ok, Err}
 use Rattle.sign_core.specs.declared.source.TapeSource.{TapeSource}
 
--- What a source has still to give, where that is known, before and after it gives these bytes: these come first.
--- Where it isn't known, it isn't afterwards.
+-- A source gives these bytes: they come first in what was known to come. What wasn't known before isn't afterwards.
 abbrev pub Provides : Option (List ℕ) → List ℕ → Option (List ℕ) → Type 0
 Provides None bytes left = left ≡ None
 Provides (Some upcoming) bytes None = ⊥
 Provides (Some upcoming) bytes (Some left) = upcoming ≡ bytes ++ left
 
--- What a fill does, by its answer: to the count of failures, and to what the source has still to give.
+-- A fill, by its answer: the count of failures, and the bytes still to come.
 abbrev pub Fills : {A E : Type 0} (failures_before failures_after : ℕ) (upcoming left : Option (List ℕ))
     (bytes : List ℕ) → Result A E → Type 0
 Fills before after upcoming left bytes (Ok _) = (after ≡ before) × Provides upcoming bytes left
 Fills before after upcoming left bytes (Err _) = (after ≡ before + 1) × (left ≡ upcoming)
 
--- ---- a source of given bytes
+-- ---- a `TapeSource`
 
 -- the bytes that are left
 abbrev pub left_in : TapeSource → List ℕ

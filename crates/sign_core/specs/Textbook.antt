@@ -29,7 +29,6 @@ use Rattle.sign_core.specs.Records.{are_same, current, key_in}
 
 -- ---- secrets
 
--- the secret of an LMS tree
 abbrev pub lms_secret : LmsPair → (identifier seed : List ℕ) → LmsSecret
 lms_secret pair identifier seed = record { pair = pair; identifier = identifier; seed = seed }
 
@@ -38,7 +37,7 @@ pub record Trees : Type 0 where
   pub top : LmsSecret
   pub pairs : List LmsPair
 
--- the secret of the tree that a record makes; a Key, and what makes none, stands for the top tree
+-- the secret of the tree that a record makes; the top tree's for a Key, and for a record that makes none
 abbrev pub secret_by : Trees → Option Record → LmsSecret
 secret_by trees (Some (ExtendRecord extend)) =
     lms_secret (slice_index_or trees.pairs extend.level trees.top.pair) extend.identifier extend.seed
@@ -57,13 +56,12 @@ secret_at trees records tree = secret_by trees (slice_get records tree)
 abbrev pub tree_before : (level : ℕ) → List Record → (k : ℕ) → ℕ
 tree_before level records k = unwrap_or (current level (take k records)) 0
 
--- the trees from the Key's down to a tree of a level: each stands under the one that was current above it when it was
--- made
+-- the trees from the Key's down to a level's tree, each under the one that was current above it when it was made
 abbrev pub chain : (level : ℕ) → List Record → (tree : ℕ) → List ℕ
 chain zero records tree = tree ∷ []
 chain (suc level) records tree = chain level records (tree_before level records tree) ++ tree ∷ []
 
--- what signs the tree that a record makes, by a leaf of its parent tree
+-- the signing of the tree that a record makes, by a leaf of its parent tree
 abbrev pub signing_by : Trees → List Record → (parent : ℕ) → Option Record → List Signing
 signing_by trees records parent (Some (ExtendRecord extend)) = record {
   secret = secret_at trees records parent;
@@ -77,14 +75,14 @@ signing_by trees records parent (Some (Retire upto)) = []
 signing_by trees records parent (Some Moved) = []
 signing_by trees records parent None = []
 
--- what signs the trees of a chain below the Key's, from the top down
+-- the signings of a chain's trees below the Key's, from the top down
 abbrev pub signings_above : Trees → (level : ℕ) → List Record → (tree : ℕ) → List Signing
 signings_above trees zero records tree = []
 signings_above trees (suc level) records tree =
     let parent = tree_before level records tree in
     signings_above trees level records parent ++ signing_by trees records parent (slice_get records tree)
 
--- what a binding signs with in a bottom tree
+-- a binding's signing in a bottom tree
 abbrev pub signing_of_bound : Trees → List Record → (tree : ℕ) → Bound → Signing
 signing_of_bound trees records tree bound = record {
   secret = secret_at trees records tree;
@@ -103,7 +101,7 @@ trees_of (Hss (pair ∷ rest) identifier seed) =
     Some (record { top = lms_secret pair identifier seed; pairs = pair ∷ rest })
 trees_of (Xmss secret) = None
 
--- the public key that a Key record says
+-- the public key in a Key
 abbrev pub lms_public_in : LmsPair → (identifier root : List ℕ) → LmsPublic
 lms_public_in pair identifier root = record { pair = pair; identifier = identifier; root = root }
 
@@ -166,8 +164,8 @@ root_by (Hss [] identifier seed) = []
 root_by (Hss (pair ∷ rest) identifier seed) = lms_root_in (lms_secret pair identifier seed)
 root_by (Xmss secret) = xmss_root_in secret
 
--- An Extend at place k: its root is that of the tree's secret, and its digest that of the tree's public key under the
--- parent's I and leaf.
+-- whether the Extend at place k has the root of the tree's secret, and the digest of the tree's public key under the
+-- parent's I and leaf
 abbrev pub is_sound_extend : Option Trees → List Record → (k : ℕ) → Extend → Bool
 is_sound_extend None records k extend = false
 is_sound_extend (Some trees) records k extend =
@@ -177,7 +175,7 @@ is_sound_extend (Some trees) records k extend =
     && are_same extend.digest
     (message_digest_of parent.identifier extend.parent_leaf extend.randomizer (lms_public_bytes made))
 
--- whether the record at place k says the root of its tree, and the digest of the tree's public key, as they are
+-- whether the record at place k has its tree's root, and the digest of the tree's public key
 abbrev pub is_sound_record : Key → List Record → (k : ℕ) → Option Record → Bool
 is_sound_record key records k (Some (KeyRecord own)) = are_same own.root (root_by own.secret)
 is_sound_record key records k (Some (ExtendRecord extend)) = is_sound_extend (trees_of key.secret) records k extend
@@ -209,7 +207,7 @@ SecretHasSizes (Hss levels identifier seed) = (length identifier ≡ 16) × (len
 SecretHasSizes (Xmss secret) =
     (length secret.secret_seed ≡ 32) × (length secret.prf_key ≡ 32) × (length secret.public_seed ≡ 32)
 
--- the parts of a record have theirs
+-- the parts of a record have their sizes in bytes
 abbrev pub HasSizes : Record → Type 0
 HasSizes (KeyRecord key) = SecretHasSizes key.secret × (length key.root ≡ 32)
 HasSizes (ExtendRecord extend) = (length extend.identifier ≡ 16) × (length extend.seed ≡ 32)

@@ -14,10 +14,10 @@ with_next secret records (Some place) = Some (record { place = place; next = nex
 abbrev pub tree_at : Secret → List Record → (level : ℕ) → Option Tree
 tree_at secret records level = with_next secret records (current level records)
 
--- what is kept of a level
+-- the tree that is kept for a level
 abbrev pub kept_at : List (Option Tree) → (level : ℕ) → Option Tree
 kept_at levels level = slice_index_or levels level None
 
--- What is kept of each level is its current tree.
+-- The tree kept for each level is its current one.
 abbrev pub HasTrees : Secret → List Record → List (Option Tree) → Type 0
 HasTrees secret records levels = (level : ℕ) → level < 8 → kept_at levels level ≡ tree_at secret records level

@@ -39,9 +39,9 @@ pub record State : Type 0 where
   pub records : List Record
   pub is_open : Bool
 
--- What an event leaves and answers, and how far it came: the records that were acknowledged at its end, and the one
--- whose append was cut off, if one was; the bytes that were drawn; and whether the message was read. What stands then
--- is the acknowledged records, and perhaps the one that was cut off.
+-- What an event leaves and answers, and how far it came: the records acknowledged at its end, the one whose append was
+-- cut, if any, the bytes that were drawn, and whether the message was read. The state has the acknowledged records, and
+-- perhaps the one that was cut.
 pub record Outcome (A : Type 0) : Type 0 where
   pub state : State
   pub answer : Result A SignFault
@@ -65,11 +65,11 @@ answered state a =
 abbrev pub open_on : List Record → State
 open_on records = record { records = records; is_open = true }
 
--- none is
+-- no signer is open
 abbrev pub closed_on : List Record → State
 closed_on records = record { records = records; is_open = false }
 
--- The append of a record was cut off, and leaves these records; the signer is closed.
+-- The append of a record was cut, and left these records; the signer is closed.
 abbrev pub cut : {A : Type 0} → (acknowledged : List Record) → Record → (left : List Record) → Outcome A
 cut acknowledged entry left = record {
   state = closed_on left;
@@ -90,15 +90,15 @@ reading outcome = record outcome { is_read = true }
 
 -- ---- appends
 
--- What becomes of an append: it is acknowledged; it is cut off and leaves the old records; it is cut off and leaves the
--- new one, too; or it is refused for want of memory.
+-- What becomes of an append: it is acknowledged; it is cut, and leaves the old records, or the new one as well; or
+-- memory is refused for it.
 pub data Fate : Type 0 where
   acked : Fate
   cut_old : Fate
   cut_new : Fate
   no_memory : Fate
 
--- a record appended to those of a state with this fate; where it is acknowledged, it goes on with the new records
+-- a record is appended with this fate; where it is acknowledged, `next` goes on with the new records
 abbrev pub appended : {A : Type 0} → State → Record → Fate → (next : List Record → Outcome A) → Outcome A
 appended state entry acked next = next (state.records ++ entry ∷ [])
 appended state entry cut_old next = cut state.records entry state.records
@@ -132,7 +132,7 @@ the_state state rest = rest state state
 abbrev pub the_records : {B : Type 0} → Step B (List Record)
 the_records state rest = rest state.records state
 
--- what there is, or a refusal where there is none
+-- the value, or a refusal where there is none
 abbrev pub some_or : {B A : Type 0} → SignFault → Option A → Step B A
 some_or fault None state rest = refused state fault
 some_or fault (Some a) state rest = rest a state
@@ -147,7 +147,7 @@ refuse_unless fault right state rest = if not right then refused state fault els
 abbrev pub answer_if : {B : Type 0} → B → Bool → Step B (Unit {0})
 answer_if answer done state rest = if done then answered state answer else rest tt state
 
--- a refusal that there is, if there is one
+-- the refusal, if there is one
 abbrev pub refuse_with : {B : Type 0} → Option SignFault → Step B (Unit {0})
 refuse_with (Some fault) state rest = refused state fault
 refuse_with None state rest = rest tt state
@@ -159,7 +159,7 @@ close state rest = rest tt (closed_on state.records)
 abbrev pub open_signer : {B : Type 0} → Step B (Unit {0})
 open_signer state rest = rest tt (open_on state.records)
 
--- Fields are drawn, and made into something; or the source gave others than this takes.
+-- Fields are drawn and made into a value; there is none where the source failed.
 abbrev pub draw : {B A : Type 0} → (made : Option A) → (fields : List (List ℕ)) → Step B A
 draw made fields state rest = drawing (concat fields) (some_or RandomFailed made state rest)
 
@@ -168,14 +168,14 @@ abbrev pub read : {B : Type 0} → Option (List ℕ) → Step B (List ℕ)
 read None state rest = reading (refused state MessageRead)
 read (Some message) state rest = reading (rest message state)
 
--- a record is appended, by which the signer is open on the new records
+-- a record is appended, and the signer is open on the new records
 abbrev pub append : {B : Type 0} → Record → Fate → Step B (Unit {0})
 append entry fate state rest = appended state entry fate (λ records. rest tt (open_on records))
 
 -- ---- create
 
--- A create's version, and what chance decides in it: what the load of record 0 failed with, if it failed; the fields
--- that the source gave, fewer where it failed; whether memory was granted; and what became of the append.
+-- A create's version and chance: why the load of record 0 failed, if it did; the fields that the source gave, fewer
+-- where it failed; whether memory was granted; and what became of the append.
 pub record Creation : Type 0 where
   pub version : Version
   pub failed_load : Option SignFault
@@ -183,7 +183,7 @@ pub record Creation : Type 0 where
   pub has_room : Bool
   pub fate : Fate
 
--- what a key is made from: I and SEED, or the three seeds of XMSS, in the order in which they are drawn
+-- a key's secret: I and SEED, or the three seeds of XMSS, in the order of their draws
 abbrev pub secret_from : Spec → (fields : List (List ℕ)) → Option Secret
 secret_from (LmsSpec pair) (identifier ∷ seed ∷ []) = Some (Lms (lms_secret pair identifier seed))
 secret_from (LmsSpec pair) fields = None
@@ -193,11 +193,11 @@ secret_from (XmssSpec tree) (secret_seed ∷ prf_key ∷ public_seed ∷ []) =
     Some (Xmss (record { tree = tree; secret_seed = secret_seed; prf_key = prf_key; public_seed = public_seed }))
 secret_from (XmssSpec tree) fields = None
 
--- the key that is made from it, in a file of a version
+-- the key with this secret, in a file of this version
 abbrev pub new_key : Version → Secret → Key
 new_key version secret = record { version = version; secret = secret; root = root_by secret }
 
--- The public key of record 0 is given, and the signer is open; where record 0 is no key, the signer is closed.
+-- The public key of record 0 is answered, and the signer is open; where record 0 is no key, the signer is closed.
 abbrev pub publish : Option AnyPublic → Step AnyPublic AnyPublic
 publish public = do
   close
@@ -219,7 +219,7 @@ created state spec chance = event (do
 
 -- ---- open
 
--- What chance decides in an opening: which record couldn't be loaded, or found no memory, and for what reason.
+-- An opening's chance: the record that couldn't be loaded, or found no memory, and why.
 abbrev pub Opening : Type 0
 Opening = Option (ℕ × SignFault)
 
@@ -241,14 +241,14 @@ opened state chance = event (do
 
 -- ---- requests
 
--- What chance decides of a wanted record: the fields that the source gave for it, fewer where it failed, and what
--- became of its append.
+-- The chance of a new record: the fields that the source gave for it, fewer where it failed, and what became of its
+-- append.
 pub record Draw : Type 0 where
   pub fields : List (List ℕ)
   pub fate : Fate
 
--- What chance decides of a request: whether memory was granted at its beginning; what came of each new tree that was
--- begun, from the top down, and of the binding; and what the message's reader gave, if it didn't fail.
+-- A request's chance: whether memory was granted at its beginning; what became of each new tree, from the top down, and
+-- of the binding; and what the message's reader gave, if it didn't fail.
 pub record Chance : Type 0 where
   pub has_room : Bool
   pub trees : List Draw
@@ -277,7 +277,7 @@ signing_key = do
   refuse_if Moved (has_moved state.records)
   give key
 
--- A name that is bound, by the record at place k: its recorded signature, where the message has the recorded digest.
+-- A name that the record at place k binds: its recorded signature, if the message has the recorded digest.
 abbrev pub repeat : Key → (k : ℕ) → Bound → Chance → Step (List ℕ) (List ℕ)
 repeat key k bound chance = do
   records ← the_records
@@ -313,7 +313,7 @@ abbrev pub draw_seed : {B : Type 0} → (fields : List (List ℕ)) → Step B (L
 draw_seed (seed ∷ randomizer ∷ []) state rest = drawing (seed ++ randomizer) (rest (seed, randomizer) state)
 draw_seed fields state rest = drawing (concat fields) (refused state RandomFailed)
 
--- A new tree of a level: I is drawn, and compared with those of the records; then SEED and C.
+-- A new tree of a level: I is drawn, which no record may have yet; then SEED and C.
 abbrev pub begin_tree : {B : Type 0} → Key → (level : ℕ) → Draw → Step B (Unit {0})
 begin_tree key level chance = do
   records ← the_records
@@ -332,7 +332,7 @@ begin_trees key (suc below) draws = do
   begin_tree key (bottom_of key.secret - below) (first_draw draws)
   begin_trees key below (later_draws draws)
 
--- C, which XMSS doesn't draw: it makes it of the leaf's number
+-- C; XMSS draws none, since it makes it from the leaf's number
 abbrev pub randomizer_from : Secret → (fields : List (List ℕ)) → Option (List ℕ)
 randomizer_from (Lms secret) (randomizer ∷ []) = Some randomizer
 randomizer_from (Lms secret) fields = None
@@ -361,7 +361,7 @@ bind key name chance = do
   records ← the_records
   give (signature_at key records (length old) bound)
 
--- A name that isn't bound: new trees for the levels below the deepest one with a free leaf, and then the binding.
+-- A new name: new trees for the levels below the deepest one with a free leaf, and then the binding.
 abbrev pub bind_anew : (limit : ℕ) → Key → (name : List ℕ) → Chance → Step (List ℕ) (List ℕ)
 bind_anew limit key name chance = do
   refuse_if LongName (is_long key name)
@@ -414,8 +414,8 @@ pub record World : Type 0 where
 abbrev pub beginning : World
 beginning = record { state = closed_on []; handed = [] }
 
--- What becomes of a migration: the records stay; a Moved stands after them; or they are carried over without it, in
--- version 2, which is what an Ok says.
+-- What becomes of a migration: the records stay; a Moved follows them; or, where it is Ok, they are carried over
+-- without it, in version 2.
 pub data Migration : Type 0 where
   left_alone : Migration
   sealed : Migration
@@ -431,7 +431,7 @@ migrated_under state fate None = state
 migrated_under state fate (Some key) =
     if not state.is_open && can_move key.version then closed_on (migrated_to state.records fate) else state
 
--- A migration of records of version 1, while no signer is open. Of others it changes nothing.
+-- A migration of records of version 1, while no signer is open. Else nothing changes.
 abbrev pub migrated : State → Migration → State
 migrated state fate = migrated_under state fate (key_in state.records)
 
@@ -450,7 +450,7 @@ handed_with name (Some message) (Ok signature) =
 handed_with name None (Ok signature) = []
 handed_with name given (Err fault) = []
 
--- an event in a world whose store takes so many records
+-- an event in a world whose store takes `limit` records
 abbrev pub after : (limit : ℕ) → World → Event → World
 after limit world (create spec chance) =
     record { state = (created world.state spec chance).state; handed = world.handed }

@@ -47,7 +47,7 @@ ReadsHead m old new (Err FrameCut) =
 ReadsHead m old new (Err MessageRead) = (bytes : List ℕ) × CutsField head bytes × ReadsInput m bytes broken old new
 ReadsHead m old new (Err WriteFailed) = ⊥
 
--- What is left of a message was read; or it can't be.
+-- The rest of a message was read; or it can't be.
 abbrev pub Skips : {M A E : Type 0} → message.Ghosts M → (old new : M) → Result A E → Type 0
 Skips m old new (Ok _) = (text : List ℕ) × ReadWhole m.transition m.remaining text old new
 Skips m old new (Err _) = CantBeRead m.transition old new

@@ -15,7 +15,7 @@ pub record Grows (entry : Record) (old new : Table) : Type 0 where
   pub spare : old.spare ≤ new.spare + 1
   pub untaken : (TakesMemory entry → ⊥) → new.spare ≡ old.spare
 
--- Nothing changed, but that there may be more memory.
+-- Nothing changed, except that there may be more memory.
 pub record Stays (old new : Table) : Type 0 where
   pub key : new.key ≡ old.key
   pub records : new.records ≡ old.records
@@ -36,7 +36,7 @@ pub record CanPush (entry : Record) (table : Table) : Type 0 where
 abbrev pub LacksRoom : (entry : Record) → Table → Type 0
 LacksRoom entry table = (TakesMemory entry × (table.spare ≡ 0)) ⊎ (length table.records ≡ 2 ^ 32 - 1)
 
--- A record was taken up, by the answer: it was added, or it can't stand after these, or there is no room for it.
+-- A record was taken up, by the answer: it was added, or it can't follow these, or there is no room for it.
 abbrev pub TakesUp : (old new : Table) → Record → Result (Unit {0}) LedgerFault → Type 0
 TakesUp old new entry (Ok done) = (can_follow (Some old.key) old.records entry ≡ true) × Grows entry old new
 TakesUp old new entry (Err Empty) = ⊥

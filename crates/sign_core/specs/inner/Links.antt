@@ -25,13 +25,13 @@ trees_in trees = record { top = trees.top; pairs = trees.levels }
 abbrev pub AreTreesOf : KeyTrees → Key → Type 0
 AreTreesOf trees key = trees_of key.secret ≡ Some (trees_in trees)
 
--- A tree of a level stands at a place: the Key's, of level 0, or that of an Extend of the level.
+-- A tree of a level stands at a place: the Key's at level 0, else the tree of an Extend of the level.
 abbrev pub IsTreeAt : List Record → (level place : ℕ) → Type 0
 IsTreeAt records zero place = place ≡ 0
 IsTreeAt records (suc level) place =
     (extend : Extend) × (slice_get records place ≡ Some (ExtendRecord extend)) × (extend.level ≡ suc level)
 
--- what a leaf of a tree signs with
+-- the signing of a tree's leaf
 abbrev pub signing_with : LmsSecret → (leaf : ℕ) → (randomizer digest : List ℕ) → Signing
 signing_with secret leaf randomizer digest =
     record { secret = secret; leaf = leaf; randomizer = randomizer; digest = digest }
@@ -39,7 +39,7 @@ signing_with secret leaf randomizer digest =
 abbrev pub signing_of_link : Link → Signing
 signing_of_link link = signing_with link.tree.secret link.tree.leaf link.randomizer link.digest
 
--- what the trees of a chain sign with
+-- the signings of a chain's trees
 abbrev pub signings_of : List Link → List Signing
 signings_of links = map signing_of_link links
 
@@ -48,7 +48,7 @@ pub record IsMade (tree : SigningTree) : Type 0 where
   pub root : tree.root ≡ root_in tree.secret
   pub path : take (height_of tree.secret.pair.tree) tree.path ≡ path_in tree.secret tree.leaf
 
--- So it is of the trees of all links.
+-- The same of the trees of all links.
 abbrev pub AreMade : List Link → Type 0
 AreMade links = (i : ℕ) (link : Link) → slice_get links i ≡ Some link → IsMade link.tree
 
@@ -58,7 +58,7 @@ pub record IsTreeBy (secret : LmsSecret) (leaf : ℕ) (tree : SigningTree) : Typ
   pub leaf_is : tree.leaf ≡ leaf
   pub made : IsMade tree
 
--- whether an Extend says the root of a public key, and the key's digest under the parent's I and leaf
+-- whether an Extend has the root of a public key, and the key's digest under the parent's I and leaf
 abbrev pub says_key : Extend → (parent : List ℕ) → LmsPublic → Bool
 says_key extend parent public = are_same extend.root public.root
     && are_same extend.digest (message_digest_of parent extend.parent_leaf extend.randomizer (public_bytes public))

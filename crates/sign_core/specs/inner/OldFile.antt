@@ -42,8 +42,8 @@ FindsRecord honest list k (Err (Damaged slot)) = honest ≡ false
 FindsRecord honest list k (Err DeviceFailed) = Unit {0}
 FindsRecord honest list k (Err _) = ⊥
 
--- What taking up the next record comes to: it can follow those before it, and stands after them; or it can't, and its
--- place is answered; or it could, and there is no memory for it.
+-- Taking up the next record: it follows the others; or it can't, and its place is answered; or it could, and there is
+-- no memory for it.
 abbrev pub TakesUpNext : (old new : Table) (entry : Record) → Result (Unit {0}) MigrateFault → Type 0
 TakesUpNext old new entry (Ok done) =
     (can_follow (Some old.key) old.records entry ≡ true) × (new.key ≡ old.key)
@@ -63,7 +63,7 @@ RefusesRecords records DeviceFailed = Unit {0}
 RefusesRecords records OutOfMemory = RunsOutOfMemory records
 RefusesRecords records _ = ⊥
 
--- What is answered to them: they are legal and of version 1, or are refused.
+-- The answer: they are legal and of version 1, or are refused.
 abbrev pub JudgesRecords : {A : Type 0} → List Record → Result A MigrateFault → Type 0
 JudgesRecords records (Ok _) = IsLegal records × (version_in records ≡ One)
 JudgesRecords records (Err fault) = RefusesRecords records fault
@@ -87,14 +87,14 @@ opening_fault OpenVersion = VersionFault
 opening_fault (OpenDamaged k) = Damaged k
 opening_fault OpenFailed = DeviceFailed
 
--- Where the device didn't fail, a disk's content is what it was, and all of it is synced.
+-- Unless the device failed, a disk's content is what it was, all of it synced.
 abbrev pub Keeps : {A : Type 0} → (content : List ℕ) → (after : DiskState) → Result A MigrateFault → Type 0
 Keeps content after (Ok _) = after ≡ settled content
 Keeps content after (Err DeviceFailed) = Unit {0}
 Keeps content after (Err _) = after ≡ settled content
 
--- The old place was opened, and its records were judged. Nothing was written: all that a stop may leave meanwhile is
--- what one might have left before.
+-- The old place was opened, and its records were judged. Nothing was written: meanwhile a crash leaves only what it
+-- could leave before.
 pub record OpensOld {D : Type 0} (d : disk.Ghosts D) (given : D)
     (result : Result (FileStore D d) (Refused D MigrateFault)) : Type 0 where
   pub found : IsTrue (d.honest given)

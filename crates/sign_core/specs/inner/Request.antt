@@ -1,4 +1,4 @@
--- What hinders a request, and what it makes room for.
+-- What a request for a new name makes room for, and why it is refused there.
 use Rattle.std.specs.Prelude.{◌≡◌, ◌⊎◌, ℕ, ◌+◌, ◌-◌, ◌<◌, ◌≤◌, length, true, Some, Result, Ok, Err}
 use Rattle.state_file.specs.declared.record.Key.{Key}
 use Rattle.state_file.specs.Laws.{levels_of}
@@ -8,9 +8,8 @@ use Rattle.sign_core.specs.Caches.{LacksCache}
 use Rattle.sign_core.specs.Signer.{KeepsAll, View, is_before_caches, is_fault, signature_size}
 use Rattle.sign_core.specs.inner.Signing.{IsReady}
 
--- Room is made for the records that a new name wants, of which this level is the deepest with a free leaf, and for its
--- signature, and the caches of the trees that it needs are there; or the store doesn't take as many records, or memory
--- lacks.
+-- There is room for a new name's records and signature, and the caches of its trees are there; `level` is the deepest
+-- with a free leaf. Or the store has no room (30), or memory is refused (29).
 abbrev pub HasPrepared : {S R A : Type 0} (most level : ℕ) (key : Key) (old new : View S R) (capacity room : ℕ)
     → Result A SignFault → Type 0
 HasPrepared most level key old new capacity room (Ok _) =

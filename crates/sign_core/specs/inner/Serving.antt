@@ -31,7 +31,7 @@ pub record Turns {S R I : Type 0} (g : store.Ghosts S) (r : source.Ghosts R) (m 
   pub answers : AnswersInTurn g r exchanges old new capacity room
   pub writes : Appends contents left written
 
--- Some bytes were written, or a part of them.
+-- All of the bytes were written, or a part of them.
 abbrev pub WritesReply : (bytes : List ℕ) → (old new : Option (List ℕ)) → Result (Unit {0}) ServeFault → Type 0
 WritesReply bytes old new (Ok _) = Appends old new bytes
 WritesReply bytes old new (Err WriteFailed) =
@@ -56,12 +56,11 @@ pub record AnswersFrame {S R I : Type 0} (g : store.Ghosts S) (r : source.Ghosts
   pub room_kept : KeepsCapacity old.records capacity room
   pub answers : AnswersBy g r result.0 signature request old new capacity
 
--- a refusal that says so
 abbrev pub is_message_read : SignFault → Bool
 is_message_read refused.MessageRead = true
 is_message_read _ = false
 
--- A name that is one signs the message, and what is replied is the signer's answer.
+-- If the bytes are a name, the reply is the signer's answer for the message.
 abbrev pub Asks : {S R M : Type 0} → store.Ghosts S → source.Ghosts R → message.Ghosts M → (name : List ℕ)
     → (old new : View S R) → (before after : M) → (capacity : ℕ) → (signature : List ℕ) → Reply → Type 0
 Asks g r m name old new before after capacity signature Signed = IsName name
@@ -78,7 +77,7 @@ abbrev pub is_unread : Reply → Bool
 is_unread (Refused fault) = is_message_read fault
 is_unread _ = false
 
--- What is left of a message is read, unless it couldn't be read before: whether all of it came.
+-- The rest of a message is read, unless it couldn't be before: whether all of it came.
 abbrev pub Finishes : {M : Type 0} → message.Ghosts M → (unread : Bool) → (old new : M) → (is_whole : Bool) → Type 0
 Finishes m true old new is_whole = (is_whole ≡ false) × (new ≡ old)
 Finishes m false old new true = (text : List ℕ) × ReadWhole m.transition m.remaining text old new

@@ -50,12 +50,12 @@ AppendsTo old entry new stopped before after (Err OutOfMemory) =
     (new ≡ old) × (stopped ≡ false) × (after ≡ before)
 AppendsTo old entry new stopped before after (Err _) = ⊥
 
--- a stop at any moment of it leaves the old list, or the new record as well
+-- a crash at any moment of it leaves the old list, or the new record as well
 abbrev pub LeavesEither : {S : Type 0} → store.Ghosts S → (old new : S) → Record → Type 0
 LeavesEither g old new entry = WhileRunning (g.honest old) (g.stopped old)
     (LeavesOnly g.moment g.left_since old new (λ left. (left ≡ g.list old) ⊎ (left ≡ g.list old ++ entry ∷ [])))
 
--- all that an append comes to
+-- everything that an append does
 pub record IsAppended {S A : Type 0} (g : store.Ghosts S) (old new : S) (entry : Record) (answer : Result A SignFault)
     : Type 0 where
   pub running : g.stopped old ≡ false
@@ -81,7 +81,7 @@ pub record Adds {S R : Type 0} (g : store.Ghosts S) (old new : View S R) (entry 
   pub memory : UsesMemory old new
   pub untaken : (TakesMemory entry → ⊥) → new.spare ≡ old.spare
 
--- why a signer is hindered at once: it is closed, or its records go on elsewhere
+-- why a signer refuses at once: it is closed, or its records go on in another file
 abbrev pub Hinders : (is_open has_moved : Bool) → SignFault → Type 0
 Hinders is_open has_moved Stopped = is_open ≡ false
 Hinders is_open has_moved Moved = (is_open ≡ true) × (has_moved ≡ true)
@@ -109,7 +109,7 @@ FindsNone list honest old_stopped new_stopped before after (Err OutOfMemory) =
     (old_stopped ≡ false) × (after ≡ before)
 FindsNone list honest old_stopped new_stopped before after (Err _) = ⊥
 
--- all that it comes to
+-- everything that looking for a key does
 pub record LooksForKey {S A : Type 0} (g : store.Ghosts S) (old new : S) (answer : Result A SignFault) : Type 0 where
   pub finds : FindsNone (g.list old) (g.honest old) (g.stopped old) (g.stopped new) (g.failures old) (g.failures new)
       answer
@@ -122,7 +122,7 @@ pub record LooksForKey {S A : Type 0} (g : store.Ghosts S) (old new : S) (answer
   pub most : g.most new ≡ g.most old
   pub stays : g.stopped old ≡ true → new ≡ old
 
--- What is drawn makes the secret; or it is less, where the source fails.
+-- The drawn fields make the secret; or they are fewer, where the source fails.
 abbrev pub IsDrawn : Spec → (fields : List (List ℕ)) → Result Secret SignFault → Type 0
 IsDrawn spec fields (Ok secret) = secret_from spec fields ≡ Some secret
 IsDrawn spec fields (Err RandomFailed) = secret_from spec fields ≡ None
@@ -160,7 +160,7 @@ LoadsAt honest list old_stopped k new_stopped before after (Err NoMemoryToOpen) 
     (old_stopped ≡ false) × (after ≡ before)
 LoadsAt honest list old_stopped k new_stopped before after (Err _) = ⊥
 
--- all that it comes to
+-- everything that the load of record k does
 pub record LoadsRecord {S : Type 0} (g : store.Ghosts S) (old new : S) (k : ℕ)
     (answer : Result (Option Record) SignFault) : Type 0 where
   pub loads : LoadsAt (g.honest old) (g.list old) (g.stopped old) k (g.stopped new) (g.failures old) (g.failures new)
@@ -176,8 +176,8 @@ pub record LoadsRecord {S : Type 0} (g : store.Ghosts S) (old new : S) (k : ℕ)
   pub most : g.most new ≡ g.most old
   pub stays : g.stopped old ≡ true → new ≡ old
 
--- What taking up the next record comes to, by the answer: it can follow those before it, and stands after them; or it
--- can't, and its place is answered; or it could, and there is no memory for it.
+-- Taking up the next record, by the answer: it follows the others; or it can't, and its place is answered; or it could,
+-- and there is no memory for it.
 abbrev pub TakesUpLoaded : {A : Type 0} (old new : Table) (entry : Record) → Result A SignFault → Type 0
 TakesUpLoaded old new entry (Ok _) =
     (can_follow (Some old.key) old.records entry ≡ true) × (new.key ≡ old.key)

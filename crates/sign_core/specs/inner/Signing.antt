@@ -39,8 +39,8 @@ use Rattle.sign_core.specs.Signing.{UnderKey, answered_with, KeepsCapacity}
 abbrev pub pairs_of : List Link → List LmsPair
 pairs_of links = map (λ link. link.tree.secret.pair) links
 
--- The trees of a chain are the current ones down to a level, each of which signs the next; the last one is to sign by
--- its next leaf, which is free.
+-- A chain's trees are the current ones down to a level, and each signs the next. The last is to sign by its next leaf,
+-- which is free.
 pub record Stands (key : Key) (trees : Trees) (records : List Record) (level : ℕ) (above : List Link)
     (last : SigningTree) : Type 0 where
   pub tree : ℕ
@@ -59,11 +59,11 @@ abbrev pub StandsIn : Trees → List Record → (above : List Link) → (last : 
 StandsIn trees records above last key =
     (trees_of key.secret ≡ Some trees) × Stands key trees records (length above) above last
 
--- So it is under the key of the records.
+-- `StandsIn` under the records' key.
 abbrev pub ChainStands : List Record → Trees → (above : List Link) → (last : SigningTree) → Type 0
 ChainStands records trees above last = UnderKey records (StandsIn trees records above last)
 
--- A signer is open, its records don't go on elsewhere, and there is room for so many more, in the store and in memory.
+-- A signer is open, its records don't go on elsewhere, and store and memory have room for `wanted` more.
 pub record IsReady {S R : Type 0} (most wanted : ℕ) (view : View S R) : Type 0 where
   pub is_open : view.is_open ≡ true
   pub stays : has_moved view.records ≡ false
@@ -71,16 +71,16 @@ pub record IsReady {S R : Type 0} (most wanted : ℕ) (view : View S R) : Type 0
   pub counted : length view.records + wanted < 2 ^ 32
   pub room : wanted ≤ view.spare
 
--- A name can be bound: the signer is ready for as many records as that wants, the name isn't bound, the key's file can
--- hold it, and an output of this size is that of a signature.
+-- A name can be bound: the signer is ready for its records, the name isn't bound, the key's file can hold it, and the
+-- output has a signature's size.
 pub record CanBind {S R : Type 0} (most wanted : ℕ) (name : List ℕ) (size : ℕ) (view : View S R) : Type 0 where
   pub ready : IsReady most wanted view
   pub unbound : binding_in view.records name ≡ None
   pub fits : UnderKey view.records (λ key. is_long key name ≡ false)
   pub room : UnderKey view.records (λ key. size ≡ signature_size key.secret)
 
--- What the draws of a new tree come to: I, which none of the records has, SEED and C; or the source failed, and gave
--- the fields before; or the I that it gave is one of the records'.
+-- The draws of a new tree: an I that no record has, SEED and C; or the source failed after some fields; or a record has
+-- the I.
 abbrev pub DrawsTree : List Record → (failures_before failures_after : ℕ) (upcoming left : Option (List ℕ))
     → Result TreeSeeds SignFault → Type 0
 DrawsTree records before after upcoming left (Ok seeds) = (after ≡ before)
@@ -96,9 +96,8 @@ DrawsTree records before after upcoming left (Err RandomRepeated) = (identifier 
     × (has_identifier records identifier ≡ true)
 DrawsTree records before after upcoming left (Err _) = ⊥
 
--- What a call does, by an outcome of the world: to the signer and its store; the bytes that were drawn are those that
--- the source gave; the message is read or as it was; the source's failures and the store's refusals of memory are
--- answered.
+-- What a call does to the signer and its store, by an outcome of the world. The source gave the drawn bytes, and the
+-- message is read or as it was. The source's failures and the store's refusals of memory are answered.
 pub record Does {S R M A : Type 0} (g : store.Ghosts S) (r : source.Ghosts R) (m : message.Ghosts M)
     (old new : View S R) (before after : M) (given : Option (List ℕ)) (outcome : Outcome A)
     (answer : Result A SignFault) : Type 0 where
@@ -128,7 +127,7 @@ pub record Extends {S R : Type 0} (g : store.Ghosts S) (r : source.Ghosts R) (le
   pub stays : UnlessAppended old new answer (new.store ≡ old.store)
   pub not_before_draws : is_fault is_before_draws answer ≡ false
 
--- All that a new name wants, where so many levels below a standing chain have no tree: the Extends, and the Bound.
+-- All records of a new name, where `below` levels under a standing chain have no tree: the Extends, and the Bound.
 pub record Fulfils {S R M : Type 0} (g : store.Ghosts S) (r : source.Ghosts R) (m : message.Ghosts M) (name : List ℕ)
     (below : ℕ) (old new : View S R) (before after : M) (answer : Result (List ℕ) SignFault) (key : Key) : Type 0 where
   pub trees : List Draw
@@ -144,7 +143,7 @@ pub record Fulfils {S R M : Type 0} (g : store.Ghosts S) (r : source.Ghosts R) (
   pub not_before_draws : is_fault is_before_draws answer ≡ false
   pub lacks_tree : LacksTree g (below + 1) old new answer
 
--- A name that isn't bound, where there is room, and this level is the deepest with a free leaf.
+-- A new name, where there is room, and this level is the deepest with a free leaf.
 pub record Binds {S R M : Type 0} (g : store.Ghosts S) (r : source.Ghosts R) (m : message.Ghosts M) (name : List ℕ)
     (level : ℕ) (old new : View S R) (before after : M) (answer : Result (List ℕ) SignFault) (key : Key) : Type 0 where
   pub chance : Chance
@@ -157,7 +156,7 @@ pub record Binds {S R M : Type 0} (g : store.Ghosts S) (r : source.Ghosts R) (m 
   pub keeps : KeepsAtRefusal g true (levels_of key.secret - level) old new answer
   pub not_before_caches : is_fault is_before_caches answer ≡ false
 
--- nothing is drawn, and nothing is appended
+-- a chance without draws and appends
 abbrev pub repeat_chance : (has_room : Bool) → (given : Option (List ℕ)) → Chance
 repeat_chance has_room given = record {
   has_room = has_room;
@@ -166,8 +165,8 @@ repeat_chance has_room given = record {
   given = given;
 }
 
--- A name that is bound has its recorded signature again, where the message has the recorded digest; nothing changes but
--- caches. Memory is lacking for the output, or the cache of a current tree isn't there that stood before the name.
+-- A bound name has its recorded signature again, if the message has the recorded digest; only caches change. Memory is
+-- refused for the output, or for the cache of a current tree that stood before the binding.
 pub record Repeats {M : Type 0} (m : message.Ghosts M) (state : State) (cached : Cached) (before after : M)
     (capacity : ℕ) (answer : Result (List ℕ) SignFault) (key : Key) (name : List ℕ) : Type 0 where
   pub has_room : Bool
@@ -178,15 +177,15 @@ pub record Repeats {M : Type 0} (m : message.Ghosts M) (state : State) (cached :
   pub room : (k : ℕ) (bound : Bound) → binding_in state.records name ≡ Some (k, bound) → has_room ≡ false
       → (capacity < signature_size key.secret) ⊎ LacksCache key state.records (Some (bottom_of key.secret)) k cached
 
--- The binding is that of a name.
+-- The binding is this name's.
 abbrev pub IsBindingOf : List Record → Binding → Key → (name : List ℕ) → Type 0
 IsBindingOf records binding key name = binding_kept key.secret records name ≡ Some binding
 
--- The binding is that of some name.
+-- The binding is some name's.
 abbrev pub IsSomeBinding : List Record → Binding → Type 0
 IsSomeBinding records binding = UnderKey records (λ key. (name : List ℕ) × IsBindingOf records binding key name)
 
--- Each name that a binding is of is repeated so.
+-- `Repeats` for each name that has the binding.
 abbrev pub RepeatsBinding : {M : Type 0} → message.Ghosts M → State → Cached → Binding → (before after : M)
     → (capacity : ℕ) → Result (List ℕ) SignFault → Type 0
 RepeatsBinding m state cached binding before after capacity answer = UnderKey state.records (λ key. (name : List ℕ)
@@ -201,8 +200,8 @@ pub record RepeatsBy {M Z A : Type 0} (m : message.Ghosts M) (state : State) (bi
   pub capacity : KeepsCapacity state.records (vec_capacity old) (vec_capacity new)
   pub early : is_fault is_before_repeat result ≡ true → new_caches ≡ old_caches
 
--- Where the trees of links sign as those of a binding's chain in the records of a key do, by the record at place k, the
--- bytes are the binding's textbook signature.
+-- If the links sign as the chain of a binding at place k in a key's records, the bytes are the binding's textbook
+-- signature.
 abbrev pub WritesChain : Secret → List Link → (bytes : List ℕ) → Type 0
 WritesChain secret links bytes = (trees : Trees) (records : List Record) (k : ℕ) (bound : Bound)
     → (key : Key) × (key_in records ≡ Some key) → trees_of secret ≡ Some trees

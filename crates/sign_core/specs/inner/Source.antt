@@ -4,7 +4,7 @@ use Rattle.sign_core.specs.declared.fault.SignFault.{SignFault}
 use Rattle.sign_core.specs.declared.fault.SignFault.TheVariants.{RandomFailed}
 use Rattle.sign_core.specs.Source.{Provides}
 
--- What a draw does to the count of the source's failures, and to what it has still to give.
+-- A draw, by its answer: the count of failures, and the bytes still to come.
 abbrev pub DrawsBytes : (failures_before failures_after : ℕ) (upcoming left : Option (List ℕ))
     → Result (List ℕ) SignFault → Type 0
 DrawsBytes before after upcoming left (Ok bytes) = (after ≡ before) × Provides upcoming bytes left

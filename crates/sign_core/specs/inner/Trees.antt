@@ -23,7 +23,7 @@ IsBegun old level place new = (k : ℕ) → kept_at new k
     ≡ (if nat_eq k level then Some (record { place = place; next = 0 })
     else if nat_lt k level then kept_at old k else None)
 
--- a tree whose next leaf is a number at least
+-- a tree whose next leaf is raised to at least this number
 abbrev pub raised : (next : ℕ) → Option Tree → Option Tree
 raised next None = None
 raised next (Some tree) = Some (record { place = tree.place; next = max tree.next next })
@@ -33,8 +33,7 @@ abbrev pub IsRaised : (old : List (Option Tree)) (level next : ℕ) (new : List 
 IsRaised old level next new =
     (k : ℕ) → kept_at new k ≡ (if nat_eq k level then raised next (kept_at old k) else kept_at old k)
 
--- What is kept of a list that begins with a Key is right once an Extend is added, under the current tree of the level
--- above.
+-- Kept trees match a list that begins with a Key also after an Extend, under the current tree of the level above.
 abbrev pub FollowsExtend : (old : List (Option Tree)) (level parent_leaf place : ℕ) (new : List (Option Tree)) → Type 0
 FollowsExtend old level parent_leaf place new =
     (secret : Secret) (records : List Record) (key : Key) (extend : Extend) (above : ℕ)
@@ -42,7 +41,7 @@ FollowsExtend old level parent_leaf place new =
     → extend.parent_leaf ≡ parent_leaf → current (level - 1) records ≡ Some above
     → HasTrees secret records old → HasTrees secret (records ++ ExtendRecord extend ∷ []) new
 
--- The same of a Bound, in the current bottom tree.
+-- The same after a Bound, in the current bottom tree.
 abbrev pub FollowsBound : (old : List (Option Tree)) (bottom leaf : ℕ) (new : List (Option Tree)) → Type 0
 FollowsBound old bottom leaf new =
     (secret : Secret) (records : List Record) (key : Key) (bound : Bound) (tree : ℕ)
@@ -50,7 +49,7 @@ FollowsBound old bottom leaf new =
     → current bottom records ≡ Some tree
     → HasTrees secret records old → HasTrees secret (records ++ BoundRecord bound ∷ []) new
 
--- And of a Retire.
+-- The same after a Retire.
 abbrev pub FollowsRetire : (old : List (Option Tree)) (bottom upto : ℕ) (new : List (Option Tree)) → Type 0
 FollowsRetire old bottom upto new =
     (secret : Secret) (records : List Record) (key : Key) (tree : ℕ)

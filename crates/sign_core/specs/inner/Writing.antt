@@ -21,20 +21,21 @@ types_by (Lms secret) = secret.pair ∷ []
 types_by (Hss levels identifier seed) = levels
 types_by (Xmss secret) = []
 
--- The textbook signature of a key's chain, of the trees above the bottom one and of that: an LMS key has one tree.
+-- The textbook signature of a key's chain: the signings above the bottom tree, and the bottom one's. An LMS key has one
+-- tree.
 abbrev pub chain_bytes : Secret → (above : List Signing) → (bottom : Signing) → List ℕ
 chain_bytes (Lms secret) above bottom =
     lms_signature_bytes (lms_textbook bottom.secret bottom.leaf bottom.randomizer bottom.digest)
 chain_bytes (Hss levels identifier seed) above bottom = hss_signature_bytes (hss_textbook above bottom)
 chain_bytes (Xmss secret) above bottom = []
 
--- A level of a signature is that of a link, with the root and the path that its secret makes.
+-- A signature's level is a link's, with the root and the path of its secret.
 pub record IsLevelOf (link : Link) (level : Level) : Type 0 where
   pub signing : signing_of level ≡ signing_of_link link
   pub root : level.root ≡ root_in level.secret
   pub path : level.path.now ≡ path_in level.secret level.leaf
 
--- The first levels are those of the links.
+-- The first levels are the links'.
 abbrev pub AreLevelsOf : List Link → List Level → Type 0
 AreLevelsOf links levels = (i : ℕ) (link : Link) (level : Level) → slice_get links i ≡ Some link
     → slice_get levels i ≡ Some level → IsLevelOf link level
