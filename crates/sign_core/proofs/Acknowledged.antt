@@ -19,7 +19,7 @@ use Rattle.sign_core.specs.inner.Cases.{opened_by, opened_on, published, retired
 use Rattle.sign_core.specs.World.{secret_from, stop, migrate}
 use Rattle.sign_core.proofs.Ends.{Ends, ended_request}
 
--- where the signer is open, its records are those acknowledged
+-- where the signer is open, its records are the acknowledged ones
 abbrev AreAll : {A : Type 0} → Outcome A → Type 0
 AreAll outcome = outcome.state.is_open ≡ true → outcome.acknowledged ≡ outcome.state.records
 

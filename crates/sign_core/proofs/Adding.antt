@@ -1,4 +1,4 @@
--- What an append comes to for a signer, and for its store at any moment.
+-- What an append does to a signer, and to its store at any moment.
 use Rattle.std.proofs.Common.{◌≡◌, ◌⊎◌, ℕ, ◌+◌, ◌<◌, ◌≤◌, Bool, true, false, not, List, [], ◌∷◌, ◌++◌, length, Some, Ok, Err, refl}
 use Rattle.std.proofs.Common.{sym, ap, ◌∙◌, subst, arith, ⊎_elim, inl, inr, IsTrue, true≢false, ltb-false}
 use Rattle.std.specs.Prelude.{take}
@@ -39,12 +39,12 @@ use Rattle.sign_core.specs.World.{acked, cut_old, cut_new, no_memory}
 use Rattle.state_file.specs.Slot.{FitsVersion, version_in, name_most}
 use Rattle.state_file.specs.declared.record.Bound.{Bound}
 
--- what a stop leaves of a store between two calls: its list
+-- between two calls a crash leaves the store's list
 abbrev pub LeavesItsList : {S : Type 0} → store.Ghosts S → S → Type 0
 LeavesItsList g kept_in = (left : List Record)
     → WhileRunning (g.honest kept_in) (g.stopped kept_in) (g.left_since kept_in (g.moment kept_in) left → left ≡ g.list kept_in)
 
--- what a stop leaves in an append is a beginning of the records with the new one
+-- a crash in an append leaves a beginning of the records with the new one
 beginning_left : (list records left : List Record) (entry : Record) (all : List Record) → list ≡ records → all ≡ records ++ entry ∷ []
     → (left ≡ list) ⊎ (left ≡ list ++ entry ∷ []) → IsBeginning (length records) all left
 beginning_left list records left entry all same is (inl old) = record {
@@ -62,7 +62,7 @@ beginning_left list records left entry all same is (inr new) = record {
     length_more [] entry = omega arith
     length_more (first ∷ rest) entry = omega (arith, length_more rest entry)
 
--- what a stop leaves in a call that leaves the old records
+-- a crash in a call that adds nothing leaves the old records
 beginning_kept : (records more left all : List Record) → left ≡ records → all ≡ records ++ more → IsBeginning (length records) all left
 beginning_kept records more left all is same = record {
   count = length records;
@@ -87,7 +87,6 @@ pub length_one_more : (records : List Record) (entry : Record) → length (recor
 length_one_more [] entry = refl
 length_one_more (first ∷ rest) entry = omega (arith, length_one_more rest entry)
 
--- an append of a signer that is opened
 pub adds_ok : {S R : Type 0} (g : store.Ghosts S) (old new : View S R) (entry : Record) → old.is_open ≡ true → IsTied g old.store old.records
     → IsAppended {A = Unit {0}} g old.store new.store entry (Ok tt) → new.records ≡ old.records ++ entry ∷ [] → new.is_open ≡ true
     → new.random ≡ old.random → UsesMemory old new → ((TakesMemory entry → ⊥) → new.spare ≡ old.spare) → Adds g old new entry (Ok tt)
@@ -197,7 +196,7 @@ adds_err g old new entry (Damaged k) was tied is records is_open random memory u
 adds_err g old new entry (Unreadable k) was tied is records is_open random memory untaken = absurd is.stored
 adds_err g old new entry (Illegal k) was tied is records is_open random memory untaken = absurd is.stored
 
--- the same of a signer's parts
+-- the same for a signer by its parts
 pub adds_in_ok : {S R : Type 0} {caches : Cached} (g : store.Ghosts S) (old new : S) (random : R) (before after : Table) (is_open : Bool) (entry : Record) (v : View S R)
     → view_of old random before caches is_open ≡ v → IsSigner g (view_of old random before caches is_open) → v.is_open ≡ true
     → IsAppended {A = Unit {0}} g old new entry (Ok tt) → Grows entry before after → Adds g v (view_of new random after caches is_open) entry (Ok tt)
@@ -260,25 +259,24 @@ levels_range records key n sizes keyed is = by_secret key.secret (key_has_sizes 
     by_secret (Hss levels identifier seed) sized is = (omega (arith, is, sized.2.0), omega (arith, is, sized.2.1))
     by_secret (Xmss secret) sized is = (omega (arith, is), omega (arith, is))
 
--- ---- what an append wants
+-- ---- what an append requires
 
--- records that are some go on with one that their file can hold
+-- a record that their file can hold can follow records that aren't empty
 follows_some : (records : List Record) (entry : Record) → 0 < length records → FitsVersion (version_in records) entry → CanFollow records entry
 follows_some [] entry some fits = absurd (omega (arith, some))
 follows_some (first ∷ rest) entry some fits = fits
 
--- so does an honest store of them
+-- and those of an honest store
 pub follows_tied : {S : Type 0} (g : store.Ghosts S) (kept_in : S) (records : List Record) (entry : Record) (key : Key) → key_in records ≡ Some key
     → IsTied g kept_in records → FitsVersion (version_in records) entry → IsTrue (g.honest kept_in) → CanFollow (g.list kept_in) entry
 follows_tied g kept_in records entry key keyed tied fits honest =
     subst (λ list. CanFollow list entry) (sym (tied.same honest)) (follows_some records entry (some_records records key keyed) fits)
 
--- none go on with a Key
+-- a Key can follow an empty list
 pub follows_none : (list : List Record) (key : Key) → length list ≡ 0 → CanFollow list (KeyRecord key)
 follows_none [] key none = refl
 follows_none (first ∷ rest) key none = absurd (omega (arith, none))
 
--- the version of records is that of their key
 pub version_of_key : (records : List Record) (key : Key) → key_in records ≡ Some key → version_in records ≡ key.version
 version_of_key [] key is = absurd (cc)
 version_of_key (KeyRecord own ∷ rest) key is = ap (λ (k : Key). k.version) (same_Some own key is)
@@ -287,7 +285,7 @@ version_of_key (BoundRecord bound ∷ rest) key is = absurd (cc)
 version_of_key (Retire upto ∷ rest) key is = absurd (cc)
 version_of_key (Moved ∷ rest) key is = absurd (cc)
 
--- a name that isn't too long is one that a file of the records can hold
+-- a name that isn't too long fits the records' version
 pub name_fits : (records : List Record) (key : Key) (bound : Bound) → key_in records ≡ Some key → is_long key bound.name ≡ false
     → FitsVersion (version_in records) (BoundRecord bound)
 name_fits records key bound keyed short =

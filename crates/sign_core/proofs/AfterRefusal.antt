@@ -54,7 +54,7 @@ whole records outcome acknowledged stands uncut = record {
   cut = λ entry is. absurd (some_none entry (sym uncut ∙ is));
 }
 
--- The records go by another name, and the one that is wanted by other words.
+-- `Leaves` along equal records and a weaker property.
 leaves_along : {A : Type 0} (IsOld IsNew : Record → Type 0) (records others : List Record) (outcome : Outcome A)
     → records ≡ others → ((entry : Record) → IsOld entry → IsNew entry) → Leaves records IsOld outcome
     → Leaves others IsNew outcome
@@ -216,7 +216,7 @@ module _ (key : Key) (name : List ℕ) where
               ∙ binding_other records entry other (ap (binds other) first.is);
         }
 
-  -- ---- what is wanted, one after the other
+  -- ---- the new records, one after the other
 
   wants_binding : (level : ℕ) (records : List Record) (chance : Chance) (message : List ℕ) (bound : Bound)
       → level ≡ bottom_of key.secret → chance.given ≡ Some message
@@ -328,7 +328,7 @@ HasLeft state name chance outcome = (Leaves state.records (λ entry. ⊥) outcom
     × LeavesTrees key state.records level name chance outcome
     × (outcome.answer ≢ Err RandomRepeated → DrawsWanted state.records (bottom_of key.secret - level) chance outcome))
 
--- it was read
+-- the same once the message is read
 read_too : (state : State) (name : List ℕ) (chance : Chance) (outcome : Outcome (List ℕ))
     → HasLeft state name chance outcome → HasLeft state name chance (reading outcome)
 read_too state name chance outcome (inl (left, none)) =

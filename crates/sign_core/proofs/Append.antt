@@ -1,4 +1,4 @@
--- What one more record changes of current trees, of their next leaves and of the deepest level with a free leaf.
+-- What one more record changes in current trees, their next leaves and the deepest level with a free leaf.
 use Rattle.std.proofs.Common.{◌≡◌, ◌⊎◌, inl, inr, ℕ, zero, suc, ◌+◌, ◌-◌, ◌<◌, ◌≤◌, max, true, false, cond, List, [], ◌∷◌, ◌++◌}
 use Rattle.std.proofs.Common.{length, take, Option, Some, None, refl, sym, ap, subst, ◌∙◌, arith, eq-eqb, ne_eqb, pow_pos}
 use Rattle.std.specs.Prelude.{fold, is_some}
@@ -166,7 +166,6 @@ numbers_front secret records more tree k (first ∷ rest) within =
     let others = numbers_front secret records more tree (k + 1) rest (omega (arith, within)) in
     λ i. number_in tree (reaches secret (same i) first) ∷ others i
 
--- the next leaf of a tree, with one more record
 pub next_appended : (secret : Secret) (records : List Record) (entry : Record) (tree : ℕ)
     → next_in secret (records ++ entry ∷ []) tree ≡ max (next_in secret records tree) (number_in tree (reaches secret records entry))
 next_appended secret records entry tree =
@@ -233,7 +232,6 @@ next_raised secret records entry tree n reached =
 
 -- ---- next leaves of levels
 
--- a level's next leaf is that of its tree
 pub next_at_tree : (secret : Secret) (records : List Record) (level tree : ℕ) → current level records ≡ Some tree
     → next_at secret records level ≡ next_in secret records tree
 next_at_tree secret records level tree is = ap (next_of secret records) is
@@ -257,7 +255,6 @@ free_at_tree secret records level tree is = ap (λ o. cond (is_some o) (leaves_a
 pub free_at_none : (secret : Secret) (records : List Record) (level : ℕ) → current level records ≡ None → free_at secret records level ≡ 0
 free_at_none secret records level is = ap (λ o. cond (is_some o) (leaves_at secret level - next_of secret records o) 0) is
 
--- a level has a leaf
 some_leaves_in : (levels : List LmsPair) (level : ℕ) → level < length levels → 0 < leaves_in levels level
 some_leaves_in [] level within = absurd (omega (arith, within))
 some_leaves_in (pair ∷ rest) zero within = pow_pos (height_of pair.tree)
@@ -283,6 +280,5 @@ deepest_new secret level above records extend some of within parent =
 
 -- ---- beginnings
 
--- what is found in a beginning of a longer list is found in that of the list
 pub take_of_longer : (records more : List Record) (k : ℕ) → k ≤ length records → take k (records ++ more) ≡ take k records
 take_of_longer records more k within = take-append-le k records more within

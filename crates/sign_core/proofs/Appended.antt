@@ -1,4 +1,4 @@
--- What an append of a signer tells: what it adds, and how it can be refused.
+-- What a signer's append adds, and how it can be refused.
 use Rattle.std.proofs.Common.{◌≡◌, ◌∙◌, ℕ, Bool, false, ◌∷◌, [], ◌++◌, length, Result, Ok, Err, refl, sym, ap, subst, arith, true≢false}
 use Rattle.std.specs.Option.{option_to_list}
 use Rattle.state_file.specs.declared.record.Record.{Record}
@@ -13,11 +13,11 @@ use Rattle.sign_core.specs.Signing.{answered_with}
 use Rattle.sign_core.specs.World.{Fate, Outcome, State, acked, cut_new, cut_old, no_memory}
 use Rattle.sign_core.proofs.Adding.{length_one_more}
 
--- the signer after it drew: only its source has changed
+-- the signer after a draw: only its source has changed
 abbrev pub after_draw : {S R : Type 0} → View S R → R → View S R
 after_draw view random = record view { random = random }
 
--- An append that is acknowledged adds its record, and another one fails.
+-- An acknowledged append adds its record; any other fails.
 pub is_tried : {S R : Type 0} (g : store.Ghosts S) (old new : View S R) (entry : Record) (answer : Result (Unit {0}) SignFault) → Adds g old new entry answer
     → (Kept : Type 0) → UnlessAppended old new answer Kept
 is_tried {S = S} {R = R} g old new entry answer adds Kept = by_fate adds.fate adds.ends
@@ -28,7 +28,7 @@ is_tried {S = S} {R = R} g old new entry answer adds Kept = by_fate adds.fate ad
     by_fate cut_new ends = λ same none. absurd (true≢false (ap (is_fault is_of_append) ends.answer_is ∙ none))
     by_fate no_memory ends = λ same none. absurd (true≢false (ap (is_fault is_of_append) ends.answer_is ∙ none))
 
--- Its answer comes after all that is drawn.
+-- An append's answer comes after all draws.
 pub comes_after_draws : {S R : Type 0} (g : store.Ghosts S) (old new : View S R) (entry : Record) (answer : Result (Unit {0}) SignFault) → Adds g old new entry answer
     → is_fault is_before_draws answer ≡ false
 comes_after_draws {S = S} {R = R} g old new entry answer adds = by_fate adds.fate adds.ends
@@ -39,13 +39,13 @@ comes_after_draws {S = S} {R = R} g old new entry answer adds = by_fate adds.fat
     by_fate cut_new ends = ap (is_fault is_before_draws) (sym ends.answer_is)
     by_fate no_memory ends = ap (is_fault is_before_draws) (sym ends.answer_is)
 
--- An answer with a value is a fault where it was one without.
+-- `answered_with` keeps the kind of a fault.
 pub same_fault : {B : Type 0} (is_kind : SignFault → Bool) (answer : Result (Unit {0}) SignFault) (value : B)
     → is_fault is_kind (answered_with answer value) ≡ is_fault is_kind answer
 same_fault is_kind (Ok done) value = refl
 same_fault is_kind (Err fault) value = refl
 
--- Where it is Ok the record stands at the end.
+-- After Ok the record stands at the end.
 pub added_records : {S R : Type 0} (g : store.Ghosts S) (old new : View S R) (entry : Record) (answer : Result (Unit {0}) SignFault) (done : Unit {0})
     → Adds g old new entry answer → answer ≡ Ok done → new.records ≡ old.records ++ entry ∷ []
 added_records {S = S} {R = R} g old new entry answer done adds is = by_fate adds.fate adds.ends
@@ -56,7 +56,7 @@ added_records {S = S} {R = R} g old new entry answer done adds is = by_fate adds
     by_fate cut_new ends = absurd (let same = ends.answer_is ∙ is in cc)
     by_fate no_memory ends = absurd (let same = ends.answer_is ∙ is in cc)
 
--- It isn't that the source failed.
+-- An append is never refused for a failed source.
 pub no_draw_fails : {S R : Type 0} (g : store.Ghosts S) (old new : View S R) (entry : Record) (answer : Result (Unit {0}) SignFault) → Adds g old new entry answer
     → (before after : ℕ) → after ≡ before → Counts is_random_failed before after answer
 no_draw_fails {S = S} {R = R} g old new entry answer adds before after same = by_fate adds.fate adds.ends
@@ -67,13 +67,13 @@ no_draw_fails {S = S} {R = R} g old new entry answer adds before after same = by
     by_fate cut_new ends = subst (Counts is_random_failed before after) ends.answer_is same
     by_fate no_memory ends = subst (Counts is_random_failed before after) ends.answer_is same
 
--- An answer with a value counts as one without.
+-- `answered_with` keeps counts.
 pub counts_answered : {B : Type 0} (is_counted : SignFault → Bool) (before after : ℕ) (answer : Result (Unit {0}) SignFault) (value : B)
     → Counts is_counted before after answer → Counts is_counted before after (answered_with answer value)
 counts_answered is_counted before after (Ok done) value counts = counts
 counts_answered is_counted before after (Err fault) value counts = counts
 
--- A call that draws and appends ends as one that appends does: with another answer, and the same records.
+-- A call that draws and appends ends as the append does, with another answer and the same records.
 pub ends_alike : {S R A B : Type 0} (g : store.Ghosts S) (view new : View S R) (random : R) (one : Outcome A) (other : Outcome B) (answer : Result A SignFault)
     (last : Result B SignFault) → other.state ≡ one.state → other.acknowledged ≡ one.acknowledged → other.failed ≡ one.failed → other.answer ≡ last
     → ((before after : ℕ) → Counts is_store_failed before after one.answer → Counts is_store_failed before after other.answer)

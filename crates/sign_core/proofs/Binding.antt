@@ -1,4 +1,4 @@
--- What each end of a binding is: what was drawn, then what became of the message, and of the append of its record.
+-- The ends of a binding: its draws, then the message, then the append of its record.
 use Rattle.std.proofs.Common.{◌≡◌, ◌∙◌, refl, sym, ap, ap₂, subst, inl, ℕ, ◌+◌, ◌-◌, ◌<◌, ◌^◌, Bool, true, false, List, [], ◌∷◌, ◌++◌, length, map}
 use Rattle.std.proofs.Common.{Option, Some, None, Result, Ok, Err, MatchResult, IfErr, OnOk, IsErrAnd, append-nil, arith}
 use Rattle.std.specs.Prelude.{not, is_some, replicate, unwrap_or, ◌&&◌}
@@ -109,12 +109,12 @@ module _ {S R M : Type 0} (g : store.Ghosts S) (r : source.Ghosts R) (m : messag
     stays = λ _ _. refl;
   }
 
-  -- what an append comes to, after the draws and the reading
+  -- an append's outcome, after the draws and the reading
   abbrev append_so : (entry : Record) (sign : List Record → List ℕ) (drawn : List ℕ) → Fate → Outcome (List ℕ)
   append_so entry sign drawn fate =
       drawing drawn (reading (appended (open_on ledger.records) entry fate (λ records. answered (open_on records) (sign records))))
 
-  -- by its fate: the records that it adds, what is drawn, and that the message is read
+  -- the records that it adds, by its fate
   more_by : Record → Fate → List Record
   more_by entry acked = entry ∷ []
   more_by entry cut_old = []
@@ -183,7 +183,7 @@ module _ {S R M : Type 0} (g : store.Ghosts S) (r : source.Ghosts R) (m : messag
     stays = λ same none. is_tried g (view_of kept_in mid ledger caches is_open) new entry a adds (new.store ≡ kept_in) same (sym (same_fault is_of_append a _) ∙ none);
   }
 
--- and the key stays
+-- an append keeps the key
 pub key_of_added : {S R : Type 0} (g : store.Ghosts S) (old new : View S R) (entry : Record) (a : Result (Unit {0}) SignFault) (x : Unit {0}) (key own : Key)
     → Adds g old new entry a → a ≡ Ok x → key_in old.records ≡ Some key → key_in new.records ≡ Some own → own ≡ key
 key_of_added g old new entry a x key own adds is keyed after =
@@ -205,7 +205,6 @@ failed_draw before after upcoming left fault draws =
     nothing None = refl
     nothing (Some bytes) = refl
 
--- a source from which nothing is drawn gives nothing
 pub gives_nothing : (upcoming : Option (List ℕ)) → Provides upcoming [] upcoming
 gives_nothing None = refl
 gives_nothing (Some bytes) = refl
@@ -350,7 +349,8 @@ module _ {S R M : Type 0} (g : store.Ghosts S) (r : source.Ghosts R) (m : messag
         lacks_tree = counted g 1 (view_of kept_in random ledger caches is_open) new _ (counts_answered is_out_of_memory _ _ a _ adds.refusals);
       })
 
--- The record that binds a name to the next leaf of a standing chain is the world's, and is appended, or its append fails.
+-- The record that binds a name to the next leaf of a standing chain is the world's. It is appended, or its append
+-- fails.
 pub bound_below : {S R M : Type 0} {caches : Cached} (g : store.Ghosts S) (r : source.Ghosts R) (m : message.Ghosts M) (name : List ℕ) (kept_in : S) (random mid : R)
     (ledger : Table) (is_open : Bool) (before after : M) (key : Key) (trees : Trees) (v new : View S R) (above : List Link) (last : SigningTree) (bound : Bound)
     (text : List ℕ) (a : Result (Unit {0}) SignFault) (answer : Result (List ℕ) SignFault) → view_of kept_in random ledger caches is_open ≡ v → v.is_open ≡ true
@@ -385,13 +385,13 @@ standing_pairs records key trees other above links last link these others stands
     ∙ stands.pairs ∙ all_pairs key.secret trees these
     ∙ ap (λ (t : Trees). t.pairs) (same_Some trees other (sym these ∙ others))
 
--- and is made
+-- the links of such a chain are made
 pub standing_made : (records : List Record) (key : Key) (trees : Trees) (above links : List Link) (last : SigningTree) (link : Link)
     → Stands key trees records (bottom_of key.secret) above last → links ≡ above ++ link ∷ [] → link.tree ≡ last → AreMade links
 standing_made records key trees above links last link stands is same =
     subst AreMade (sym is) (more_made above link stands.made (subst IsMade (sym same) stands.last_made))
 
--- It writes the binding's signature.
+-- They write the binding's signature.
 pub standing_signs : (records : List Record) (key own : Key) (trees : Trees) (above links : List Link) (last : SigningTree) (link : Link) (bound : Bound) (bytes : List ℕ)
     → key_in records ≡ Some key → own ≡ key → trees_of key.secret ≡ Some trees → Stands key trees records (bottom_of key.secret) above last
     → links ≡ above ++ link ∷ [] → link.tree ≡ last → last.leaf ≡ bound.leaf → link.randomizer ≡ bound.randomizer → link.digest ≡ bound.digest
@@ -430,7 +430,6 @@ xmss_next_inside records key secret of_key free =
     let at : next_at key.secret records (bottom_of key.secret) ≡ next_at key.secret records 0 = ap (λ s. next_at key.secret records (bottom_of s)) of_key in
     omega (arith, low, leaves, at)
 
--- the room of a signature
 pub xmss_room : (key : Key) (secret : XmssSecret) (size : ℕ) → IsXmssKey secret key → size ≡ signature_size key.secret → size ≡ xmss_signature_len_of secret.tree
 xmss_room key secret size of_key is = is ∙ ap signature_size of_key
 
@@ -446,7 +445,7 @@ bound_of_xmss records key own secret name bound text of_key same named leaf none
     ∙ sym (xmss_leaf_digest records key secret (length records) next (replicate 32 0) text of_key) in
     λ i. record { name = named i; leaf = leaf i; randomizer = none i; digest = digest i }
 
--- and can follow
+-- and it can follow
 pub xmss_follows : (records : List Record) (key : Key) (secret : XmssSecret) (name : List ℕ) (bound : Bound) → key_in records ≡ Some key
     → has_moved records ≡ false → IsXmssKey secret key → 0 < free_at key.secret records 0 → bound.leaf ≡ next_at key.secret records (bottom_of key.secret)
     → bound.name ≡ name → binding_in records name ≡ None → bound.randomizer ≡ replicate 32 0

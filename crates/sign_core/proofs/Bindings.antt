@@ -34,7 +34,7 @@ binds_not name entry other none same named =
 abbrev NoneBinds : List ℕ → List Record → Type 0
 NoneBinds name entries = (i : ℕ) (other : Bound) → slice_get entries i ≡ Some (BoundRecord other) → other.name ≢ name
 
--- the first Bound of a name, in entries of which the first has place k, has place j
+-- in entries from place k on, the first Bound of a name has place j
 record BoundAt (name : List ℕ) (k : ℕ) (entries : List Record) (j : ℕ) (bound : Bound) : Type 0 where
   at : ℕ
   place : k + at ≡ j
@@ -111,7 +111,7 @@ unbound records name k bound is stands = elim (found_binding name 0 records) [
   | inr (at, none) ↦ none k bound stands
 ]
 
--- and what is in no Bound has none
+-- a name in no Bound has no binding
 pub not_bound : (records : List Record) (name : List ℕ) → ((k : ℕ) (bound : Bound) → slice_get records k ≡ Some (BoundRecord bound) → bound.name ≢ name)
     → binding_in records name ≡ None
 not_bound records name none = elim (found_binding name 0 records) [
@@ -154,7 +154,7 @@ binding_new records bound free =
     binding_appended records (BoundRecord bound) bound.name
     ∙ (λ i. option_or (free i) (or_later (length records) (binds_own bound bound.name refl i) None))
 
--- and no other name
+-- a record that doesn't bind a name leaves its binding
 pub binding_other : (records : List Record) (entry : Record) (name : List ℕ) → binds name entry ≡ None
     → binding_in (records ++ entry ∷ []) name ≡ binding_in records name
 binding_other records entry name none =
@@ -194,14 +194,12 @@ at_found test (first ∷ xs) (suc k) x at good = by (test first) (at_found test 
     by true rest = refl
     by false rest = rest
 
--- an I that the records have stands in one
 pub identifier_stands : (records : List Record) (identifier : List ℕ) → has_identifier records identifier ≡ true
     → (k : ℕ) × (entry : Record) × (slice_get records k ≡ Some entry) × (identifier_of entry ≡ Some identifier)
 identifier_stands records identifier has =
     let (k, entry, at, own) = found_at (λ entry. is_of identifier (identifier_of entry)) records has in
     (k, entry, at, of_own identifier (identifier_of entry) own)
 
--- and one that stands in one they have
 pub stands_identifier : (records : List Record) (identifier : List ℕ) (k : ℕ) (entry : Record) → slice_get records k ≡ Some entry
     → identifier_of entry ≡ Some identifier → has_identifier records identifier ≡ true
 stands_identifier records identifier k entry at own =

@@ -1,4 +1,4 @@
--- A chain of calls, with stops at any moment, is a run of the world.
+-- A chain of calls, with crashes at any moment, is a run of the world.
 use Rattle.std.proofs.Common.{◌≡◌, ◌∙◌, refl, ap, subst, ℕ, suc, ◌≤◌, List, [], ◌∷◌, ◌++◌, length, Option, Some, None, append-nil, take, sym, inl, inr, arith}
 use Rattle.std.proofs.lemmas.List.{take_all}
 use Rattle.state_file.specs.declared.record.Key.{Key}
@@ -43,7 +43,7 @@ whole_left records all left same is = is.beginning ∙ ap (take is.count) same �
 
 -- ---- one step
 
--- what a stop at a moment of an event leaves, is left by events that can come
+-- what a crash at a moment of an event leaves, events that can come leave
 pub stop_left : (limit : ℕ) (world : World) (event : Event) (left : List Record) → IsEvent event
     → IsBeginning (length world.state.records) (reached_by limit world event) left → IsLeftBy limit world left
 stop_left limit world (create spec chance) left can is = stop_law.creates limit world spec chance left can is
@@ -95,7 +95,7 @@ randomizer_fields (Hss levels identifier seed) fields are = are
 randomizer_fields (Xmss secret) [] are = tt
 randomizer_fields (Xmss secret) (field ∷ fields) are = absurd are
 
--- the draws of a key's request are those of an event's
+-- draws under a key are draws of an event
 pub draws_of : (secret : Secret) (chance : Chance) → AreDrawsOf secret chance → AreDraws chance
 draws_of secret chance drawn = record { trees = drawn.trees; bound = randomizer_fields secret chance.bound.fields drawn.bound }
 
@@ -116,13 +116,13 @@ one_call : (limit : ℕ) (world : World) (event : Event) (events : List Event) (
     → IsStoppedIn limit (after limit world event) events left → IsStoppedIn limit world (event ∷ events) left
 one_call limit world event events left can by = record { ended = suc by.ended; possible = (can, by.possible); stopped = by.stopped }
 
--- Of what was left since a moment before a call, either a stop before it left it, or one in it.
+-- What was left since a moment before a call, a crash before the call left, or one in it.
 module _ {S : Type 0} (moment : S → ℕ) (left_since : S → ℕ → List Record → Type 0) (limit : ℕ) where
-  -- all that was left since a moment until this one, is left by events that can come
+  -- events that can come leave all that was left since a moment until now
   abbrev AreLeft : World → S → ℕ → Type 0
   AreLeft world store t = (list : List Record) → left_since store t list → IsLeftBy limit world list
 
-  -- what is left by the calls so far, and by those to come
+  -- what the calls so far leave, and the later ones
   calls_stop : (t : ℕ) (world : World) (old : S) (calls : List (Call S)) (left : List Record) (P : Type 0) → t ≤ moment old
       → (left_since old t left → P) → (IsStoppedIn limit world (events_of calls) left → P) → AreCalls moment left_since limit world old calls
       → left_since (store_after_calls old calls) t left → P

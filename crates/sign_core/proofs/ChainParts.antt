@@ -1,4 +1,4 @@
--- The chain of trees above a binding, and a binding under XMSS: which digest it signs, with which leaf and which types of trees.
+-- The chain of trees above a binding, and a binding under XMSS: its digest, its leaf and the types of its trees.
 use Rattle.std.proofs.Common.{◌≡◌, ◌∙◌, refl, sym, ap, subst, ℕ, zero, suc, ◌+◌, ◌-◌, ◌^◌, ◌<◌, ◌≤◌, List, [], ◌∷◌, ◌++◌, length, take, map}
 use Rattle.std.proofs.Common.{Option, Some, arith}
 use Rattle.std.specs.Prelude.{slice_get, slice_index_or, unwrap_or}
@@ -33,11 +33,10 @@ use Rattle.sign_core.proofs.TreeSteps.{before_current}
 
 -- ---- keys
 
--- records have one key
 pub same_key : (records : List Record) (a b : Key) → key_in records ≡ Some a → key_in records ≡ Some b → a ≡ b
 same_key records a b is_a is_b = same_Some a b (sym is_a ∙ is_b)
 
--- and begin with it
+-- records begin with their key
 pub key_and_rest : (records : List Record) (key : Key) → key_in records ≡ Some key → (rest : List Record) × (records ≡ KeyRecord key ∷ rest)
 key_and_rest [] key is = absurd (cc)
 key_and_rest (KeyRecord first ∷ rest) key is = (rest, ap (λ k. KeyRecord k ∷ rest) (same_Some first key is))
@@ -46,7 +45,7 @@ key_and_rest (BoundRecord bound ∷ rest) key is = absurd (cc)
 key_and_rest (Retire upto ∷ rest) key is = absurd (cc)
 key_and_rest (Moved ∷ rest) key is = absurd (cc)
 
--- so the chain of the key's tree is that of its record
+-- so the chain of the key's tree needs only its record
 pub key_chain : (records : List Record) (key : Key) (P : Option ℕ → Type 0) → key_in records ≡ Some key
     → ((rest : List Record) → P (damaged_in key 0 (KeyRecord key ∷ rest) 0)) → P (damaged_in key 0 records 0)
 key_chain records key P keyed each =
@@ -129,7 +128,7 @@ take_one_more [] k other within = absurd (omega (arith, within))
 take_one_more (x ∷ xs) zero other within = refl
 take_one_more (x ∷ xs) (suc k) other within = ap (λ l. x ∷ l) (take_one_more xs k other (omega (arith, within)))
 
--- what signs the trees of a chain has the types of the levels
+-- the signings of a chain's trees have the types of their levels
 signings_pairs : (records : List Record) (key : Key) (trees : Trees) (level place : ℕ) → IsLegal records → key_in records ≡ Some key
     → trees_of key.secret ≡ Some trees → IsTreeAt records level place → level < length trees.pairs
     → map pair_of (signings_above trees level records place) ≡ take level trees.pairs
@@ -186,7 +185,7 @@ pub xmss_signed : (records : List Record) (key : Key) (secret : XmssSecret) (k :
     → signature_at key records k bound ≡ xmss_signature_bytes (xmss_textbook secret bound.leaf bound.digest)
 xmss_signed records key secret k bound is = ap (λ s. signature_by s records k bound) is
 
--- the chain of a key of XMSS is its tree alone
+-- the chain of an XMSS key is its tree alone
 pub xmss_damaged : (records : List Record) (key : Key) (secret : XmssSecret) (k : ℕ) → IsXmssKey secret key
     → damaged_in key (bottom_of key.secret) records (tree_before (bottom_of key.secret) records k) ≡ damaged_in key 0 records 0
 xmss_damaged records key secret k is = ap (λ s. damaged_in key (bottom_of s) records (tree_before (bottom_of s) records k)) is

@@ -21,7 +21,7 @@ use Rattle.sign_core.specs.Textbook.{signings_above, tree_before, trees_of}
 
 -- ---- lists
 
--- what stands in a beginning stands there in all
+-- an item of a beginning is an item of the list
 pub got_in-take : {A : Type 0} (k : ℕ) (xs : List A) (i : ℕ) (x : A) → slice_get (take k xs) i ≡ Some x → (i < k) × (slice_get xs i ≡ Some x)
 got_in-take zero xs i x is = absurd (cc)
 got_in-take (suc k) [] i x is = absurd (cc)
@@ -41,7 +41,7 @@ got_last [] y (suc i) is = absurd (omega (arith, is))
 got_last (x ∷ xs) y zero is = absurd (omega (arith, is))
 got_last (x ∷ xs) y (suc i) is = got_last xs y i (omega (arith, is))
 
--- where nothing is found in two lists after one another, nothing is found in either
+-- where a test finds nothing in two joined lists, it finds nothing in either
 pub none_of_both : {A : Type 0} (test : A → Bool) (xs : List A) (y : A) → find test (xs ++ y ∷ []) ≡ None → (find test xs ≡ None) × (test y ≡ false)
 none_of_both test [] y none = (refl, by_test (test y) none)
   where
@@ -126,7 +126,7 @@ current_made level k records tree is =
 
 -- ---- what each level of a chain signs
 
--- what an Extend signs with
+-- an Extend's signing
 abbrev pub named_by : LmsSecret → Extend → Signing
 named_by secret extend = record { secret = secret; leaf = extend.parent_leaf; randomizer = extend.randomizer; digest = extend.digest }
 
@@ -148,7 +148,6 @@ pub record AreChained (trees : Trees) (records : List Record) (above : List Sign
   pub links : (i : ℕ) (x next : Signing) → slice_get (above ++ last ∷ []) i ≡ Some x
       → slice_get (above ++ last ∷ []) (i + 1) ≡ Some next → SignsNext trees records i x next
 
--- one more level
 chained_more : (trees : Trees) (records : List Record) (above : List Signing) (s last : Signing) → AreChained trees records above s
     → SignsNext trees records (length above) s last → AreChained trees records (above ++ s ∷ []) last
 chained_more trees records above s last chained link =
@@ -172,7 +171,7 @@ chained_more trees records above s last chained link =
           ];
     }
 
--- the digest that a sound Extend says
+-- a sound Extend's digest
 sound_digest : (trees : Trees) (records : List Record) (tree level : ℕ) (extend : Extend) → extend.level ≡ level + 1
     → is_sound_extend (Some trees) records tree extend ≡ true
     → extend.digest ≡ message_digest_of (secret_at trees records (tree_before level records tree)).identifier extend.parent_leaf extend.randomizer
@@ -189,7 +188,7 @@ pub from_not : (b : Bool) → not b ≡ false → b ≡ true
 from_not true is = refl
 from_not false is = absurd (cc)
 
--- The chain of a current tree, where no record of it is damaged: each level signs the key of the next one.
+-- The chain of a current tree, where no record of it is damaged: each level signs the next one's key.
 pub chained : (key : Key) (trees : Trees) (records : List Record) (level k tree : ℕ) (last : Signing) → trees_of key.secret ≡ Some trees
     → slice_get records 0 ≡ Some (KeyRecord key) → current level (take k records) ≡ Some tree → last.secret ≡ secret_at trees records tree
     → damaged_in key level records tree ≡ None

@@ -1,4 +1,4 @@
--- What each end of a create is: a step of the world.
+-- Each end of a create is a step of the world.
 use Rattle.std.proofs.Common.{◌≡◌, ◌⊎◌, ℕ, ◌+◌, ◌≤◌, Bool, true, false, List, [], ◌∷◌, ◌++◌, length, Some, None, Result, Ok, Err, refl, sym, ap, ◌∙◌}
 use Rattle.std.proofs.Common.{subst, arith, append-nil, inl, inr, IsTrue, true≢false, ◌||◌}
 use Rattle.std.proofs.lemmas.Bool.Decides.{nat_tests}
@@ -58,7 +58,7 @@ drawn_from : {R : Type 0} (list : List Record) (before after : R) → length lis
 drawn_from [] before after none = tt
 drawn_from (first ∷ rest) before after none = absurd (omega (arith, none))
 
--- a create that ends with its look at the store
+-- a create that ends at its look for a key
 refused_first : {S R : Type 0} (g : store.Ghosts S) (r : source.Ghosts R) (version : Version) (spec : Spec) (old new : S) (random : R) (fault : SignFault)
     (failed : Option SignFault) → LooksForKey {A = Unit {0}} g old new (Err fault) → LoadFails failed (g.list old) (g.stopped old) (g.honest old)
     → created (closed_on (g.list old)) spec (record { version = version; failed_load = failed; fields = []; has_room = true; fate = acked })
@@ -119,7 +119,6 @@ looked g r version spec old new random NoMemoryToOpen is = absurd is.finds
 looked g r version spec old new random (Damaged k) is = absurd is.finds
 looked g r version spec old new random (Illegal k) is = absurd is.finds
 
--- a create where no record stands
 empty_step : (version : Version) (list : List Record) (spec : Spec) (fields : List (List ℕ)) (fate : Fate) (secret : Option Secret) → length list ≡ 0
     → secret_from spec fields ≡ secret
     → created (closed_on list) spec (record { version = version; failed_load = None; fields = fields; has_room = true; fate = fate })
@@ -176,7 +175,7 @@ undrawn g r version spec old mid before after (Illegal k) is draws = absurd draw
 
 -- ---- the append
 
--- What the look at the store and the append of a Key have done to it: a stop left the old list, or the Key as well.
+-- The store after the look for a key and the append of a Key: a crash left the old list, or the Key as well.
 pub record HasAppended {S A : Type 0} (g : store.Ghosts S) (old mid new : S) (entry : Record) (answer : Result A SignFault) : Type 0 where
   pub looked : LooksForKey {A = Unit {0}} g old mid (Ok tt)
   pub appended : IsAppended g mid new entry answer
@@ -200,7 +199,7 @@ old_moments g old mid new entry answer has leaves all is honest running =
     combined g.moment g.left_since old mid new _ (moments_kept g old mid (g.list old) [] all has.looked.moments (λ _. refl) is honest running)
     (moments_kept g mid new (g.list old) [] all leaves (λ _. has.looked.list) is (honest_mid has honest) has.looked.finds.2)
 
--- a key whose append has this fate, with the public key that it has where it is acknowledged
+-- a key whose append has this fate, with its public key where it is acknowledged
 made_by_fate : {S R : Type 0} (g : store.Ghosts S) (r : source.Ghosts R) (version : Version) (spec : Spec) (old mid new : S) (before after : R) (secret : Secret) (fate : Fate)
     (outcome : Outcome AnyPublic) (answer : Result (Unit {0}) SignFault) (IsAnswer : Outcome AnyPublic → Type 0)
     → HasAppended g old mid new (KeyRecord (new_key version secret)) answer → (draws : DrawsSecret r spec before after (Ok secret))

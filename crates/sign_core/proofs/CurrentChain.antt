@@ -133,6 +133,5 @@ stands key trees records level place leaf above last legal keyed these few has s
           ∙ ap (λ n. take n trees.pairs) (sym (add-one level));
     }
 
--- of no links each is made
 pub none_made : (links : List Link) → links ≡ [] → AreMade links
 none_made links is = subst AreMade (sym is) (λ i link found. absurd (none-some _ found))

@@ -1,4 +1,4 @@
--- An event that is cut off, and the same with the other outcome.
+-- An event that is cut, and the same with the other outcome.
 use Rattle.std.proofs.Common.{◌≡◌, refl, ap, ℕ, zero, suc, ◌+◌, ◌-◌, inl, inr, Bool, true, false, List, [], ◌∷◌, ◌++◌, length, Option, Some, None}
 use Rattle.std.specs.Prelude.{if◌then◌else◌, map, nat_le, nat_lt, not}
 use Rattle.std.specs.List.{AllByRecursion, concat}
@@ -25,7 +25,7 @@ use Rattle.sign_core.specs.inner.Cases.{repeated, repeated_sound, requested_of, 
 use Rattle.sign_core.specs.Cuts.{CutLaw, IsOther, turned, turned_chance, turned_creation, turned_draw}
 use Rattle.sign_core.specs.Events.{IsTreeDraw}
 
--- where nothing was cut off, the outcome is the same
+-- where nothing was cut, the outcome is the same
 same_outcome : {A : Type 0} (outcome : Outcome A) → outcome.failed ≡ None → IsOther outcome outcome
 same_outcome outcome whole = record {
   answer = refl;
@@ -89,7 +89,6 @@ other_append state entry cut_new next other later = record {
 }
 other_append state entry no_memory next other later = same_outcome (refused state _) refl
 
--- a choice
 other_choice : {A : Type 0} (test : Bool) (x y u v : Outcome A) → IsOther x u → IsOther y v → IsOther (if test then x else y) (if test then u else v)
 other_choice true x y u v first second = first
 other_choice false x y u v first second = second

@@ -1,4 +1,4 @@
--- What the draws of a key's secret come to, one field after the other.
+-- The draws of a key's secret, one field after the other.
 use Rattle.std.proofs.Common.{◌≡◌, ℕ, ◌+◌, List, [], ◌∷◌, ◌++◌, Some, None, Result, Ok, Err, refl, sym, ap, ◌∙◌, subst, append_assoc, append-nil}
 use Rattle.std.specs.Prelude.{Option}
 use Rattle.std.specs.List.{concat}
@@ -16,7 +16,6 @@ use Rattle.sign_core.specs.Events.{AreFields, key_sizes}
 use Rattle.sign_core.specs.inner.Signer.{DrawsSecret}
 use Rattle.sign_core.specs.World.{secret_from}
 
--- a source gives nothing
 pub provides_none : (upcoming : Option (List ℕ)) → Provides upcoming [] upcoming
 provides_none None = refl
 provides_none (Some upcoming) = refl
@@ -35,7 +34,7 @@ pub record HasDrawn {R : Type 0} (r : source.Ghosts R) (old new : R) (fields : L
   pub source : Provides (r.upcoming old) (concat fields) (r.upcoming new)
   pub failures : r.failures new ≡ r.failures old
 
--- a draw that gives a field, and one that fails
+-- a draw of one field
 abbrev pub Draws : {R : Type 0} → source.Ghosts R → (old new : R) → Result (List ℕ) SignFault → Type 0
 Draws r old new answer = DrawsBytes (r.failures old) (r.failures new) (r.upcoming old) (r.upcoming new) answer
 
@@ -93,7 +92,7 @@ draw_stops r spec old mid new fields (Damaged k) has are is failed = absurd fail
 draw_stops r spec old mid new fields (Unreadable k) has are is failed = absurd failed
 draw_stops r spec old mid new fields (Illegal k) has are is failed = absurd failed
 
--- the same of an equal spec and an equal answer
+-- `DrawsSecret` along an equal spec and an equal answer
 pub draws_along : {R : Type 0} (r : source.Ghosts R) (old new : R) (spec spec' : Spec) (answer answer' : Result Secret SignFault) → spec ≡ spec' → answer ≡ answer'
     → DrawsSecret r spec old new answer → DrawsSecret r spec' old new answer'
 draws_along r old new spec spec' answer answer' same is = subst (λ (t : Spec × Result Secret SignFault). DrawsSecret r t.0 old new t.1) (λ i. (same i, is i))

@@ -1,5 +1,5 @@
--- What a request draws, and that what it signs was read: it draws no more than its records want, and 24 comes only of
--- an I that stands in the records.
+-- What a request draws: no more than its records need, and 24 comes only after an I that stands in the records. And
+-- what it signs was read.
 use Rattle.std.proofs.Common.{◌≡◌, ◌≢◌, ◌∙◌, refl, sym, ap, subst, ℕ, zero, suc, ◌+◌, ◌-◌, ◌*◌, ◌≤◌, List, []}
 use Rattle.std.proofs.Common.{◌∷◌, ◌++◌, append-nil, length, length-append, take, Option, Some, None, Ok, Err, Bool}
 use Rattle.std.proofs.Common.{true, false, arith}
@@ -33,7 +33,7 @@ use Rattle.sign_core.proofs.Fulfilled.{fields_drawn_before}
 use Rattle.sign_core.proofs.OnceKept.{kept_choice}
 use Rattle.sign_core.proofs.Requests.{first_drawn, later_drawn}
 
--- ---- what comes before the wanted records
+-- ---- what comes before the new records
 
 -- Q holds of refusals that aren't 24.
 abbrev pub IsOfRefusals : (Outcome (List ℕ) → Type 0) → State → Type 0
@@ -192,7 +192,7 @@ repeats_extended records key level None draw draws next later = λ is. absurd (c
 repeats_extended records key level (Some trees) draw draws next later =
     repeats_by records trees level (next_at key.secret records (level - 1)) draw.fields draw draws next refl later
 
--- no draw for a new tree
+-- no 24 without a draw for a new tree
 undrawn : (records : List Record) (key : Key) (level : ℕ) (trees : Option Trees) (next : List Record → Outcome (List ℕ))
     → (extended (open_on records) key level trees (first_draw []) next).answer ≡ Err RandomRepeated → ⊥
 undrawn records key level None next is = cc

@@ -1,4 +1,4 @@
--- What the draws of a new tree come to: all three fields, or those before the one at which the source failed.
+-- The draws of a new tree: all three fields, or the ones before the field at which the source failed.
 use Rattle.std.proofs.Common.{◌≡◌, ◌∙◌, ℕ, ◌+◌, false, List, [], ◌∷◌, ◌++◌, length, Option, Some, None, Result, Ok, Err, refl, append_assoc, sym, ap, subst, append-nil, arith}
 use Rattle.std.specs.List.{concat}
 use Rattle.typecodes.specs.Layout.{AreBytes}
@@ -21,7 +21,7 @@ gives_both (Some upcoming) a None b left h k = absurd h
 gives_both (Some upcoming) a (Some rest) b None h k = absurd k
 gives_both (Some upcoming) a (Some rest) b (Some last) h k = h ∙ ap (λ l. a ++ l) k ∙ sym (append_assoc a b last)
 
--- what a draw that fails says
+-- a draw that fails answers 23, and gives nothing
 pub draw_fails : (before after : ℕ) (upcoming left : Option (List ℕ)) (fault : SignFault) → DrawsBytes before after upcoming left (Err fault) → (fault ≡ RandomFailed) × (left ≡ upcoming)
 draw_fails before after upcoming left RandomFailed (_, same) = (refl, same)
 draw_fails before after upcoming left Changed h = absurd h
@@ -49,12 +49,11 @@ pub record Drawn (before after : ℕ) (upcoming left : Option (List ℕ)) (size 
   pub sized : length field ≡ size
   pub bytes : AreBytes field
 
--- a failed draw counts one failure
 fails_once : (before after : ℕ) (upcoming left : Option (List ℕ)) (fault : SignFault) → DrawsBytes before after upcoming left (Err fault) → after ≡ before + 1
 fails_once before after upcoming left fault draws =
     (subst (λ (f : SignFault). DrawsBytes before after upcoming left (Err f)) (draw_fails before after upcoming left fault draws).0 draws).0
 
--- the answer of a draw that failed
+-- the answer of a failed draw
 failed : (records : List Record) (before after : ℕ) (upcoming left : Option (List ℕ)) (fault : SignFault) (answer : Result TreeSeeds SignFault)
     → fault ≡ RandomFailed → answer ≡ Err fault → DrawsTree records before after upcoming left (Err RandomFailed)
     → DrawsTree records before after upcoming left answer

@@ -24,7 +24,7 @@ use Rattle.sign_core.specs.inner.Cases.{requested_of, requested_under}
 use Rattle.sign_core.specs.Textbook.{Trees, damaged_in, digest_at, tree_before, trees_of}
 use Rattle.sign_core.proofs.OnceKept.{kept_choice}
 
--- neither that no leaf is free, nor that the store failed or a record is damaged
+-- a fault other than 22, 25 and 28
 abbrev pub IsPlain : SignFault → Type 0
 IsPlain fault = (fault ≢ Exhausted) × (fault ≢ StoreFailed) × ((slot : ℕ) → fault ≢ Damaged slot)
 
@@ -97,7 +97,7 @@ ended_sound Q ends state key name chance level tree (Some slot) bad is = bad lev
 ended_sound Q ends state key name chance level tree None bad is = ended_fulfilled Q ends key name chance
     (bottom_of key.secret - level) chance.trees state.records
 
--- a name that isn't bound, where a leaf is free
+-- a new name, where a leaf is free
 pub ended_anew : (Q : Outcome (List ℕ) → Type 0) → Ends Q → (limit : ℕ) (state : State) (key : Key) (name : List ℕ) (chance : Chance) (level : ℕ)
     → IsDamaged Q state key → Q (bound_anew limit state key name chance (Some level))
 ended_anew Q ends limit state key name chance level bad =
@@ -144,12 +144,11 @@ ended_under Q ends limit state name chance (Some key) bad used_up =
     (λ open_now. kept_choice Q (has_moved state.records) _ _ (λ moved. ends.refused_for state MovedAway (λ e. cc, λ e. cc, λ slot e. cc))
     (λ stays. ended_of Q ends limit state key name chance (binding_in state.records name) (bad key refl) used_up))
 
--- any request
 pub ended_request : (Q : Outcome (List ℕ) → Type 0) → Ends Q → (limit : ℕ) (state : State) (name : List ℕ) (chance : Chance)
     → ((key : Key) → key_in state.records ≡ Some key → IsDamaged Q state key) → Q (refused state Exhausted) → Q (requested limit state name chance)
 ended_request Q ends limit state name chance bad used_up = ended_under Q ends limit state name chance (key_in state.records) bad used_up
 
--- what isn't 28
+-- answers other than 28
 pub not_damaged : (slot : ℕ) → Ends (λ outcome. outcome.answer ≢ Err (Damaged slot))
 not_damaged slot = record {
   drawn = λ bytes outcome never. never;

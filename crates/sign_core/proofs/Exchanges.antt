@@ -1,4 +1,4 @@
--- What serving requests comes to: heads that are read, requests that are answered, turns, and a whole exchange.
+-- Serving requests: heads that are read, requests that are answered, turns, and a whole exchange.
 use Rattle.std.proofs.Common.{◌≡◌, ◌∙◌, inl, inr, refl, sym, ap, ap₂, subst, arith, ℕ, ◌+◌, ◌<◌, ◌^◌, Bool, true, false, true≢false}
 use Rattle.std.proofs.Common.{List, [], ◌∷◌, ◌++◌, length, append_assoc, append-nil, length-append, map, slice_index, Option, Some, None, Result, Ok, Err, IsSome}
 use Rattle.std.specs.List.{concat}
@@ -71,7 +71,7 @@ block_cut n part cuts = elim (cuts 0).1 [
   | inr (front, rest, whole, size, (some, same)) ↦ let never : Truncated ≡ Trailing = ap (λ (f : ReadFault). f.cause) same in absurd (cc)
 ]
 
--- a name that isn't there whole
+-- a name that is cut
 name_cut_so : {M : Type 0} (m : message.Ghosts M) (size : ℕ) (buffer : List ℕ) (old new : M) (e : ServeFault)
     → length buffer ≡ size → FillsBuffer m buffer old new (Err e) → ReadsField m (block size) bytes_of old new (Err e)
 name_cut_so m size buffer old new FrameCut is (part, less, reads) = (part, λ from. (from, inl (omega (arith, less, is), refl)), reads)
@@ -83,7 +83,7 @@ pub name_cut : {M : Type 0} (m : message.Ghosts M) (size : ℕ) (buffer : List �
 name_cut m size buffer old new e result answer is fills =
     subst (λ (a : Result Name ServeFault). ReadsField m (block size) bytes_of old new a) (sym answer) (name_cut_so m size buffer old new e is fills)
 
--- so the head isn't
+-- so the head is cut
 after_name_cut_so : {M : Type 0} (m : message.Ghosts M) (size : ℕ) (old new : M) (e : ServeFault)
     → ReadsField m (block size) bytes_of old new (Err e) → ReadsField m (after_size size) said_by old new (Err e)
 after_name_cut_so m size old new FrameCut (bytes, cuts, reads) =
@@ -97,7 +97,7 @@ pub after_name_cut : {M : Type 0} (m : message.Ghosts M) (size : ℕ) (old new :
 after_name_cut m size old new e result answer name =
     subst (λ (a : Result Head ServeFault). ReadsField m (after_size size) said_by old new a) (sym answer) (after_name_cut_so m size old new e name)
 
--- nor where the size of the message isn't there whole
+-- as where the size of the message is cut
 after_number_cut_so : {M : Type 0} (m : message.Ghosts M) (size : ℕ) (name : Name) (old middle new : M) (buffer : List ℕ) (e : ServeFault)
     → length buffer ≡ 4 → ReadsField m (block size) bytes_of old middle (Ok name) → FillsBuffer m buffer middle new (Err e)
     → ReadsField m (after_size size) said_by old new (Err e)
@@ -116,7 +116,7 @@ after_number_cut m size name old middle new buffer e result answer four read fil
     subst (λ (a : Result Head ServeFault). ReadsField m (after_size size) said_by old new a) (sym answer)
     (after_number_cut_so m size name old middle new buffer e four read fills)
 
--- both were read
+-- name and size were read
 pub after_read : {M : Type 0} (m : message.Ghosts M) (size announced : ℕ) (name : Name) (old middle new : M) (buffer : List ℕ) → length buffer ≡ 4
     → announced ≡ big_number 4 buffer → ReadsField m (block size) bytes_of old middle (Ok name) → ReadsInput m buffer going middle new
     → ReadsField m (after_size size) said_by old new (Ok (head_of name announced))
@@ -126,7 +126,7 @@ after_read m size announced name old middle new buffer four number (bytes, spell
     let same : ◌≡◌ {A = List ℕ × ℕ} (bytes, big_number 4 buffer) (name.items, announced) = ap₂ (λ (a : List ℕ) (n : ℕ). (a, n)) is (sym number) in
     (bytes ++ buffer, subst (λ v. Spells (after_size size) v (bytes ++ buffer)) same one, reads_then m bytes buffer going old middle new first reads)
 
--- a head that isn't there whole, or the end of the input
+-- a head that is cut after its first byte
 pub head_ends : {M : Type 0} (m : message.Ghosts M) (first : List ℕ) (old middle new : M) (e : ServeFault) → length first ≡ 1
     → ReadsInput m first going old middle → ReadsField m (after_size (slice_index first 0)) said_by middle new (Err e) → ReadsHead m old new (Err e)
 head_ends m first old middle new FrameCut is reads (rest, cuts, more) =
@@ -140,7 +140,7 @@ pub head_read : {M : Type 0} (m : message.Ghosts M) (first : List ℕ) (found : 
 head_read m first found old middle new is reads (rest, spelled, more) =
     (first ++ rest, head_said first rest (said_by found) is spelled, reads_then m first rest going old middle new reads more)
 
--- its first byte isn't there
+-- the input ends before a head
 pub head_over : {M : Type 0} (m : message.Ghosts M) (first : List ℕ) (old new : M) → length first ≡ 1 → FillsBuffer m first old new (Err FrameCut)
     → ReadsHead m old new (Ok None)
 head_over m first old new is (part, less, reads) = subst (λ l. ReadsInput m l ended old new) (empty part (omega (arith, less, is))) reads
@@ -153,7 +153,7 @@ head_unread m first old new WriteFailed is other never = absurd never
 
 -- ---- a message
 
--- a request of this name whose message is to have so many bytes
+-- a request of this name, with this announced length
 abbrev pub request_of : (name : List ℕ) → (announced : ℕ) → (text : List ℕ) → Bool → Request
 request_of name announced text whole = record { name = name; announced = announced; message = text; is_whole = whole }
 
@@ -372,7 +372,7 @@ module _ {S R P : Type 0} (g : store.Ghosts S) (r : source.Ghosts R) (p : messag
   after_answer (Refused e) (is_name, signs, repeat) finishes = after_refusal e (is_unread (Refused e)) (says_unread e) signs finishes
   after_answer BadName asks finishes = after_finishing p middle after whole finishes
 
--- so it is of the values that these are
+-- `AnswersFrame` along equal values
 pub answered_at : {S R I : Type 0} (g : store.Ghosts S) (r : source.Ghosts R) (m : message.Ghosts I) (said : List ℕ × ℕ) (name : List ℕ) (announced : ℕ)
     (old new : View S R) (before after reader : I) (capacity room : ℕ) (signature : List ℕ) (result : Reply × Bool) → name ≡ said.0 → announced ≡ said.1
     → after ≡ reader → AnswersFrame g r m (name, announced) old new before after capacity room signature result
@@ -400,7 +400,7 @@ pub record Taken {S R I : Type 0} (g : store.Ghosts S) (r : source.Ghosts R) (m 
   pub reads : ReadsInput m bytes ending before after
   pub answers : AnswersInTurn g r exchanges old new capacity room
 
--- a head that isn't there whole
+-- a head that is cut
 pub taken_head : {S R I : Type 0} (g : store.Ghosts S) (r : source.Ghosts R) (m : message.Ghosts I) (signer : View S R) (before after : I) (capacity : ℕ)
     (e : ServeFault) → ReadsHead m before after (Err e) → Taken g r m signer signer before after capacity capacity (reply_frame (serve_number_of e) []) (Some e)
 taken_head g r m signer before after capacity FrameCut (bytes, some, cuts, reads) =
@@ -409,7 +409,7 @@ taken_head g r m signer before after capacity MessageRead (bytes, cuts, reads) =
     record { bytes = bytes; ending = broken; exchanges = []; turn = inl (refl, refl, cuts, refl); reads = reads; answers = (refl, refl) }
 taken_head g r m signer before after capacity WriteFailed never = absurd never
 
--- what is ended with after a message that came whole, and one that didn't
+-- the fault after a message that came whole, and after one that was cut
 abbrev pub fault_after : Bool → Option ServeFault
 fault_after true = None
 fault_after false = Some MessageRead
@@ -496,7 +496,7 @@ module _ {S R I : Type 0} (g : store.Ghosts S) (r : source.Ghosts R) (m : messag
   turn_lost reply fault FrameCut taken never = absurd never
   turn_lost reply fault MessageRead taken never = absurd never
 
--- So a head that isn't there whole is replied to, or the reply is lost.
+-- A head that is cut gets a reply, or the reply is lost.
 module _ {S R I : Type 0} (g : store.Ghosts S) (r : source.Ghosts R) (m : message.Ghosts I) (signer : View S R) (before after : I) (capacity : ℕ)
     (contents left : Option (List ℕ)) (e : ServeFault) (number : ℕ) (is : number ≡ serve_number_of e) (head_is : ReadsHead m before after (Err e)) where
   pub head_failed : Appends contents left (reply_frame number []) → Turns g r m signer signer before after contents left capacity capacity (Err e)
@@ -511,7 +511,7 @@ module _ {S R I : Type 0} (g : store.Ghosts S) (r : source.Ghosts R) (m : messag
       (turn_lost g r m signer signer before after capacity capacity contents left (reply_frame (serve_number_of e) []) (Some e) lost
       (taken_head g r m signer before after capacity e head_is) (subst (λ n. WritesReply (reply_frame n []) contents left (Err lost)) is writes))
 
--- And a request is.
+-- So does a request.
 module _ {S R I : Type 0} (g : store.Ghosts S) (r : source.Ghosts R) (m : message.Ghosts I) (found : Head) (old new : View S R) (before middle after : I)
     (capacity room : ℕ) (signature bytes : List ℕ) (reply : Reply) (whole : Bool) (contents left : Option (List ℕ)) (same : bytes ≡ signature)
     (head_is : ReadsHead m before middle (Ok (Some found)))
@@ -568,7 +568,7 @@ replies_append [] ys = refl
 replies_append (x ∷ xs) ys =
     ap (λ l. reply_of x ++ l) (replies_append xs ys) ∙ sym (append_assoc (reply_of x) (concat (map reply_of xs)) (concat (map reply_of ys)))
 
--- So many whole requests were served.
+-- `count` whole requests were served.
 pub record HasServed {S R I : Type 0} (g : store.Ghosts S) (r : source.Ghosts R) (m : message.Ghosts I) (old new : View S R) (before after : I)
     (contents left : Option (List ℕ)) (capacity room count : ℕ) : Type 0 where
   pub whole : List Exchange
@@ -616,7 +616,7 @@ module _ {S R I : Type 0} (g : store.Ghosts S) (r : source.Ghosts R) (m : messag
             (subst (Appends given left) said turn.writes));
       }
 
-  -- and what closes them
+  -- and what ends the serving
   closed : (served : HasServed g r m old middle before between contents given 0 room count) (result : Result ℕ ServeFault)
       (bytes : List ℕ) (ending : Ending) (exchanges : List Exchange) (written : List ℕ) → Closes (length served.whole) bytes ending exchanges written result
       → ReadsInput m bytes ending between after → AnswersInTurn g r exchanges middle new room space → Appends given left written

@@ -1,4 +1,4 @@
--- What each end of an extend is: one new tree, by some draw.
+-- Each end of an extend is one new tree, by some draw.
 use Rattle.std.proofs.Common.{◌≡◌, ◌∙◌, ℕ, ◌+◌, ◌<◌, true, false, List, [], ◌∷◌, ◌++◌, length, take, Some, Result, Ok, Err, refl, sym, ap, subst, append-nil, arith, inl, inr}
 use Rattle.std.specs.Prelude.{Bool, if◌then◌else◌, slice_index_or}
 use Rattle.std.specs.List.{concat}
@@ -67,7 +67,7 @@ draw_fails_by key level trees records (identifier ∷ seed ∷ []) few fresh nex
     ∙ drawing_twice identifier (seed ++ []) (refused (open_on records) RandomFailed)
 draw_fails_by key level trees records (identifier ∷ seed ∷ randomizer ∷ rest) few fresh next = absurd (omega (arith, few))
 
--- I is one of the records'
+-- a record has the I
 draw_repeats : (key : Key) (level : ℕ) (trees : Trees) (records : List Record) (identifier : List ℕ) → has_identifier records identifier ≡ true
     → (next : List Record → Outcome (List ℕ))
     → extended (open_on records) key level (Some trees) (record { fields = identifier ∷ []; fate = acked }) next
@@ -75,7 +75,7 @@ draw_repeats : (key : Key) (level : ℕ) (trees : Trees) (records : List Record)
 draw_repeats key level trees records identifier there next =
     ap (λ b. drawing identifier (if b then refused (open_on records) RandomRepeated else drawing [] (refused (open_on records) RandomFailed))) there
 
--- a signer that is open over a store that runs, of which a stop leaves its records
+-- an open signer over a store that runs, of which a crash leaves its records
 pub record Rests {S R : Type 0} (g : store.Ghosts S) (view : View S R) : Type 0 where
   pub is_open : view.is_open ≡ true
   pub tied : IsTied g view.store view.records
@@ -158,7 +158,7 @@ module _ {S R : Type 0} (g : store.Ghosts S) (r : source.Ghosts R) (level : ℕ)
 
 -- ---- draws that are whole
 
--- what an append comes to after some draws
+-- an append's outcome after some draws
 abbrev comes_to : List Record → Record → (bytes : List ℕ) → Fate → Outcome (List ℕ)
 comes_to records entry bytes fate = drawing bytes (appended (open_on records) entry fate (λ all. answered (open_on all) []))
 
@@ -174,14 +174,13 @@ ends_drawn g view new random entry bytes cut_old answer ends = ends_alike g view
 ends_drawn g view new random entry bytes cut_new answer ends = ends_alike g view new random _ _ answer _ refl refl refl (given ends.answer_is) (λ _ _ c. c) ends
 ends_drawn g view new random entry bytes no_memory answer ends = ends_alike g view new random _ _ answer _ refl refl refl (given ends.answer_is) (λ _ _ c. c) ends
 
--- an append draws nothing
 nothing_more : (records : List Record) (entry : Record) (bytes : List ℕ) (fate : Fate) → (comes_to records entry bytes fate).drawn ≡ bytes
 nothing_more records entry bytes acked = append-nil bytes
 nothing_more records entry bytes cut_old = append-nil bytes
 nothing_more records entry bytes cut_new = append-nil bytes
 nothing_more records entry bytes no_memory = append-nil bytes
 
--- The record of the draws is appended: the answer is that of the append.
+-- The record of the draws is appended: the answer is the append's.
 pub drawn : {S R : Type 0} (g : store.Ghosts S) (r : source.Ghosts R) (level : ℕ) (key : Key) (trees : Trees) (view new : View S R) (random : R)
     (seeds : TreeSeeds) (entry : Record) (answer : Result (Unit {0}) SignFault) → trees_of key.secret ≡ Some trees → view.is_open ≡ true
     → DrawsTree view.records (r.failures view.random) (r.failures random) (r.upcoming view.random) (r.upcoming random) (Ok seeds)
@@ -216,7 +215,7 @@ drawn {S = S} {R = R} g r level key trees view new random seeds entry answer is_
     }
 
 module _ {S R : Type 0} (g : store.Ghosts S) (r : source.Ghosts R) (level : ℕ) (key : Key) (trees : Trees) (is_trees : trees_of key.secret ≡ Some trees) where
-  -- The cache of the tree that was drawn is refused memory: nothing is recorded, and all but the source is as it was.
+  -- Memory is refused for the new tree's cache: nothing is recorded, and all but the source is as it was.
   pub ungrown : (view : View S R) (random : R) (seeds : TreeSeeds) (answer : Result (List ℕ) SignFault) → Rests g view → Err OutOfMemory ≡ answer
       → DrawsTree view.records (r.failures view.random) (r.failures random) (r.upcoming view.random) (r.upcoming random) (Ok seeds)
       → Extends g r level view (after_draw view random) answer key

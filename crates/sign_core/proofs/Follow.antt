@@ -1,4 +1,4 @@
--- What `can_follow` asks of one record more, and what legal lists say of it.
+-- What `can_follow` requires of one more record, and what legal lists say of it.
 use Rattle.std.proofs.Common.{◌≡◌, ◌⊎◌, inl, inr, ℕ, ◌+◌, ◌-◌, ◌<◌, ◌≤◌, Bool, true, false, not, ◌&&◌, List, [], ◌∷◌, ◌++◌}
 use Rattle.std.proofs.Common.{length, take, replicate, Option, Some, None, refl, sym, ap, subst, ◌∙◌, arith, true≢false, ltb-true, lt-ltb, leb-true, le-leb}
 use Rattle.std.specs.Prelude.{slice_get, is_some, nat_lt, nat_le}
@@ -26,7 +26,6 @@ use Rattle.sign_core.proofs.Lists.{slice_get_new, slice_get_stays}
 
 -- ---- the key and the end
 
--- the key is the first record's
 pub key_first : (records : List Record) (key : Key) → slice_get records 0 ≡ Some (KeyRecord key) → key_in records ≡ Some key
 key_first [] key is = absurd (none-some (KeyRecord key) is)
 key_first (entry ∷ rest) key is = ap (λ e. key_in (e ∷ rest)) (same_Some entry (KeyRecord key) is)
@@ -38,7 +37,7 @@ first_alone (BoundRecord bound) rest other = refl
 first_alone (Retire upto) rest other = refl
 first_alone Moved rest other = refl
 
--- and stays it
+-- the key stays
 pub key_stays : (records more : List Record) → 0 < length records → key_in (records ++ more) ≡ key_in records
 key_stays [] more some = absurd (omega (arith, some))
 key_stays (entry ∷ rest) more some = first_alone entry (rest ++ more) rest
@@ -90,7 +89,7 @@ names_reach secret records k (BoundRecord bound) tree leaf within (is, same) =
 names_reach secret records k (Retire upto) tree leaf within names = absurd names
 names_reach secret records k Moved tree leaf within names = absurd names
 
--- and a Retire the number that it has
+-- a Retire reaches its own number
 pub retire_reaches : (secret : Secret) (records : List Record) (k upto tree : ℕ) → k ≤ length records
     → IsCurrent records k (bottom_of secret) tree → reaches secret (take k records) (Retire upto) ≡ Some (tree, upto)
 retire_reaches secret records k upto tree within is =
@@ -136,7 +135,6 @@ some_tree : (found : Option ℕ) → is_some found ≡ true → (tree : ℕ) × 
 some_tree None is = absurd (true≢false (sym is))
 some_tree (Some tree) is = (tree, refl)
 
--- what a free leaf is
 pub free_means : (secret : Secret) (records : List Record) (level leaf : ℕ) → is_free secret records level leaf ≡ true
     → (tree : ℕ) × (current level records ≡ Some tree) × (leaf < leaves_at secret level) × (next_in secret records tree ≤ leaf)
 free_means secret records level leaf is =
@@ -188,7 +186,7 @@ bound_means key before bound is =
     none_means None is = refl
     none_means (Some found) is = absurd (true≢false (sym is))
 
--- what is current at the end of a list is so in a longer one
+-- what is current at the end of a list is current at that place of a longer one
 still_current : (before more : List Record) (level tree : ℕ) → current level before ≡ Some tree → IsCurrent (before ++ more) (length before) level tree
 still_current before more level tree at =
     current-all before more (length before) level tree (omega arith) (current_is level before tree at)
@@ -197,7 +195,7 @@ was_current : (before more : List Record) (level tree : ℕ) → IsCurrent (befo
 was_current before more level tree is =
     is_current level before tree (current-front before more (length before) level tree (omega arith) is)
 
--- it fits
+-- such a record fits
 pub follower_fits : (key : Key) (before : List Record) (entry : Record) → can_follow_legal key before entry ≡ true
     → Fits key (before ++ entry ∷ []) (length before) entry
 follower_fits key before (KeyRecord other) is = absurd (true≢false (sym is))
@@ -289,7 +287,7 @@ next_under before entry tree leaf legal names = elim ((is_next legal.key.secret 
               legal.retired k (length before) next entry tree leaf below (stands ∙ ap Some retire) (slice_get_new before entry) is names
         ]
 
--- nor does any before it have its I
+-- no earlier record has its I
 new_identifier : (before : List Record) (entry : Record) (identifier : List ℕ) → IsLegal (before ++ entry ∷ []) → identifier_of entry ≡ Some identifier
     → has_identifier before identifier ≡ false
 new_identifier before entry identifier legal own = false_from_ne_true (has_identifier before identifier) (λ has.

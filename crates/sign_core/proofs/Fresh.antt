@@ -1,4 +1,4 @@
--- A new name is signed where a leaf is free and nothing fails, but for an I that was drawn before.
+-- A new name is signed if a leaf is free and nothing fails, except for an I that was drawn before.
 use Rattle.std.proofs.Common.{◌≡◌, ◌∙◌, refl, sym, ap, subst, ℕ, zero, suc, ◌+◌, ◌-◌, ◌<◌, ◌≤◌, ◌⊎◌, inl, inr, Bool, true, false, List, [], ◌∷◌, ◌++◌}
 use Rattle.std.proofs.Common.{length, take, Option, Some, None, Ok, Err, append_assoc, append-nil, arith}
 use Rattle.std.specs.Prelude.{if◌then◌else◌, slice_get}
@@ -23,7 +23,7 @@ use Rattle.sign_core.proofs.Fulfilled.{extends_by, fields_drawn_before, next_ext
 
 -- ---- what is drawn
 
--- a draw of which nothing is missing
+-- a draw without a failure has three fields
 whole : (draw : Draw) → IsComplete tree_sizes draw
     → (identifier : List ℕ) × (seed : List ℕ) × (randomizer : List ℕ) × (draw ≡ whole_draw identifier seed randomizer acked)
 whole draw is =
@@ -50,7 +50,7 @@ again_extended key level found trees is_trees records identifier seed randomizer
 
 -- ---- what is left to do is done
 
--- So many trees were begun, and the name was bound.
+-- All `below` trees were begun, and the name was bound.
 pub record IsDone (key : Key) (name message : List ℕ) (chance : Chance) (below : ℕ) (draws : List Draw) (records : List Record) (outcome : Outcome (List ℕ))
     : Type 0 where
   pub trees : List Record
@@ -101,7 +101,7 @@ bound_done key name message drawn chance records given is acknowledged =
       uncut = ap (λ (o : Outcome (List ℕ)). o.failed) came;
     }
 
--- it begins a tree of the level with these fields
+-- the next Extend begins a tree of the level with these fields
 pub extend_in : (key : Key) (trees : Trees) (records : List Record) (level : ℕ) (identifier seed randomizer : List ℕ)
     → has_identifier records identifier ≡ false
     → BeginsTree key records level (identifier ∷ seed ∷ randomizer ∷ []) (next_extend key trees records level identifier seed randomizer)
@@ -158,7 +158,7 @@ tree_done key trees name message chance below draws records identifier seed rand
       uncut = done.uncut;
     }
 
--- all that is wanted
+-- all records of the name
 pub fine_fulfilled : (key : Key) (name message drawn : List ℕ) (chance : Chance) (below : ℕ) (draws : List Draw) (records : List Record)
     → chance.given ≡ Some message → randomizer_from key.secret chance.bound.fields ≡ Some drawn → chance.bound.fate ≡ acked
     → below ≤ bottom_of key.secret → (0 < below → (trees : Trees) × (trees_of key.secret ≡ Some trees))
@@ -196,7 +196,7 @@ fine_fulfilled key name message drawn chance (suc below) (draw ∷ draws) record
     cases_eq_bool true = inl refl
     cases_eq_bool false = inr refl
 
--- C is drawn where nothing is missing
+-- C is drawn without a failure
 pub randomizer_drawn : (secret : Secret) (fields : List (List ℕ)) → length fields ≡ length (randomizer_sizes secret)
     → (drawn : List ℕ) × (randomizer_from secret fields ≡ Some drawn)
 randomizer_drawn (Lms secret) [] count = absurd (omega (arith, count))

@@ -1,4 +1,4 @@
--- What the wanted records of a request come to, one after the other.
+-- The new records of a request, one after the other.
 use Rattle.std.proofs.Common.{◌≡◌, ◌∙◌, ℕ, suc, ◌-◌, false, List, [], ◌∷◌, ◌++◌, Option, Some, refl, sym, ap}
 use Rattle.std.proofs.Common.{append_assoc, append-nil}
 use Rattle.std.specs.Prelude.{slice_index_or, if◌then◌else◌}
@@ -13,7 +13,6 @@ use Rattle.sign_core.specs.World.{Chance, Draw, Fate, Outcome, acked}
 use Rattle.sign_core.specs.World.{appended, drawing, extend_record, open_on, refused}
 use Rattle.sign_core.specs.inner.Cases.{extended, extended_with, fulfilled}
 
--- bytes that are drawn one after the other
 pub drawing_twice : {A : Type 0} (a b : List ℕ) (outcome : Outcome A) → drawing a (drawing b outcome) ≡ drawing (a ++ b) outcome
 drawing_twice a b outcome = ap (λ bytes. record outcome { drawn = bytes }) (sym (append_assoc a b outcome.drawn))
 
@@ -34,7 +33,7 @@ fields_drawn_before identifier seed randomizer later last =
     fields_drawn identifier seed randomizer (later ++ last)
     ∙ sym (append_assoc (concat (identifier ∷ seed ∷ randomizer ∷ [])) later last)
 
--- The new trees so far, each with a draw of which nothing failed: what is wanted comes to what is wanted after them.
+-- After the new trees so far, whose draws didn't fail, `fulfilled` goes on with the rest.
 abbrev pub ComesTo : Key → (name : List ℕ) → (below : ℕ) → (records : List Record) → (done : List Draw) → (drawn : List ℕ) → (below' : ℕ) → (records' : List Record) → Type 0
 ComesTo key name below records done drawn below' records' = (chance : Chance) (rest : List Draw)
     → fulfilled key name chance below (done ++ rest) records ≡ drawing drawn (fulfilled key name chance below' rest records')
@@ -43,7 +42,7 @@ ComesTo key name below records done drawn below' records' = (chance : Chance) (r
 pub comes_at_first : (key : Key) (name : List ℕ) (below : ℕ) (records : List Record) → ComesTo key name below records [] [] below records
 comes_at_first key name below records chance rest = refl
 
--- the fields of a draw of which none is missing
+-- a draw of these fields, without a failure
 abbrev pub whole_draw : (identifier seed randomizer : List ℕ) → Fate → Draw
 whole_draw identifier seed randomizer fate = record { fields = identifier ∷ seed ∷ randomizer ∷ []; fate = fate }
 
@@ -53,7 +52,7 @@ next_extend key trees records level identifier seed randomizer =
     extend_record trees records level (lms_secret (slice_index_or trees.pairs level trees.top.pair) identifier seed) randomizer
     (next_at key.secret records (level - 1))
 
--- one new tree: I is none of the records, and the append has this fate
+-- one new tree: no record has its I, and the append has this fate
 pub extends_by : (key : Key) (level : ℕ) (found : Option Trees) (trees : Trees) → found ≡ Some trees → (records : List Record) (identifier seed randomizer : List ℕ) (fate : Fate)
     → has_identifier records identifier ≡ false → (next : List Record → Outcome (List ℕ))
     → extended (open_on records) key level found (whole_draw identifier seed randomizer fate) next
@@ -63,7 +62,6 @@ extends_by key level found trees is_trees records identifier seed randomizer fat
     ∙ ap (λ b. drawing identifier (if b then refused (open_on records) RandomRepeated
     else extended_with (open_on records) trees level (next_at key.secret records (level - 1)) identifier (seed ∷ randomizer ∷ []) fate next)) fresh
 
--- three draws are one
 drawing_thrice : {A : Type 0} (a b c : List ℕ) (outcome : Outcome A) → drawing a (drawing b (drawing c outcome)) ≡ drawing (a ++ (b ++ c)) outcome
 drawing_thrice a b c outcome = ap (drawing a) (drawing_twice b c outcome) ∙ drawing_twice a (b ++ c) outcome
 
@@ -84,7 +82,7 @@ comes_to_next key name below records done drawn n records' before trees is_trees
 
 -- ---- ends
 
--- What comes after so many new trees ends the request: with these draws in all and this outcome.
+-- What comes after the new trees ends the request, with these draws in all and this outcome.
 pub ends_after : (key : Key) (name : List ℕ) (below : ℕ) (records : List Record) (done : List Draw) (drawn : List ℕ) (n : ℕ) (records' : List Record)
     → ComesTo key name below records done drawn n records' → (chance : Chance) (rest : List Draw) → chance.trees ≡ done ++ rest
     → (outcome : Outcome (List ℕ)) → fulfilled key name chance n rest records' ≡ outcome

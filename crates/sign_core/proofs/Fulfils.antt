@@ -1,4 +1,4 @@
--- An Extend, and then what is wanted from there, is what is wanted from the beginning.
+-- All records of a new name are an Extend, and then all records from there.
 use Rattle.std.proofs.Common.{◌≡◌, ◌∙◌, inl, inr, ℕ, suc, ◌+◌, ◌-◌, ◌≤◌, Bool, true, false, List, [], ◌∷◌, ◌++◌, length, take, Option, Some, None, Result, Ok, Err, refl, sym, ap, subst, append_assoc, append-nil, arith, IsTrue}
 use Rattle.std.specs.Prelude.{if◌then◌else◌}
 use Rattle.std.specs.Option.{option_to_list}
@@ -30,9 +30,9 @@ use Rattle.sign_core.proofs.Bindings.{binding_other}
 use Rattle.sign_core.proofs.Fulfilled.{drawing_twice}
 use Rattle.sign_core.proofs.Stays.{key_stays, last_is}
 
--- ---- what a draw of a new tree comes to
+-- ---- a draw of a new tree
 
--- What a draw comes to, for each thing that comes after it: the tree is recorded, and this comes; or it is refused.
+-- A draw, for anything that comes after it: the tree is recorded, and this comes; or it is refused.
 pub data Draws (records : List Record) (comes : (List Record → Outcome (List ℕ)) → Outcome (List ℕ)) : Type 0 where
   recorded : (extend : Extend) (bytes : List ℕ)
       → ((next : List Record → Outcome (List ℕ)) → comes next ≡ drawing bytes (next (records ++ ExtendRecord extend ∷ [])))
@@ -80,7 +80,7 @@ by_trees records key level (Some trees) draw = by_first records trees level (nex
 
 -- ---- the store
 
--- more records after more
+-- `GrowsAlike` twice
 grows_twice : (old_list mid_list new_list old_records mid_records new_records : List Record) → GrowsAlike old_list mid_list old_records mid_records
     → GrowsAlike mid_list new_list mid_records new_records → GrowsAlike old_list new_list old_records new_records
 grows_twice old_list mid_list new_list old_records mid_records new_records first second = record {
@@ -89,7 +89,7 @@ grows_twice old_list mid_list new_list old_records mid_records new_records first
   records = second.records ∙ ap (λ l. l ++ second.more) first.records ∙ append_assoc old_records first.more second.more;
 }
 
--- a beginning of some records is one of those with more after them
+-- a beginning of some records is a beginning of a longer list
 beginning_of_more : (least : ℕ) (records more all left : List Record) → least ≤ length records → all ≡ records ++ more
     → IsBeginning least records left → IsBeginning least all left
 beginning_of_more least records more all left within is begins = elim (cases_lt begins.count (length records)) [
@@ -105,7 +105,6 @@ beginning_of_more least records more all left within is begins = elim (cases_lt 
   }
 ]
 
--- a beginning that has at least so many records has at least fewer
 beginning_at_least : (least fewer : ℕ) (all left : List Record) → fewer ≤ least → IsBeginning least all left → IsBeginning fewer all left
 beginning_at_least least fewer all left low begins =
     record { count = begins.count; enough = omega (arith, low, begins.enough); beginning = begins.beginning }
@@ -115,11 +114,11 @@ counts_on : {A : Type 0} (is_counted : SignFault → Bool) (before mid after : �
     → Counts is_counted mid after answer → Counts is_counted before after answer
 counts_on is_counted before mid after answer same counts = subst (λ (n : ℕ). Counts is_counted n after answer) same counts
 
--- what an Extend that is recorded comes to
+-- the outcome of a recorded Extend
 abbrev after_extend : List Record → Extend → (bytes : List ℕ) → Outcome (List ℕ)
 after_extend records extend bytes = drawing bytes (answered (open_on (records ++ ExtendRecord extend ∷ [])) [])
 
--- What a store does in an Extend that is recorded and in what comes after it, it does in both.
+-- `KeepsStore` for a recorded Extend and for what follows makes one for both.
 keeps_after : {S : Type 0} (g : store.Ghosts S) (old mid new : S) (records mid_records more : List Record) (extend : Extend) (bytes : List ℕ)
     (outcome : Outcome (List ℕ)) → g.stopped mid ≡ false → mid_records ≡ records ++ ExtendRecord extend ∷ [] → outcome.acknowledged ≡ mid_records ++ more
     → KeepsStore g old mid records (after_extend records extend bytes) → KeepsStore g mid new mid_records outcome
@@ -152,7 +151,7 @@ length_front : (records more : List Record) → length records ≤ length (recor
 length_front [] more = omega arith
 length_front (first ∷ rest) more = omega (arith, length_front rest more)
 
--- What a signer does in an Extend that is recorded and in what comes after it, it does in both.
+-- `Does` for a recorded Extend and for what follows makes one for both.
 does_after : {S R M : Type 0} (g : store.Ghosts S) (r : source.Ghosts R) (m : message.Ghosts M) (old mid new : View S R) (before after : M)
     (given : Option (List ℕ)) (extend : Extend) (bytes : List ℕ) (outcome : Outcome (List ℕ)) (answer : Result (List ℕ) SignFault)
     → g.stopped mid.store ≡ false → Ends g old mid (after_extend old.records extend bytes) (Ok [])
@@ -221,7 +220,7 @@ step_after key name chance below level draw draws records mid_records extend byt
     ∙ ap (λ l. drawing bytes (fulfilled key name chance below draws l)) (sym is)
     ∙ ap (drawing bytes) step
 
--- An Extend, and then what is wanted from there.
+-- An Extend, and then all records from there.
 pub fulfils_after : {S R M : Type 0} (g : store.Ghosts S) (r : source.Ghosts R) (m : message.Ghosts M) (name : List ℕ) (key : Key) (below level : ℕ)
     (old mid new : View S R) (before after : M) (answer : Result (List ℕ) SignFault) → level ≡ bottom_of key.secret - below
     → g.stopped mid.store ≡ false → Extends g r level old mid (Ok []) key → Fulfils g r m name below mid new before after answer key
@@ -254,7 +253,7 @@ fulfils_after {S = S} {R = R} {M = M} g r m name key below level old mid new bef
               omega (arith, few, ap length ends.records, length_push old.records (ExtendRecord extend));
         }
 
--- What an Extend that is recorded leaves: a signer that is open on the records with one more, over the same store.
+-- What a recorded Extend leaves: an open signer with one more record, over the same store.
 pub record Recorded {S R : Type 0} (g : store.Ghosts S) (old mid : View S R) : Type 0 where
   pub extend : Extend
   pub records : mid.records ≡ old.records ++ ExtendRecord extend ∷ []
@@ -299,7 +298,7 @@ pub unbound_after : {S R : Type 0} (g : store.Ghosts S) (old mid : View S R) (na
 unbound_after g old mid name after free =
     ap (λ l. binding_in l name) after.records ∙ binding_other old.records (ExtendRecord after.extend) name refl ∙ free
 
--- An Extend that is refused.
+-- A refused Extend.
 pub fulfils_refused : {S R M : Type 0} (g : store.Ghosts S) (r : source.Ghosts R) (m : message.Ghosts M) (name : List ℕ) (key : Key) (below level : ℕ)
     (old new : View S R) (unread : M) (fault : SignFault) → level ≡ bottom_of key.secret - below
     → Extends g r level old new (Err fault) key → Fulfils g r m name (suc below) old new unread unread (Err fault) key
@@ -338,7 +337,7 @@ fulfils_refused {S = S} {R = R} {M = M} g r m name key below level old new unrea
 
 -- ---- the bottom level
 
--- at the bottom level no tree is wanted
+-- at the bottom level no tree is needed
 pub at_end : {S R M : Type 0} (g : store.Ghosts S) (r : source.Ghosts R) (m : message.Ghosts M) (name : List ℕ) (old new : View S R) (before after : M)
     (answer : Result (List ℕ) SignFault) (key : Key) (n k : ℕ) → n ≡ k → Fulfils g r m name 0 old new before after answer key
     → Fulfils g r m name (k - n) old new before after answer key

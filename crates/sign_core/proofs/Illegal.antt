@@ -20,7 +20,7 @@ use Rattle.sign_core.proofs.Legal.{grew, grows}
 abbrev Follows : List Record → ℕ → Record → Bool
 Follows all k entry = can_follow (key_in (take k all)) (take k all) entry
 
--- the first m records, of which the first has place k, can each follow those before it
+-- the first m records from place k on can each follow the records before it
 abbrev FollowBelow : List Record → ℕ → List Record → ℕ → Type 0
 FollowBelow all k rest m = (i : ℕ) (entry : Record) → i < m → slice_get rest i ≡ Some entry → Follows all (k + i) entry ≡ true
 
@@ -74,7 +74,6 @@ from_zero all m below i entry under at =
 
 -- ---- legal lists
 
--- a Key alone is legal
 pub legal_alone : (key : Key) → IsLegal (KeyRecord key ∷ [])
 legal_alone key = record {
   key = key;
@@ -102,7 +101,7 @@ begins (BoundRecord bound) is = absurd (true≢false (sym is))
 begins (Retire upto) is = absurd (true≢false (sym is))
 begins Moved is = absurd (true≢false (sym is))
 
--- a beginning of which each record can follow those before it is legal
+-- a beginning is legal if each of its records can follow
 legal_front : (all : List Record) (m : ℕ) → m < length all
     → ((i : ℕ) (entry : Record) → i < suc m → slice_get all i ≡ Some entry → Follows all i entry ≡ true) → IsLegal (take (suc m) all)
 legal_front all zero within follow =
@@ -201,7 +200,7 @@ illegal_front records more k (first ∷ rest) within =
     let others = illegal_front records more (k + 1) rest (omega (arith, within)) in
     λ i. cond (can_follow (key_in (same i)) (same i) first) (others i) (Some k)
 
--- the first illegal record stays it, and a new one is it where it can't follow
+-- the first illegal record stays; without one, it is a new record that can't follow
 pub first_illegal_appended : (records : List Record) (entry : Record)
     → first_illegal (records ++ entry ∷ [])
     ≡ option_or (first_illegal records) (cond (can_follow (key_in records) records entry) None (Some (length records)))
@@ -233,7 +232,7 @@ illegal_least all k (first ∷ rest) j is = by (Follows all k first) is (illegal
     by true is later = omega (arith, later is)
     by false is later = omega (arith, same_Some k j is)
 
--- where a beginning is legal, it stands after it
+-- it stands after a legal beginning
 pub illegal_after : (records more : List Record) (j : ℕ) → first_illegal records ≡ None → first_illegal (records ++ more) ≡ Some j → length records ≤ j
 illegal_after records more j legal is =
     illegal_least (records ++ more) (length records) more j

@@ -14,11 +14,9 @@ use Rattle.sign_core.specs.Frames.{CutsAt, Ending, LastRead, ReadsInput, ReadsPa
 
 -- ---- reads of an input
 
--- none
 pub reads_none : {M : Type 0} (m : message.Ghosts M) (old : M) → ReadsInput m [] going old old
 reads_none m old = record { earlier = []; last = []; reads = refl; gave = refl; ends = refl; bytes = Consumes-nil (m.remaining old); none = tt }
 
--- some, and then others
 pub reads_then : {M : Type 0} (m : message.Ghosts M) (a b : List ℕ) (ending : Ending) (old middle new : M) → ReadsInput m a going old middle
     → ReadsInput m b ending middle new → ReadsInput m (a ++ b) ending old new
 reads_then m a b ending old middle new first second =
@@ -35,7 +33,7 @@ reads_then m a b ending old middle new first second =
       none = second.none;
     }
 
--- and then one that gives nothing more
+-- reads, and then a last one that gives nothing
 pub reads_close : {M : Type 0} (m : message.Ghosts M) (a : List ℕ) (ending : Ending) (old middle new : M) → ReadsInput m a going old middle
     → ReadsInput m [] ending middle new → ReadsInput m a ending old new
 reads_close m a ending old middle new first second =
@@ -57,7 +55,7 @@ reads_failure m kind old new one kept = record {
   none = tt;
 }
 
--- these
+-- reads that gave this text
 so_far : {M : Type 0} (m : message.Ghosts M) (text : List ℕ) (old new : M) → GivesText m.transition text old new
     → Consumes (m.remaining old) (m.remaining new) text → ReadsInput m text going old new
 so_far m text old new (outcomes, reads, gave) bytes = record {

@@ -1,4 +1,4 @@
--- What is kept of the current trees follows the records.
+-- The trees kept in memory follow the records.
 use Rattle.std.proofs.Common.{◌≡◌, ◌≢◌, inl, inr, ℕ, zero, suc, ◌+◌, ◌-◌, ◌<◌, true, cond, List, [], ◌∷◌, ◌++◌}
 use Rattle.std.proofs.Common.{length, set, Option, Some, None, refl, sym, ap, subst, ◌∙◌, arith, eq-eqb, ne_eqb, lt-ltb, le-ltb}
 use Rattle.std.specs.Prelude.{slice_get, nat_lt}
@@ -121,7 +121,6 @@ follows_extend old mid new (suc level) higher parent_leaf place below one raise 
     has_extended secret records key extend level above old mid new first some of (ap (λ l. current l records) (sym over) ∙ parent)
     has raise_it made_it
 
--- a Bound
 pub follows_bound : (old new : List (Option Tree)) (bottom leaf : ℕ) → IsRaised old bottom (leaf + 1) new → FollowsBound old bottom leaf new
 follows_bound old new bottom leaf raise = λ secret records key bound tree first last same at has k within.
     let here : current (bottom_of secret) records ≡ Some tree = ap (λ l. current l records) last ∙ at in
@@ -130,14 +129,13 @@ follows_bound old new bottom leaf raise = λ secret records key bound tree first
     has_raised secret records key (BoundRecord bound) bottom tree (leaf + 1) old new first at reached k within
     (current_bound k records bound) has raise
 
--- a Retire
 pub follows_retire : (old new : List (Option Tree)) (bottom upto : ℕ) → IsRaised old bottom upto new → FollowsRetire old bottom upto new
 follows_retire old new bottom upto raise = λ secret records key tree first last at has k within.
     let here : current (bottom_of secret) records ≡ Some tree = ap (λ l. current l records) last ∙ at in
     has_raised secret records key (Retire upto) bottom tree upto old new first at (ap (λ o. in_tree o upto) here) k within
     (current_retire k records upto) has raise
 
--- after a Moved what is kept stays right
+-- kept trees stay right after a Moved
 pub follows_moved : (secret : Secret) (records : List Record) (levels : List (Option Tree)) → HasTrees secret records levels
     → HasTrees secret (records ++ Moved ∷ []) levels
 follows_moved secret records levels has k within =

@@ -1,4 +1,4 @@
--- A key that bytes spell is the one that is read.
+-- A decoded key is the one that its bytes spell.
 use Rattle.std.proofs.Common.{◌≡◌, ◌∙◌, sym, ap, arith, ℕ, inl, inr, List, length, Result, Ok, Err, IfErr, IfOk}
 use Rattle.typecodes.proofs.Spelling.{no_value, one_value}
 use Rattle.lms.specs.Key.{public_key as lms_public_key}
@@ -12,7 +12,7 @@ use Rattle.sign_core.specs.Key.{KeyHasFault, SpellsKey}
 use Rattle.lms.proofs.Sizes.{size-public_key as size-lms_key}
 use Rattle.sign_core.proofs.KeySizes.{size-hss_key, size-xmss_key}
 
--- lengths of two schemes are two
+-- two schemes have two lengths
 apart : {A : Type 0} (m n k : ℕ) → k ≡ m → k ≡ n → (m ≡ n → ⊥) → A
 apart m n k is_m is_n differs = absurd (differs (sym is_m ∙ is_n))
 
@@ -28,7 +28,7 @@ one_key (Xmss a) (Lms b) bytes first second = apart 68 56 (length bytes) (size-x
 one_key (Xmss a) (Hss b) bytes first second = apart 68 60 (length bytes) (size-xmss_key a bytes first) (size-hss_key b bytes second) (λ e. omega (arith, e))
 one_key (Xmss a) (Xmss b) bytes first second = ap Xmss (one_value xmss_public_key a b bytes first second)
 
--- and have no fault then
+-- the bytes of a key have no fault
 pub no_key : (key : AnyPublic) (bytes : List ℕ) (fault : KeyFault) → SpellsKey key bytes → KeyHasFault bytes fault → ⊥
 no_key (Lms key) bytes (Length n) spelled (is, not_lms, _, _) = not_lms (is ∙ size-lms_key key bytes spelled)
 no_key (Hss key) bytes (Length n) spelled (is, _, not_hss, _) = not_hss (is ∙ size-hss_key key bytes spelled)
@@ -43,7 +43,7 @@ no_key (Xmss key) bytes (Unreadable fault) spelled (inl (len, faulty)) = apart 6
 no_key (Xmss key) bytes (Unreadable fault) spelled (inr (inl (len, faulty))) = apart 68 60 (length bytes) (size-xmss_key key bytes spelled) len (λ e. omega (arith, e))
 no_key (Xmss key) bytes (Unreadable fault) spelled (inr (inr (len, faulty))) = no_value xmss_public_key key bytes 0 fault spelled faulty
 
--- so an answer that is right is this key
+-- so a right answer is this key
 pub spelled_read : (bytes : List ℕ) (answer : Result AnyPublic KeyFault) → IfOk answer (λ key. SpellsKey key bytes) → IfErr answer (KeyHasFault bytes)
     → (key : AnyPublic) → SpellsKey key bytes → answer ≡ Ok key
 spelled_read bytes (Ok read) ok err key spelled = ap Ok (one_key read key bytes ok spelled)

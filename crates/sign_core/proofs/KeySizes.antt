@@ -1,4 +1,4 @@
--- How many bytes the spellings of public keys have.
+-- The lengths of public keys in bytes.
 use Rattle.std.proofs.Common.{ℕ, cond, nat_le}
 use Rattle.std.specs.Prelude.{◌&&◌}
 use Rattle.typecodes.specs.declared.fault.Cause.TheVariants.{LevelCount}

@@ -17,7 +17,7 @@ key_stands (BoundRecord bound ∷ rest) key is = absurd (cc)
 key_stands (Retire upto ∷ rest) key is = absurd (cc)
 key_stands (Moved ∷ rest) key is = absurd (cc)
 
--- a legal list's key is its key
+-- the key of a legal list is its record 0's
 key_of_record : Option Record → Option Key
 key_of_record (Some (KeyRecord key)) = Some key
 key_of_record (Some (ExtendRecord extend)) = None

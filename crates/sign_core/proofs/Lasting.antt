@@ -54,7 +54,6 @@ grown_append state entry cut_old next later = unchanged state.records
 grown_append state entry cut_new next later = (entry ∷ [], refl)
 grown_append state entry no_memory next later = unchanged state.records
 
--- a choice
 grown_choice : {A : Type 0} (records : List Record) (test : Bool) (x y : Outcome A) → Grown records x → Grown records y → Grown records (if test then x else y)
 grown_choice records true x y first second = first
 grown_choice records false x y first second = second
@@ -220,7 +219,7 @@ lasting_append (BoundRecord bound ∷ xs) ys = ap (λ l. BoundRecord bound ∷ l
 lasting_append (Retire upto ∷ xs) ys = ap (λ l. Retire upto ∷ l) (lasting_append xs ys)
 lasting_append (MovedRecord ∷ xs) ys = lasting_append xs ys
 
--- the version doesn't last
+-- `lasting` ignores the version
 lasting_in : (version : Version) (records : List Record) → lasting (map (in_version version) records) ≡ lasting records
 lasting_in version [] = refl
 lasting_in version (KeyRecord key ∷ rest) = ap (λ l. in_version One (KeyRecord key) ∷ l) (lasting_in version rest)
@@ -229,7 +228,7 @@ lasting_in version (BoundRecord bound ∷ rest) = ap (λ l. BoundRecord bound �
 lasting_in version (Retire upto ∷ rest) = ap (λ l. Retire upto ∷ l) (lasting_in version rest)
 lasting_in version (MovedRecord ∷ rest) = lasting_in version rest
 
--- nor does a Moved
+-- and a Moved
 lasting_moved : (records : List Record) → lasting (records ++ MovedRecord ∷ []) ≡ lasting records
 lasting_moved records = lasting_append records (MovedRecord ∷ []) ∙ append-nil (lasting records)
 

@@ -1,4 +1,4 @@
--- What a ledger keeps follows the records, once an Extend or a Bound is added.
+-- A ledger matches its records after an Extend or a Bound.
 use Rattle.std.proofs.Common.{◌≡◌, inl, inr, ℕ, zero, suc, ◌+◌, ◌-◌, ◌^◌, ◌<◌, ◌≤◌, Bool, true, false, cond, ◌||◌, ◌&&◌, List, [], ◌∷◌, ◌++◌}
 use Rattle.std.proofs.Common.{length, not, true≢false, Option, Some, None, refl, sym, ap, subst, ◌∙◌, arith, eq-eqb, ne_eqb, leb-true, ltb-true}
 use Rattle.std.specs.Prelude.{Result, Ok, Err, IsOk, OnOk, is_some, nat_eq, nat_le, nat_lt, unwrap_or}
@@ -33,7 +33,7 @@ use Rattle.sign_core.proofs.Legal.{grows}
 use Rattle.sign_core.proofs.LedgerSteps.{identifier_grown, identifier_other, is_some_record, kept_bound, made_after, made_before, made_here}
 use Rattle.sign_core.proofs.LedgerSteps.{kept_other, made_other, moved_last, not_means, or_none, sizes_grown}
 
--- what is ensured of an Ok, of an answer that is one
+-- an `OnOk` clause, for an answer that is Ok
 pub on_ok : {T E P : Type 0} (r : Result T E) → IsOk r → OnOk r P → P
 on_ok (Ok x) is holds = holds
 on_ok (Err e) is holds = absurd (true≢false (sym is))
@@ -76,7 +76,7 @@ bound_free records key bound follows =
     (has_randomizer key.secret bound.randomizer) rest in
     (and_parts (is_free key.secret records (bottom_of key.secret) bound.leaf) (not (is_some (binding_in records bound.name))) two).0
 
--- the leaf of a Bound that can follow has a number above it
+-- a Bound that can follow names a leaf below 2 ^ 25
 pub bound_leaf : (records : List Record) (key : Key) (bound : Bound) → can_follow (Some key) records (BoundRecord bound) ≡ true
     → bound.leaf < 2 ^ 25
 bound_leaf records key bound follows =
@@ -97,7 +97,7 @@ extend_parts records key extend follows =
     let (low, high) = and_parts (nat_le 1 extend.level) (nat_lt extend.level (levels_of key.secret)) two in
     (leb-true 1 extend.level low, ltb-true extend.level (levels_of key.secret) high, free)
 
--- the level of an Extend that can follow is one of the lower ones, and its parent leaf has a number above it
+-- an Extend that can follow has one of the lower levels, and a parent leaf below 2 ^ 25
 pub extend_inside : (records : List Record) (key : Key) (extend : Extend) → can_follow (Some key) records (ExtendRecord extend) ≡ true
     → (1 ≤ extend.level) × (extend.level < levels_of key.secret) × (extend.parent_leaf < 2 ^ 25)
 extend_inside records key extend follows =
@@ -108,7 +108,7 @@ extend_inside records key extend follows =
 
 -- ---- the tree that is current before a new record
 
--- the place of a tree that is kept, 0 where there is none
+-- the place of a kept tree, 0 where there is none
 abbrev pub place_of : Option Tree → ℕ
 place_of None = 0
 place_of (Some tree) = tree.place

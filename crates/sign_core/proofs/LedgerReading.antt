@@ -1,4 +1,4 @@
--- What is read of a ledger: its key has 1 to 8 levels, and no next leaf passes the end of its tree.
+-- A ledger's key has 1 to 8 levels, and no next leaf passes the end of its tree.
 use Rattle.std.proofs.Common.{◌≡◌, inl, inr, ℕ, zero, suc, ◌+◌, ◌-◌, ◌<◌, ◌≤◌, List, length, take, Option, Some, None}
 use Rattle.std.proofs.Common.{refl, sym, ap, subst, ◌∙◌, arith}
 use Rattle.std.specs.Prelude.{slice_get}
@@ -23,7 +23,6 @@ levels_within (Lms secret) sizes = (omega arith, omega arith)
 levels_within (Hss levels identifier seed) sizes = sizes.2
 levels_within (Xmss secret) sizes = (omega arith, omega arith)
 
--- a key has 1 to 8 levels
 pub key_levels : (records : List Record) (key : Key) → AllHaveSizes records → key_in records ≡ Some key
     → (1 ≤ levels_of key.secret) × (levels_of key.secret ≤ 8)
 key_levels records key sizes keyed = levels_within key.secret ((sizes 0 (KeyRecord key) (key_stands records key keyed)).0)
@@ -51,7 +50,7 @@ in_tree_means (Some own) m tree n is =
     let same = same_Some (own, m) (tree, n) is in
     (ap (λ p. Some p.0) same, ap (λ p. p.1) same)
 
--- a level that reaches into a level's tree is that level
+-- a tree is current at one level only
 one_level : (records : List Record) (key : Key) → slice_get records 0 ≡ Some (KeyRecord key) → (k level other tree : ℕ) → k ≤ length records
     → current level records ≡ Some tree → current other (take k records) ≡ Some tree → level ≡ other
 one_level records key first k level other tree within is before =
@@ -92,7 +91,7 @@ next_inside records legal level tree is = elim ((is_next legal.key.secret record
       (legal.fits k entry at) reached
 ]
 
--- a tree that was read
+-- the same for a tree in memory
 pub tree_inside : (records : List Record) (key : Key) (level : ℕ) (tree : Tree) → IsLegal records → key_in records ≡ Some key
     → tree_at key.secret records level ≡ Some tree → tree.next ≤ leaves_at key.secret level
 tree_inside records key level tree legal keyed is =
@@ -111,7 +110,7 @@ tree_inside records key level tree legal keyed is =
 
 -- ---- the deepest level with a free leaf
 
--- no level from one on has a free leaf
+-- no level from this one on has a free leaf
 abbrev pub NoneFreeFrom : Secret → List Record → (level : ℕ) → Type 0
 NoneFreeFrom secret records level = (below : ℕ) → level ≤ below → below < levels_of secret → free_at secret records below ≡ 0
 

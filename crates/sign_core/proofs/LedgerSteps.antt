@@ -1,4 +1,4 @@
--- What a ledger keeps follows the records.
+-- A ledger matches its records after one more record.
 use Rattle.std.proofs.Common.{◌≡◌, inl, inr, ℕ, zero, suc, ◌+◌, ◌-◌, ◌<◌, ◌≤◌, Bool, true, false, cond, ◌||◌, List, [], ◌∷◌, ◌++◌}
 use Rattle.std.proofs.Common.{length, drop, not, true≢false, Option, Some, None, refl, sym, ap, subst, ◌∙◌, arith}
 use Rattle.std.specs.Prelude.{slice_get, is_some, nat_le, option_map, unwrap_or}
@@ -29,7 +29,6 @@ use Rattle.sign_core.proofs.Legal.{grows}
 
 -- ---- Extends by their places
 
--- nothing stands past the end
 slice_get_past : {A : Type 0} (xs : List A) (k : ℕ) → length xs ≤ k → slice_get xs k ≡ None
 slice_get_past [] k beyond = refl
 slice_get_past (x ∷ xs) zero beyond = absurd (omega (arith, beyond))
@@ -51,7 +50,7 @@ made_same records entry place (Some (Retire upto)) within = refl
 made_same records entry place (Some Moved) within = refl
 made_same records entry place None within = refl
 
--- the places before a new record keep what they have
+-- earlier places stay as they are
 pub made_before : (records : List Record) (entry : Record) (place : ℕ) → place < length records
     → made_at (records ++ entry ∷ []) place ≡ made_at records place
 made_before records entry place below =
@@ -112,7 +111,7 @@ kept_other secret records entry name none =
     ap (option_map (kept_of secret (records ++ entry ∷ []))) (binding_other records entry name none)
     ∙ kept_longer secret records (entry ∷ []) name (binding_in records name) refl
 
--- a Bound of a name that wasn't bound is kept of this name, and each other name keeps what it has
+-- a Bound of a new name becomes its binding, and every other name keeps its own
 pub kept_bound : (secret : Secret) (records : List Record) (bound : Bound) (name : List ℕ) → binding_in records bound.name ≡ None
     → binding_kept secret (records ++ BoundRecord bound ∷ []) name
     ≡ cond (are_same bound.name name) (Some (kept_of secret records (length records, bound))) (binding_kept secret records name)
@@ -130,7 +129,7 @@ kept_bound secret records bound name free = by (are_same bound.name name) refl
 
 -- ---- identifiers
 
--- after the Key's record, one more record adds its own
+-- one more record adds its own I
 pub identifier_grown : (records : List Record) (entry : Record) (identifier : List ℕ) → 0 < length records
     → has_identifier (drop 1 (records ++ entry ∷ [])) identifier
     ≡ (has_identifier (drop 1 records) identifier || is_of identifier (identifier_of entry))
@@ -167,7 +166,7 @@ module _ (records : List Record) (key : Key) (made : ByPlace Made) (bindings : B
   pub is_some_record : 0 < length records
   is_some_record = slice_get_within records 0 (KeyRecord key) (key_stands records key old.keyed)
 
-  -- once a record was added that makes no tree and binds no name
+  -- after a record that makes no tree and binds no name
   pub grown_plain : ((k : ℕ) → made_by records k (Some entry) ≡ None) → ((name : List ℕ) → binds name entry ≡ None) → identifier_of entry ≡ None
       → HasSizes entry → (new_levels : List (Option Tree)) → HasTrees key.secret (records ++ entry ∷ []) new_levels
       → (new_moved : Bool) → new_moved ≡ is_moved (Some entry) → (new : List Record) → new ≡ records ++ entry ∷ []

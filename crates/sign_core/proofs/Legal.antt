@@ -1,4 +1,4 @@
--- Which lists are legal: those of which each record can follow the ones before it.
+-- A list is legal if each record can follow the ones before it.
 use Rattle.std.proofs.Common.{◌≡◌, ◌≢◌, inl, inr, ℕ, ◌<◌, ◌≤◌, Bool, true, false, not, List, [], ◌∷◌, ◌++◌}
 use Rattle.std.proofs.Common.{length, Option, Some, refl, sym, ap, subst, ◌∙◌, arith, true≢false}
 use Rattle.std.specs.Prelude.{slice_get}
@@ -139,13 +139,13 @@ not_means : (b : Bool) → not b ≡ true → b ≡ false
 not_means true is = sym is
 not_means false is = refl
 
--- a legal list, grown by a record that can follow it, is legal
+-- a legal list with one more record that can follow is legal
 pub grows : (before : List Record) (entry : Record) → IsLegal before → can_follow (key_in before) before entry ≡ true → IsLegal (before ++ entry ∷ [])
 grows before entry legal follows =
     let (stays, rest) = parts_of (key_in before) legal.key before entry (key_first before legal.key legal.first) follows in
     grown before entry legal (not_means (has_moved before) stays) rest
 
--- and the last record of a legal list can follow those before it
+-- the last record of a legal list can follow the ones before it
 pub grew : (before : List Record) (entry : Record) → 0 < length before → IsLegal (before ++ entry ∷ [])
     → can_follow (key_in before) before entry ≡ true
 grew before entry some legal =

@@ -1,4 +1,4 @@
--- Chains of trees in memory: which records they are of, and that they are the chains of the records.
+-- Chains of trees in memory are the chains of the records.
 use Rattle.std.proofs.Common.{◌≡◌, ◌∙◌, refl, sym, ap, subst, inl, inr, ℕ, zero, suc, ◌+◌, ◌-◌, ◌^◌, ◌<◌, ◌≤◌, Bool, true, false, not, List, [], ◌∷◌}
 use Rattle.std.proofs.Common.{◌++◌, length, take, find, Option, Some, None, cond, arith, length-append}
 use Rattle.std.specs.Prelude.{slice_get, slice_index_or, unwrap_or, Result, Ok, Err, IfErr, OnOk}
@@ -42,7 +42,7 @@ one_extend : (a b : Extend) → Some (ExtendRecord a) ≡ Some (ExtendRecord b) 
 unfolding extend_in
 one_extend a b same = same_Some a b (ap extend_in same)
 
--- what is kept of an Extend
+-- a kept Extend
 pub made_extend : (records : List Record) (place : ℕ) (entry : Option Record) (made : Made) → made_by records place entry ≡ Some made
     → (entry ≡ Some (ExtendRecord made.extend)) × (made.parent ≡ tree_before (made.extend.level - 1) records place)
 made_extend records place (Some (ExtendRecord extend)) made is =
@@ -58,7 +58,7 @@ made_extend records place None made is = absurd (cc)
 key_or_extend : (key : Key) (extend : Extend) → Some (KeyRecord key) ≡ Some (ExtendRecord extend) → ⊥
 key_or_extend key extend same = cc
 
--- where one stands, the tree is of its level
+-- an Extend's tree has its level
 pub level_made : (records : List Record) (key : Key) (level place : ℕ) (extend : Extend) → slice_get records 0 ≡ Some (KeyRecord key)
     → IsTreeAt records level place → slice_get records place ≡ Some (ExtendRecord extend) → (extend.level ≡ level) × (1 ≤ level)
 level_made records key zero place extend first at stands =
@@ -97,7 +97,7 @@ top_pair (Hss (pair ∷ rest) identifier seed) trees these =
     subst (λ (t : Trees). t.top.pair ≡ slice_index_or t.pairs 0 t.top.pair) (same_Some _ trees these) refl
 top_pair (Xmss secret) trees these = absurd (cc)
 
--- the types of a tree are those of its level
+-- a tree's types are its level's
 pub pair_at : (key : Key) (trees : Trees) (records : List Record) (level place : ℕ) → slice_get records 0 ≡ Some (KeyRecord key)
     → trees_of key.secret ≡ Some trees → IsTreeAt records level place
     → (secret_at trees records place).pair ≡ slice_index_or trees.pairs level trees.top.pair
@@ -187,7 +187,7 @@ more_made links link before made i other at =
       | inr (inr beyond) ↦ absurd (omega (arith, inside, count, beyond))
     ]
 
--- what one signs with, whose tree was just made
+-- the signing of a link whose tree was just made
 pub link_signs : (link : Link) (tree : SigningTree) (secret : LmsSecret) (leaf : ℕ) (randomizer digest : List ℕ) → link.tree ≡ tree → IsTreeBy secret leaf tree
     → link.randomizer ≡ randomizer → link.digest ≡ digest → signing_of_link link ≡ signing_with secret leaf randomizer digest
 link_signs link tree secret leaf randomizer digest same by of_randomizer of_digest =
@@ -197,7 +197,7 @@ link_signs link tree secret leaf randomizer digest same by of_randomizer of_dige
 
 -- ---- one more level
 
--- What is kept of an Extend is the tree of its level, under the tree at its parent's place.
+-- A kept Extend is the tree of its level, under the tree at its parent's place.
 pub record IsUnder (trees : Trees) (records : List Record) (level place : ℕ) (made : Made) : Type 0 where
   pub stands : slice_get records place ≡ Some (ExtendRecord made.extend)
   pub some : 1 ≤ level
@@ -244,7 +244,7 @@ chain_damaged_above key trees records level place k made below above =
     subst (λ n. damaged_in key n records place ≡ Some k) (next_level level below.some)
     (above_damaged key records (level - 1) place k (ap (damaged_in key (level - 1) records) below.above ∙ above))
 
--- what the trees of a chain sign with, one level more
+-- the signings of a chain's trees, with one more level
 pub signings_more : (trees : Trees) (records : List Record) (level place : ℕ) (extend : Extend) → slice_get records place ≡ Some (ExtendRecord extend)
     → signings_above trees level records (tree_before level records place) ++ named_by (secret_at trees records (tree_before level records place)) extend ∷ []
     ≡ signings_above trees (suc level) records place

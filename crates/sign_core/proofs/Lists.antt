@@ -8,11 +8,10 @@ slice_get_front [] ys k below = absurd (omega (arith, below))
 slice_get_front (x ∷ xs) ys zero below = refl
 slice_get_front (x ∷ xs) ys (suc k) below = slice_get_front xs ys k (omega (arith, below))
 
--- what stands in the front stands there in all
+-- an item of the front stays in the whole list
 pub slice_get_stays : {A : Type 0} (xs ys : List A) (k : ℕ) (x : A) → slice_get xs k ≡ Some x → slice_get (xs ++ ys) k ≡ Some x
 slice_get_stays xs ys k x is = slice_get_front xs ys k (slice_get_within xs k x is) ∙ is
 
--- what is added stands at the end
 pub slice_get_new : {A : Type 0} (xs : List A) (new : A) → slice_get (xs ++ new ∷ []) (length xs) ≡ Some new
 slice_get_new [] new = refl
 slice_get_new (x ∷ xs) new = slice_get_new xs new
@@ -28,7 +27,6 @@ front_or_new (first ∷ xs) new (suc k) x is = elim (front_or_new xs new k x is)
   | inr (end, same) ↦ inr (ap suc end, same)
 ]
 
--- the items of a beginning
 pub slice_get_take : {A : Type 0} (k : ℕ) (xs : List A) (i : ℕ) → i < k → slice_get (take k xs) i ≡ slice_get xs i
 slice_get_take zero xs i below = absurd (omega (arith, below))
 slice_get_take (suc k) [] i below = refl
@@ -40,7 +38,6 @@ take_with_next [] k x is = absurd (none-some x is)
 take_with_next (first ∷ xs) zero x is = ap (λ y. y ∷ []) (same_Some first x is)
 take_with_next (first ∷ xs) (suc k) x is = ap (λ l. first ∷ l) (take_with_next xs k x is)
 
--- there is an item at each place within
 pub slice_get_some : {A : Type 0} (xs : List A) (k : ℕ) → k < length xs → (x : A) × (slice_get xs k ≡ Some x)
 slice_get_some [] k below = absurd (omega (arith, below))
 slice_get_some (x ∷ xs) zero below = (x, refl)

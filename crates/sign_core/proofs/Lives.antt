@@ -52,7 +52,7 @@ stands_by content (damaged k) is = inr (λ other stands. elim (standing other co
 list_or_none : (content : List ℕ) → ((list : List Record) × StandsFor list content) ⊎ StandsForNone content
 list_or_none content = let (kind, is) = some_opening content in stands_by content kind is
 
--- Where all lists that are left have P, and not each list has it, a content that is left stands for one.
+-- If each list that is left has P, and some list doesn't, a content that is left stands for a list.
 one_left : (P : List Record → Type 0) (other : List Record) → (P other → ⊥) → (since : ℕ → List ℕ → Type 0) (t : ℕ) (content : List ℕ)
     → since t content → ((list : List Record) → LeftLists since t list → P list) → (list : List Record) × StandsFor list content × P list
 one_left P other never since t content is each = elim (list_or_none content) [
@@ -60,7 +60,6 @@ one_left P other never since t content is each = elim (list_or_none content) [
   | inr none ↦ absurd (never (each other (content, is, inr none)))
 ]
 
--- a longer list
 longer : List Record → List Record
 longer all = all ++ Moved ∷ []
 
@@ -129,7 +128,7 @@ pub record KeepsTime {D : Type 0} (d : disk.Ghosts D) : Type 0 where
   pub counts_now : (on : D) (t : ℕ) (c : List ℕ) → IsTrue (d.honest on) → t ≤ d.moment on → MayLeave (d.state on) c → d.left_since on t c
   pub only_now : (on : D) (c : List ℕ) → IsTrue (d.honest on) → d.left_since on (d.moment on) c → MayLeave (d.state on) c
 
--- the store's moments and lists are those of its disk
+-- the store's moments and lists are its disk's
 pub record IsTiedToDisk {D : Type 0} (d : disk.Ghosts D) (g : store.Ghosts (FileStore D d)) : Type 0 where
   pub lists : (old new : FileStore D d) (list : List Record) → LeftLists (d.left_since (disk_of new)) (d.moment (disk_of old)) list
       → g.left_since new (g.moment old) list
@@ -137,12 +136,12 @@ pub record IsTiedToDisk {D : Type 0} (d : disk.Ghosts D) (g : store.Ghosts (File
   pub honest : (old new : FileStore D d) → g.honest new ≡ g.honest old → d.honest (disk_of new) ≡ d.honest (disk_of old)
 
 module _ {D : Type 0} (d : disk.Ghosts D) (g : store.Ghosts (FileStore D d)) (time : KeepsTime d) (tied : IsTiedToDisk d g) (limit : ℕ) where
-  -- what a stop right now leaves of the store's disk, a run from the first world leaves
+  -- what a crash right now leaves of the store's disk, a run from the first world leaves
   abbrev LeavesRuns : (first now : World) → FileStore D d → Type 0
   LeavesRuns first now store = (content : List ℕ) → d.left_since (disk_of store) (d.moment (disk_of store)) content
       → IsLeftByRun limit first now.handed content
 
-  -- a stop in a call
+  -- a crash in a call
   in_call : (first now : World) (old : FileStore D d) (call : Call (FileStore D d)) (content : List ℕ) → IsRun limit first now
       → LeavesRuns first now old → IsCall g.moment g.left_since limit now old call
       → d.left_since (disk_of call.store) (d.moment (disk_of old)) content → IsLeftByRun limit first now.handed content
@@ -161,7 +160,7 @@ module _ {D : Type 0} (d : disk.Ghosts D) (g : store.Ghosts (FileStore D d)) (ti
         | inr same ↦ was content (subst (λ s. d.left_since (disk_of s) (d.moment (disk_of old)) content) same since)
       ]
 
-  -- a stop right after a call, where a signer is open
+  -- a crash right after a call, with an open signer
   open_call : (first now : World) (old : FileStore D d) (call : Call (FileStore D d)) → IsRun limit first now
       → IsLastingCall g limit now old call → (after limit now call.event).state.is_open ≡ true → LeavesRuns first (after limit now call.event) call.store
   open_call first now old call runs is opens content since =
@@ -176,7 +175,7 @@ module _ {D : Type 0} (d : disk.Ghosts D) (g : store.Ghosts (FileStore D d)) (ti
             (runs_on limit first left _ (runs_on limit first now left runs (one_event limit now call.event is.is_call.possible)) (by_stop limit left));
       }
 
-  -- .. and where none is
+  -- .. and without one
   closed_call : (first now : World) (old : FileStore D d) (call : Call (FileStore D d)) → IsTrue (d.honest (disk_of call.store)) → IsRun limit first now
       → LeavesRuns first now old → IsLastingCall g limit now old call → (after limit now call.event).state.is_open ≡ false
       → LeavesRuns first (after limit now call.event) call.store
@@ -253,7 +252,7 @@ module _ {D : Type 0} (d : disk.Ghosts D) (g : store.Ghosts (FileStore D d)) (ti
 
   -- ---- lives one after the other
 
-  -- to each content that may be left a run leads
+  -- runs lead to each content that may be left
   abbrev LeavesByRuns : (List ℕ → Type 0) → List Handed → Type 0
   LeavesByRuns before handed = (content : List ℕ) → before content → IsLeftByRun limit beginning handed content
 
@@ -270,7 +269,7 @@ module _ {D : Type 0} (d : disk.Ghosts D) (g : store.Ghosts (FileStore D d)) (ti
   after_service before handed on store calls last begins is =
       all_calls (world_on store handed) (world_on store handed) store calls (served_first on store handed begins.honest is.is_store) is.each
 
-  -- no store was had
+  -- there was no store
   failed : (before : List ℕ → Type 0) (handed : List Handed) (old new : D) (content : List ℕ) → LeavesByRuns before handed → IsAtStart d before old
       → IsTriedOn d old new → d.left_since new (d.moment old) content → IsLeftByRun limit beginning handed content
   failed before handed old new content known begins (inl leaves) since = known content (begins.holds content (leaves.each content since))
@@ -380,7 +379,6 @@ goes_on d g time tied limit before handed (serves on store calls last) honest is
       (no_earlier d g tied limit (world_after limit store calls handed) ended last is.1.is_last) may;
 }
 
--- what runs lead to, they lead to
 known_led : (limit : ℕ) (handed : List Handed) (content : List ℕ) → LedTo limit handed content → IsLeftByRun limit beginning handed content
 known_led limit handed content led = led
 

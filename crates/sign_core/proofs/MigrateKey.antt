@@ -1,4 +1,4 @@
--- What the ends of a migration come to: a refusal of the old place, of the new one, by sealing, and a place that is filled.
+-- The ends of a migration: a refusal of the old place, of the new one, or of sealing; and a place that is filled.
 use Rattle.std.proofs.Common.{◌≡◌, ◌≢◌, ◌⊎◌, inl, inr, ℕ, ◌+◌, ◌*◌, ◌-◌, Bool, true, false, List, [], ◌∷◌, ◌++◌, length, take, Some, None, Ok, Err, Result, refl, sym}
 use Rattle.std.proofs.Common.{ap, ◌∙◌, subst, arith, IsTrue, true≢false, not}
 use Rattle.std.proofs.lemmas.Bool.{cases_Bool}
@@ -131,7 +131,7 @@ not_stopped : (fault : MigrateFault) → RefusesOld fault → fault ≢ Stopped
 not_stopped fault kind is = subst RefusesOld is kind
 
 module _ {D E : Type 0} (d : disk.Ghosts D) (e : disk.Ghosts E) (old_time : KeepsTime d) (new_time : KeepsTime e) where
-  -- what a stop at an exit leaves
+  -- what a crash at an exit leaves
   at_exit : {T : Type 0} (g : disk.Ghosts T) → KeepsTime g → (before after : T) (P : List ℕ → Type 0) → LeavesOnly g.moment g.left_since before after P → IsTrue (g.honest after)
       → (c : List ℕ) → MayLeave (g.state after) c → P c
   at_exit g time before after P leaves honest c may = leaves.each c (time.counts_now after (g.moment before) c honest leaves.later may)
@@ -234,7 +234,7 @@ module _ {D E : Type 0} (d : disk.Ghosts D) (e : disk.Ghosts E) (old_time : Keep
 
   -- ---- a place was found
 
-  -- a stop leaves no key at the new place
+  -- a crash leaves no key at the new place
   place_leaves : (new : E) (place : Place E e) → ChecksPlace {bound = e} e new (Ok place) → IsTrue (e.honest new) → (c : List ℕ) → MayLeave (e.state (place_disk place)) c
       → HasNoKey c
   place_leaves new place checks honest c may =
@@ -242,7 +242,7 @@ module _ {D E : Type 0} (d : disk.Ghosts D) (e : disk.Ghosts E) (old_time : Keep
       let same : c ≡ (e.state new).content = synced_left (e.state new).content c (subst (λ s. MayLeave s c) found.1 may) in
       subst HasNoKey (sym same) found.0
 
-  -- the records that the old content stands for are those of the store
+  -- the old content's records are the store's
   same_records : (old : D) (store : FileStore D d) (records : List Record) → OpensOld d old (Ok store) → IsTrue (d.honest old)
       → ((c : List ℕ) → MayLeave (d.state old) c → StandsFor records c) → records ≡ records_of store
   same_records old store records opens honest stands =
@@ -285,7 +285,7 @@ module _ {D E : Type 0} (d : disk.Ghosts D) (e : disk.Ghosts E) (old_time : Keep
   unsealed old new old_stopped new_stopped content after before now OutOfMemory running seals = absurd seals
   unsealed old new old_stopped new_stopped content after before now KeyThere running seals = absurd seals
 
-  -- what a stop leaves has each of two properties
+  -- what a crash leaves has both properties
   both_leave : {T : Type 0} (g : disk.Ghosts T) (before after : T) (P Q : List ℕ → Type 0) → LeavesOnly g.moment g.left_since before after P
       → LeavesOnly g.moment g.left_since before after Q → LeavesOnly g.moment g.left_since before after (λ c. P c × Q c)
   both_leave g before after P Q first second = record {
@@ -313,7 +313,7 @@ module _ {D E : Type 0} (d : disk.Ghosts D) (e : disk.Ghosts E) (old_time : Keep
       → IsTrue (d.honest (disk_of store)) → has_stopped store ≡ false → SealMoments store (store_sealed answer)
   sealing_leaves store answer seals honest running = both_leave d (disk_of store) (disk_of (store_sealed answer)) _ _ (seals.moments honest running) (seals.bytes honest running)
 
-  -- what a stop leaves at the old place, and what that is of the event
+  -- what a crash leaves at the old place
   left_by_seal : (old : D) (store : FileStore D d) (c : List ℕ) → OpensOld d old (Ok store) → IsTrue (d.honest old)
       → LeftBySeal (records_of store) (d.state (disk_of store)).content c → LeftAtOld (d.state old) c
   left_by_seal old store c opens honest left =
@@ -391,7 +391,7 @@ module _ {D E : Type 0} (d : disk.Ghosts D) (e : disk.Ghosts E) (old_time : Keep
 
   -- ---- a place that is filled
 
-  -- by the answer
+  -- the old place, by the answer
   filled_old : (content : List ℕ) (after : DiskState) (records : List Record) (honest : Bool) (before now new_before new_now : ℕ) (answer : Result ℕ MigrateFault)
       → IsTrue honest → CountsEither honest before now new_before new_now answer → IfOk answer (λ n. n ≡ length (carried records))
       → SpellsMovable content records → IsSynced after → StandsFor (with_moved records) after.content → AnswersOld content after answer
@@ -431,7 +431,7 @@ module _ {D E : Type 0} (d : disk.Ghosts D) (e : disk.Ghosts E) (old_time : Keep
   filled_is honest before now new_before new_now (Err KeyThere) counts = absurd counts
   filled_is honest before now new_before new_now (Err Full) counts = absurd counts
 
-  -- the event of a place that was filled, or in which that failed
+  -- the event of filling, done or failed
   filled_event : (content : List ℕ) (records : List Record) (honest : Bool) (before now new_before new_now : ℕ) (answer : Result ℕ MigrateFault) (c other : List ℕ)
       → IsTrue honest → CountsEither honest before now new_before new_now answer → SpellsMovable content records → StandsFor (with_moved records) c
       → HasNoKey other ⊎ SpellsRecords other (carried records) → OnOk answer (SpellsRecords other (carried records)) → IsMigration records answer c other

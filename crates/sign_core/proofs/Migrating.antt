@@ -1,5 +1,4 @@
--- What a migration keeps: nothing that records say of trees, leaves, names and signatures depends on their version, or on
--- a Moved at their end.
+-- A migration keeps trees, leaves, names and signatures: none of them depends on the version, or on a Moved at the end.
 use Rattle.std.proofs.Common.{◌≡◌, ◌≢◌, ◌∙◌, refl, sym, ap, ap₂, subst, ℕ, zero, suc, ◌+◌, ◌-◌, ◌<◌, ◌≤◌, ◌⊎◌, inl, inr, Bool, true, false, not, ◌&&◌}
 use Rattle.std.proofs.Common.{List, [], ◌∷◌, ◌++◌, length, take, map, Option, Some, None, arith, true≢false}
 use Rattle.std.specs.Prelude.{Contains, fold, find, if◌then◌else◌, is_some, max, nat_lt, nat_le, slice_get, unwrap_or}
@@ -37,13 +36,11 @@ use Rattle.sign_core.proofs.Lists.{slice_get_stays, take_with_next}
 use Rattle.sign_core.proofs.OnceKept.{IsKept, kept_grown, sound_with}
 use Rattle.sign_core.proofs.Stays.{digest_stays, signature_stays, some_keyed, sound_stays}
 
--- no Moved stands among these records
 abbrev pub NoMoved : List Record → Type 0
 NoMoved records = (k : ℕ) (entry : Record) → slice_get records k ≡ Some entry → entry ≢ Moved
 
 -- ---- another version of the Key at the head
 
--- the key in another version
 abbrev pub key_in_version : Version → Key → Key
 key_in_version version key = record { version = version; secret = key.secret; root = key.root }
 
@@ -358,7 +355,7 @@ list_of_key (BoundRecord bound ∷ rest) key is = absurd (cc)
 list_of_key (Retire upto ∷ rest) key is = absurd (cc)
 list_of_key (Moved ∷ rest) key is = absurd (cc)
 
--- no other record says a version
+-- only a Key has a version
 same_mapped : (version : Version) (rest : List Record) → ((k : ℕ) (other : Key) → slice_get rest k ≡ Some (KeyRecord other) → ⊥)
     → map (in_version version) rest ≡ rest
 same_mapped version [] none = refl
@@ -399,7 +396,7 @@ carried_front records front key legal keyed none same is =
       carried_is = ap (map (in_version Two)) (same ∙ list) ∙ ap (λ l. KeyRecord (key_in_version Two key) ∷ l) (same_mapped Two rest only);
     }
 
--- where none ends with a Moved, there is none
+-- every legal list is of this form
 pub is_carried : (records : List Record) (key : Key) → IsLegal records → key_in records ≡ Some key → IsCarried records key
 is_carried records key legal keyed = elim (cases_Bool (has_moved records)) [
   | inl moved ↦ by_front moved (front_of records moved)
@@ -471,7 +468,7 @@ state_choice : (P : List Record → Type 0) (test : Bool) (x y : State) → (tes
 state_choice P true x y first second = first refl
 state_choice P false x y first second = second
 
--- what holds of the records before and of each that a migration may leave, holds after it
+-- what holds of the old records, and of all that a migration may leave, holds after it
 pub migrated_has : (P : List Record → Type 0) (state : State) (fate : Migration) → P state.records
     → ((key : Key) → key_in state.records ≡ Some key → can_move key.version ≡ true → P (migrated_to state.records fate)) → P (migrated state fate).records
 migrated_has P state fate was each = by (key_in state.records) refl

@@ -1,4 +1,4 @@
--- What a migration leaves at either place is what a run of the world leads to.
+-- Runs of the world lead to what a migration leaves at either place.
 use Rattle.std.proofs.Common.{◌≡◌, ◌∙◌, sym, ap, subst, ℕ, ◌⊎◌, inl, inr, IsTrue, List, [], Result, Ok, Some}
 use Rattle.state_file.specs.declared.disk.Disk as disk
 use Rattle.state_file.specs.declared.migration.MigrateFault.{MigrateFault}
@@ -30,7 +30,7 @@ module _ {D E : Type 0} (d : disk.Ghosts D) (e : disk.Ghosts E) (time : KeepsTim
   led : LedTo limit handed (d.state old).content
   led = starts.holds (d.state old).content (time.shows old starts.honest)
 
-  -- runs lead to what stands for the records that it spells
+  -- runs lead to each content that stands for its records
   led_on : (records : List Record) (c : List ℕ) → SpellsMovable (d.state old).content records → StandsFor records c → LedTo limit handed c
   led_on records c is stands =
       let same : led.records ≡ records =

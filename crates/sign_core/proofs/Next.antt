@@ -43,7 +43,7 @@ not_first records key k l j first last same =
     kind (Retire upto) = 2
     kind Moved = 2
 
--- the current trees of two levels are two, in a list that begins with a Key
+-- two levels have two current trees, in a list that begins with a Key
 pub trees_apart : (records : List Record) (key : Key) (l m a b : ℕ) → slice_get records 0 ≡ Some (KeyRecord key)
     → current l records ≡ Some a → current m records ≡ Some b → l ≢ m → a ≢ b
 trees_apart records key zero zero a b first is_a is_b apart same = apart refl
@@ -69,7 +69,7 @@ next_at_raised secret records entry level tree n is kept reached =
     ∙ next_raised secret records entry tree n reached
     ∙ ap (λ m. max m n) (sym (next_at_tree secret records level tree is))
 
--- and that of each other level stays
+-- and every other level's next leaf stays
 pub next_at_kept : (secret : Secret) (records : List Record) (key : Key) (entry : Record) (level other tree n : ℕ)
     → slice_get records 0 ≡ Some (KeyRecord key) → current level records ≡ Some tree → reaches secret records entry ≡ Some (tree, n)
     → other ≢ level → current other (records ++ entry ∷ []) ≡ current other records
@@ -100,7 +100,7 @@ next_at_parent secret records extend level above of parent =
     next_at_raised secret records (ExtendRecord extend) level above (extend.parent_leaf + 1) parent
     (current_above level level records extend of (omega arith)) (extend_reaches secret records extend level above of parent)
 
--- leaves those above it
+-- leaves the levels above that as they are
 pub next_at_above : (secret : Secret) (records : List Record) (key : Key) (extend : Extend) (level higher above : ℕ)
     → slice_get records 0 ≡ Some (KeyRecord key) → extend.level ≡ suc level → current level records ≡ Some above → higher < level
     → next_at secret (records ++ ExtendRecord extend ∷ []) higher ≡ next_at secret records higher
@@ -109,7 +109,7 @@ next_at_above secret records key extend level higher above first of parent under
     (extend_reaches secret records extend level above of parent) (λ same. omega (arith, under, same))
     (current_above level higher records extend of (omega (arith, under)))
 
--- and ends those below its own
+-- and ends the levels below its own
 pub next_at_below : (secret : Secret) (records : List Record) (extend : Extend) (level lower : ℕ) → extend.level ≡ suc level → suc level < lower
     → next_at secret (records ++ ExtendRecord extend ∷ []) lower ≡ 0
 next_at_below secret records extend level lower of under =
@@ -141,7 +141,7 @@ next_at_bound_other secret records key bound level tree first is apart =
     next_at_kept secret records key (BoundRecord bound) (bottom_of secret) level tree (bound.leaf + 1) first is
     (ap (λ o. in_tree o (bound.leaf + 1)) is) apart (current_bound level records bound)
 
--- a Retire takes those below its number
+-- a Retire takes all leaves below its number
 pub next_at_retire : (secret : Secret) (records : List Record) (upto tree : ℕ) → current (bottom_of secret) records ≡ Some tree
     → next_at secret (records ++ Retire upto ∷ []) (bottom_of secret) ≡ max (next_at secret records (bottom_of secret)) upto
 next_at_retire secret records upto tree is =

@@ -1,4 +1,4 @@
--- What the loads of the old file come to, one after the other.
+-- The loads of the old file, one after the other.
 use Rattle.std.proofs.Common.{◌≡◌, inr, ℕ, ◌+◌, ◌<◌, ◌≤◌, Bool, true, false, List, [], ◌∷◌, ◌++◌, length, Some, None, Ok, Err, Result, refl, sym}
 use Rattle.std.proofs.Common.{ap, ◌∙◌, subst, arith, IsTrue, true≢false, take}
 use Rattle.std.proofs.lemmas.Option.{same_Some}
@@ -24,7 +24,7 @@ use Rattle.sign_core.specs.OldFile.{ReportsOld, SpellsMovable}
 use Rattle.sign_core.specs.Records.{can_follow}
 use Rattle.sign_core.proofs.Replay.{Holds, holds_all, holds_first, holds_more, holds_refused}
 
--- Calls that didn't fail read a store, and nothing else.
+-- Calls that didn't fail only read a store.
 pub record IsRead {D : Type 0} (d : disk.Ghosts D) (old now : FileStore D d) : Type 0 where
   pub records : records_of now ≡ records_of old
   pub reads : IsTrue (d.honest (disk_of old)) → OnlyReads d.state d.moment d.left_since (disk_of old) (disk_of now)
@@ -267,7 +267,7 @@ module _ {D : Type 0} (d : disk.Ghosts D) where
   reports_old content records KeyThere spelled refuses = absurd refuses
   reports_old content records Full spelled refuses = absurd refuses
 
-  -- the records of a store that was opened were judged
+  -- the records of an opened store were judged
   module _ (shows : (on : D) → IsTrue (d.honest on) → MayLeave (d.state on) (d.state on).content) (given : D) (found now : FileStore D d)
       (finds : FindsRecords {bound = d} d given (Ok found)) where
     found_honest : IsTrue (d.honest given) → IsTrue (d.honest (disk_of found))

@@ -19,7 +19,6 @@ use Rattle.sign_core.proofs.Lists.{slice_get_new}
 use Rattle.sign_core.proofs.Legal.{grows}
 use Rattle.sign_core.proofs.Stays.{digest_stays, key_stays, old_or_new, record_stays, signature_stays, some_keyed, sound_stays}
 
--- What every event keeps.
 pub record IsKept (records : List Record) (handed : List Handed) : Type 0 where
   pub ground : (records ≡ []) ⊎ AreSound records
   pub sizes : AllHaveSizes records
@@ -75,7 +74,7 @@ sound_grown records key entry sound is can new = record {
   sound = λ k. each_grown records key entry k sound is new;
 }
 
--- what was recorded stays so
+-- a recorded signature stays recorded
 pub recorded_stays : (records : List Record) (entry : Record) (x : Handed) → IsRecorded records x → IsRecorded (records ++ entry ∷ []) x
 recorded_stays records entry x is =
     let bound_to = is.is_bound in
@@ -146,7 +145,6 @@ kept_append state handed name given entry cut_old next kept more later = kept_si
 kept_append state handed name given entry cut_new next kept more later = kept_silent (state.records ++ entry ∷ []) handed name given StoreFailed more
 kept_append state handed name given entry no_memory next kept more later = kept_silent state.records handed name given OutOfMemory kept
 
--- a choice
 pub kept_choice : (P : Outcome (List ℕ) → Type 0) (test : Bool) (x y : Outcome (List ℕ)) → (test ≡ true → P x) → (test ≡ false → P y)
     → P (if test then x else y)
 kept_choice P true x y first second = first refl

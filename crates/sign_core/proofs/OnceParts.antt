@@ -56,7 +56,7 @@ never_damaged Q state handed key kept keyed level tree slot is =
 
 -- ---- an open signer
 
--- it goes by the binding of the name
+-- a request goes by the name's binding
 open_request : (limit : ℕ) (state : State) (key : Key) (name : List ℕ) (chance : Chance) (found : Option (ℕ × Bound)) → state.is_open ≡ true
     → has_moved state.records ≡ false
     → key_in state.records ≡ Some key → binding_in state.records name ≡ found
@@ -68,7 +68,7 @@ open_request limit state key name chance found open_now stays keyed is =
     ∙ ap (λ test. if not test then refused state Stopped else rest (has_moved state.records)) open_now
     ∙ ap rest stays ∙ ap (requested_of limit state key name chance) is
 
--- where it isn't bound, it goes on where it isn't too long
+-- a new name goes on if it isn't too long
 new_request : (limit : ℕ) (state : State) (key : Key) (name : List ℕ) (chance : Chance) (long : Bool) → state.is_open ≡ true
     → has_moved state.records ≡ false → key_in state.records ≡ Some key → binding_in state.records name ≡ None → is_long key name ≡ long
     → requested limit state name chance ≡ (if long then refused state LongName else bound_anew limit state key name chance (deepest key.secret state.records))
@@ -83,7 +83,7 @@ pub long_request : (limit : ℕ) (state : State) (key : Key) (name : List ℕ) (
 long_request limit state key name chance open_now stays keyed unbound above =
     new_request limit state key name chance true open_now stays keyed unbound (lt-ltb (name_most key.version) (length name) above)
 
--- or no record follows
+-- after a Moved every request is refused
 moved_request : (limit : ℕ) (state : State) (key : Key) (name : List ℕ) (chance : Chance) → state.is_open ≡ true → has_moved state.records ≡ true
     → key_in state.records ≡ Some key → requested limit state name chance ≡ refused state MovedAway
 moved_request limit state key name chance open_now moved keyed =
@@ -95,7 +95,6 @@ moved_request limit state key name chance open_now moved keyed =
 
 -- ---- a name that is bound
 
--- what can't be true is false
 false_from : (test : Bool) → (test ≡ true → ⊥) → test ≡ false
 false_from true never = absurd (never refl)
 false_from false never = refl
@@ -114,7 +113,6 @@ answers_changed limit state key k bound name message chance open_now stays keyed
     ∙ ap (repeated state key k bound chance) given
     ∙ ap (λ same. reading (if not same then refused state Changed else (if not chance.has_room then refused state OutOfMemory else rest))) test
 
--- the branches of a negated test
 turned_choice : {A : Type 0} (test : Bool) (x y : A) → (if not test then x else y) ≡ (if test then y else x)
 turned_choice true x y = refl
 turned_choice false x y = refl
@@ -139,7 +137,7 @@ answers_repeated limit state handed key k bound name message chance kept open_no
 
 -- ---- a name that isn't bound
 
--- what is wanted is done
+-- a new name is signed once all its records are made
 signed_by : (key : Key) (records : List Record) (level : ℕ) (name message : List ℕ) (chance : Chance) (outcome : Outcome (List ℕ))
     → level < levels_of key.secret → IsDone key name message chance (bottom_of key.secret - level) chance.trees records outcome
     → IsSigned key records level name message chance outcome
@@ -194,7 +192,7 @@ fresh_fine limit state handed key level name message chance kept open_now stays 
       | inr done ↦ inr (signed_by key records level name message chance _ inside done)
     ])
 
--- 22 comes where no leaf is free, and nowhere else
+-- 22 comes only where no leaf is free
 not_exhausted : Ends (λ outcome. outcome.answer ≢ Err Exhausted)
 not_exhausted = record {
   drawn = λ bytes outcome never. never;
@@ -304,7 +302,7 @@ opens_again state handed key kept keyed =
 
 -- ---- retirings
 
--- its append was cut off
+-- a 25 closes the signer
 abbrev Shuts : Outcome (Unit {0}) → Type 0
 Shuts outcome = outcome.answer ≡ Err StoreFailed → outcome.state.is_open ≡ false
 

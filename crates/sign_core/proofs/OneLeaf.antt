@@ -24,11 +24,10 @@ use Rattle.sign_core.proofs.Sizes.{key_has_sizes, public_made}
 
 -- ---- one record
 
--- what stands at a place is one thing
 one_at : {A : Type 0} (xs : List A) (j k : ℕ) (a b : A) → j ≡ k → slice_get xs j ≡ Some a → slice_get xs k ≡ Some b → a ≡ b
 one_at xs j k a b same at_j at_k = let both : Some a ≡ Some b = sym at_j ∙ ap (slice_get xs) same ∙ at_k in cc
 
--- no two trees go by one I
+-- no two trees have one I
 one_tree : (secret : Secret) (records : List Record) (a b : ℕ) (identifier other : List ℕ) → IsLegal records → identifier ≡ other
     → IsTreeOf secret records a identifier → IsTreeOf secret records b other → a ≡ b
 one_tree (Lms own) records a b identifier other legal same (made, at, is) (made_too, at_too, is_too) = elim (cases_order a b) [
@@ -174,7 +173,7 @@ one_name world x y uses others u v kept were last_u last_v one =
     let place : are.first.k ≡ are.second.k = one_place are.key records are.first.k are.second.k u v are.sound.legal are.own of_u of_v one in
     one_bound records x.name y.name are.first.k are.second.k are.first.bound are.second.bound place are.first.is_bound.named are.second.is_bound.named
 
--- the signatures that are recorded for one name are one
+-- one name has one recorded signature
 pub one_signature : (records : List Record) (x y : Handed) → IsRecorded records x → IsRecorded records y → x.name ≡ y.name → x.signature ≡ y.signature
 one_signature records x y is_x is_y name =
     let first = recorded_under records is_x.key x is_x.is_bound.keyed is_x in
@@ -184,7 +183,7 @@ one_signature records x y is_x is_y name =
     let pair : ◌≡◌ {A = ℕ × Bound} (first.k, first.bound) (second.k, second.bound) = cc in
     first.signature ∙ ap₂ (λ k b. signature_at is_x.key records k b) (ap (λ p. p.0) pair) (ap (λ p. p.1) pair) ∙ sym second.signature
 
--- and each is valid
+-- a signature that was handed out is valid
 pub handed_valid : (world : World) (x : Handed) → IsKept world.state.records world.handed → Contains world.handed x
     → (public : AnyPublic) × (public_in_world world ≡ Some public) × IsValidUnder public x.message x.signature
 handed_valid world x kept there =

@@ -239,7 +239,6 @@ opened_same state None (Some k) = refl
 opened_same state (Some (slot, fault)) None = refl
 opened_same state (Some (slot, fault)) (Some k) = refl
 
--- legal records are opened
 pub reopens : (state : State) → AreWellFormed state.records → Reopens state
 reopens state sized =
     let records = state.records in
@@ -282,7 +281,7 @@ stays_retired key limit state upto fate are =
 
 -- ---- runs
 
--- What is kept: the records are legal and of a key with this public one, and what was handed out is valid.
+-- What every event keeps: the records are legal and of a key with this public one, and what was handed out is valid.
 record IsRight (public : AnyPublic) (world : World) : Type 0 where
   key : Key
   is_public : public_in key ≡ Some public

@@ -1,4 +1,4 @@
--- What each end of an opening is: a step of the world.
+-- Each end of an opening is a step of the world.
 use Rattle.std.proofs.Common.{◌≡◌, ◌⊎◌, ℕ, zero, suc, ◌+◌, ◌<◌, ◌≤◌, Bool, true, false, List, [], ◌∷◌, ◌++◌, length, Some, None, Ok, Err, refl, sym}
 use Rattle.std.proofs.Common.{ap, ◌∙◌, subst, arith, inl, inr, IsTrue, true≢false, take, drop, ◌||◌}
 use Rattle.std.proofs.lemmas.Bool.Decides.{nat_tests}
@@ -48,7 +48,7 @@ pub record IsUnchanged {S : Type 0} (g : store.Ghosts S) (old now : S) : Type 0 
   pub most : g.most now ≡ g.most old
   pub stays : g.stopped old ≡ true → now ≡ old
 
--- These are the first k records of a store, where it is honest.
+-- The first k records of a store, if it is honest.
 pub record Begins {S : Type 0} (g : store.Ghosts S) (old : S) (records : List Record) (k : ℕ) : Type 0 where
   pub long : length records ≡ k
   pub inside : k ≤ length (g.list old)
@@ -105,7 +105,7 @@ gave_more : {S : Type 0} (g : store.Ghosts S) (old now next : S) (records : List
 gave_more g old now next records entry before more =
     more ∙ ap (λ l. l ++ entry ∷ []) before ∙ append_assoc (g.given old) records (entry ∷ [])
 
--- those that are given are the first of the whole list
+-- the given records are the first of the whole list
 gave_whole : {S : Type 0} (g : store.Ghosts S) (old next : S) (records more : List Record) (k : ℕ) → length records ≡ k → g.given next ≡ g.given old ++ records
     → g.given next ≡ g.given old ++ take k (records ++ more)
 gave_whole g old next records more k long gave = gave ∙ ap (λ l. g.given old ++ l) (sym (take_at records more k long))
@@ -138,7 +138,7 @@ kept_some g old now next k entry kept loads = kept_found g old now next k (Some 
 pub kept_none : {S : Type 0} (g : store.Ghosts S) (old now next : S) (k : ℕ) → IsUnchanged g old now → LoadsRecord g now next k (Ok None) → IsUnchanged g old next
 kept_none g old now next k kept loads = kept_found g old now next k None kept loads loads.loads.0 loads.loads.2 loads.loads.3
 
--- one record more
+-- in an honest store the record is the list's
 record_at : (honest : Bool) (list : List Record) (k : ℕ) (entry : Record) → IsRecordAt honest list k entry → IsTrue honest → slice_get list k ≡ Some entry
 record_at true list k entry at is = at
 record_at false list k entry at is = absurd (true≢false (sym is))
@@ -193,7 +193,7 @@ stopped_step g old now records k fault has =
     stops (whole g old records k) k fault (first_illegal (whole g old records k))
     (λ j is. omega (arith, has.begins.long, illegal_after records (drop k (g.list old)) j has.legal is))
 
--- an opening that is stopped at a place by a fault
+-- an opening that a fault ends at a place
 pub stopped_at : {S : Type 0} (g : store.Ghosts S) (old now next : S) (records : List Record) (k loads : ℕ) (fault : SignFault) → HasLoaded g old now records k k
     → StopsOpening (Some (k, fault)) (g.list old) (g.stopped old) (g.honest old)
     → g.stopped next ≡ (is_device_failed fault || g.stopped old) → g.list next ≡ g.list old → LeavesOld g old next
@@ -228,11 +228,11 @@ stopped_at g old now next records k loads fault has load stopped list moments fa
   stays = stays;
 }
 
--- a load more of a store that has stopped
+-- another load of a store that has stopped
 later_stays : {S : Type 0} (g : store.Ghosts S) (old now next : S) → IsUnchanged g old now → (g.stopped now ≡ true → next ≡ now) → g.stopped old ≡ true → next ≡ old
 later_stays g old now next kept stays before = stays (kept.stopped ∙ before) ∙ kept.stays before
 
--- the first load alone can find a store that has stopped
+-- only the first load can find a store that has stopped
 first_place : {S : Type 0} (g : store.Ghosts S) (old now : S) (records : List Record) (k : ℕ) → HasLoaded g old now records k k → g.stopped now ≡ true → k ≡ 0
 first_place g old now records zero has stopped = refl
 first_place g old now records (suc k) has stopped = absurd (true≢false (sym stopped ∙ has.kept.stopped ∙ has.running (omega arith)))
@@ -340,7 +340,7 @@ legal_with : (records : List Record) (entry : Record) → first_illegal records 
 legal_with records entry legal follows =
     first_illegal_appended records entry ∙ (λ i. option_or (legal i) (cond (follows i) None (Some (length records))))
 
--- a record that could follow, and for which there is no memory
+-- a record that could follow, without memory for it
 unroomed : {S : Type 0} (g : store.Ghosts S) (old now next : S) (table : Table) (k : ℕ) (entry : Record) → IsLoadedTo g old now table k k
     → LoadsRecord g now next k (Ok (Some entry)) → can_follow (key_in table.records) table.records entry ≡ true → LacksRoom entry table
     → LoadsAll g old next (IsTakenUp (Err NoMemoryToOpen))
@@ -533,7 +533,6 @@ key_refused g old next entry (Some key) only loads other = tt
 key_refused g old next entry None only loads other =
     illegal_at g old old next [] 0 entry (none_loaded g old only) loads (not_first entry (other refl))
 
--- no record is there
 no_records : (list : List Record) → length list ≤ 0 → [] ≡ list
 no_records [] few = refl
 no_records (entry ∷ entries) few = absurd (omega (arith, few))

@@ -1,4 +1,4 @@
--- Each event answers the refusal of the first cause that is there.
+-- Each event answers the refusal of the first cause that applies.
 use Rattle.std.proofs.Common.{◌≡◌, ◌≢◌, ◌∙◌, refl, sym, ap, subst, ℕ, zero, suc, ◌+◌, ◌-◌, ◌<◌, ◌≤◌, ◌⊎◌, Bool, true, false, inl, inr, List, [], ◌∷◌, ◌++◌}
 use Rattle.std.proofs.Common.{length, Option, Some, None, Result, Err, IsOk, arith, true≢false, lt-ltb, ltb-true, ltb-false, leb-true}
 use Rattle.std.proofs.lemmas.Bool.{leb-false, le-leb}
@@ -48,7 +48,7 @@ use Rattle.state_file.specs.Slot.{name_most}
 some_not_none : {A : Type 0} (x : A) → Some x ≡ None → ⊥
 some_not_none x is = absurd (cc)
 
--- ---- a cause that is there, and one that isn't
+-- ---- a cause that applies, and one that doesn't
 
 refuses : {A : Type 0} {HasCause : SignFault → Type 0} {Rest : Result A SignFault → Type 0} {answer : Result A SignFault} (fault : SignFault)
     → HasCause fault → answer ≡ Err fault → Unless HasCause Rest answer
@@ -66,14 +66,14 @@ is_absent : {A : Type 0} (named : SignFault) {Cause : Type 0} {Rest : Result A S
     → (Cause → ⊥) → Rest answer → Unless (Of named Cause) Rest answer
 is_absent named absent rest = goes_on (λ fault cause. absent cause.1) rest
 
--- a test whose cause it decides
+-- a test that decides its cause
 by_test : {A : Type 0} (named : SignFault) {Cause : Type 0} {Rest : Result A SignFault → Type 0} (test : Bool) (state : State) (rest : Outcome A)
     → (test ≡ true → Cause) → (Cause → test ≡ true) → (test ≡ false → Rest rest.answer)
     → Unless (Of named Cause) Rest (if test then refused state named else rest).answer
 by_test named true state rest there back more = is_there named (there refl) refl
 by_test named false state rest there back more = is_absent named (λ cause. absurd (true≢false (sym (back cause)))) (more refl)
 
--- one that is negated
+-- a negated test
 by_not : {A : Type 0} (named : SignFault) {Rest : Result A SignFault → Type 0} (test : Bool) (state : State) (rest : Outcome A)
     → (test ≡ true → Rest rest.answer) → Unless (Of named (test ≡ false)) Rest (if not test then refused state named else rest).answer
 by_not named true state rest more = is_absent named (λ is. absurd (true≢false is)) (more refl)
@@ -140,14 +140,14 @@ by_repeat state key k bound chance (Some message) is =
     (λ unchanged. by_not OutOfMemory chance.has_room state sound
     (λ room. by_damage damaged (repeated_sound state key k bound) (λ slot. refl) refl)))
 
--- ---- the wanted records
+-- ---- the new records
 
--- which I are known: those of the records
+-- the known I are the records'
 record Knows (records : List Record) (IsKnown : List ℕ → Type 0) : Type 0 where
   forth : (identifier : List ℕ) → has_identifier records identifier ≡ true → IsKnown identifier
   back : (identifier : List ℕ) → IsKnown identifier → has_identifier records identifier ≡ true
 
--- and that of one record more
+-- and one more record's
 knows_more : (records : List Record) (IsKnown : List ℕ → Type 0) (fields : List (List ℕ)) (identifier : List ℕ) (entry : Record)
     → BeginsWith fields identifier → identifier_of entry ≡ Some identifier → Knows records IsKnown
     → Knows (records ++ entry ∷ []) (λ i. IsKnown i ⊎ BeginsWith fields i)

@@ -1,4 +1,4 @@
--- What a call keeps where it is refused.
+-- What a refused call leaves as it was.
 use Rattle.std.proofs.Common.{◌≡◌, ◌∙◌, ℕ, Bool, true, false, List, Option, Result, Ok, Err, refl, sym, ap, subst, arith, true≢false}
 use Rattle.typecodes.specs.declared.message.Message as message
 use Rattle.state_file.specs.declared.store.Store as store
@@ -12,7 +12,7 @@ use Rattle.sign_core.specs.inner.Signing.{Does}
 use Rattle.sign_core.specs.Signing.{answered_with}
 use Rattle.sign_core.specs.World.{Outcome}
 
--- A refusal for want of memory that the store counts is none of a new tree.
+-- A 29 that the store counts isn't for a new tree's cache.
 pub counted : {S R A : Type 0} (g : store.Ghosts S) (wanted : ℕ) (old new : View S R) (answer : Result A SignFault)
     → Counts is_out_of_memory (g.refusals old.store) (g.refusals new.store) answer → LacksTree g wanted old new answer
 counted {A = A} g wanted old new answer counts is same =
@@ -45,7 +45,7 @@ pub after_caches : {A : Type 0} (answer : Result A SignFault) → is_fault is_be
 after_caches (Ok value) not_before = refl
 after_caches (Err e) not_before = is_after e not_before
 
--- What comes before caches of a new name does so of a bound one.
+-- What comes before the caches of a new name comes before a bound name's, too.
 is_bound_early : (e : SignFault) → is_before_caches e ≡ true → is_before_repeat e ≡ true
 is_bound_early Changed early = refl
 is_bound_early MessageRead early = refl
@@ -71,18 +71,18 @@ pub before_repeat : {A : Type 0} (answer : Result A SignFault) → is_fault is_b
 before_repeat (Ok value) early = early
 before_repeat (Err e) early = is_bound_early e early
 
--- the kind of a fault is that of an answer with a value
+-- `answered_with` keeps the kind of a fault
 pub same_kind : {A B : Type 0} (is_kind : SignFault → Bool) (answer : Result A SignFault) (value : B)
     → is_fault is_kind (answered_with answer value) ≡ is_fault is_kind answer
 same_kind is_kind (Ok a) value = refl
 same_kind is_kind (Err e) value = refl
 
--- An answer of no such kind isn't of it.
+-- No fault is both of a kind and not of it.
 pub never_such : {A : Type 0} {X : Type 0} (is_kind : SignFault → Bool) (answer : Result A SignFault) (e : SignFault) → answer ≡ Err e → is_kind e ≡ false
     → is_fault is_kind answer ≡ true → X
 never_such is_kind answer e is no_such such = absurd (true≢false (sym such ∙ ap (is_fault is_kind) is ∙ no_such))
 
--- A call that keeps all, with any answer but 29 after draws.
+-- A call that leaves all as it was, with any answer but 29 after draws.
 pub keeps_at_all : {S R A : Type 0} (g : store.Ghosts S) (has_room : Bool) (wanted : ℕ) (old new : View S R) (answer : Result A SignFault) → KeepsAll old new
     → (is_fault is_before_caches answer ≡ true → new.cached ≡ old.cached) → (has_room ≡ true → answer ≡ Err OutOfMemory → ⊥) → KeepsAtRefusal g has_room wanted old new answer
 keeps_at_all g has_room wanted old new answer keeps caches other = record {
@@ -96,7 +96,7 @@ keeps_at_all g has_room wanted old new answer keeps caches other = record {
 pub same_view : {S R : Type 0} (v : View S R) → KeepsAll v v
 same_view v = record { store = refl; random = refl; records = refl; is_open = refl }
 
--- A call that comes to draw.
+-- A call that has drawn.
 pub keeps_after_draws : {S R M A : Type 0} (g : store.Ghosts S) (r : source.Ghosts R) (m : message.Ghosts M) (wanted : ℕ) (old new : View S R) (before after : M)
     (given : Option (List ℕ)) (outcome : Outcome A) (answer : Result A SignFault) → is_fault is_before_draws answer ≡ false
     → LacksTree g wanted old new answer → Does g r m old new before after given outcome answer → KeepsAtRefusal g true wanted old new answer

@@ -27,7 +27,7 @@ abbrev pub chance_with : Chance → List Draw → Chance
 chance_with chance draws =
     record { has_room = chance.has_room; trees = draws; bound = chance.bound; given = chance.given }
 
--- So many trees were begun after these records, and this was drawn for them and for the next record.
+-- `begun` trees came after these records, and this was drawn for them and for the next record.
 pub record DrawsWanted (before : List Record) (below : ℕ) (chance : Chance) (outcome : Outcome (List ℕ)) : Type 0 where
   pub begun : ℕ
   pub longer : length outcome.acknowledged ≡ length before + begun
@@ -66,7 +66,7 @@ bound_refuses key name chance draws records refusal other =
 -- ---- a tree
 
 module _ (below : ℕ) (records : List Record) (chance : Chance) (draw : Draw) (draws : List Draw) where
-  -- It isn't begun, though so much was drawn for it.
+  -- It isn't begun, though its fields were drawn.
   begun_none : (outcome : Outcome (List ℕ)) → outcome.acknowledged ≡ records → outcome.drawn ≡ concat draw.fields ++ []
       → DrawsWanted records (suc below) (chance_with chance (draw ∷ draws)) outcome
   begun_none outcome all is = record {
@@ -174,7 +174,7 @@ undrawn_refuses below records chance key level None next refusal other =
 undrawn_refuses below records chance key level (Some trees) next refusal other =
     record { begun = 0; longer = omega arith; are_drawn = inl (omega arith, refl) }
 
--- ---- all that is wanted
+-- ---- all new records
 
 -- a key with levels below the top has trees
 has_trees : (secret : Secret) → 0 < bottom_of secret → trees_of secret ≡ None → ⊥

@@ -1,4 +1,4 @@
--- What each end of a repeat is: a step of the world, on a name that is bound.
+-- Each end of a repeat is a step of the world, on a bound name.
 use Rattle.std.proofs.Common.{◌≡◌, ◌∙◌, refl, sym, ap, ap₂, subst, inl, inr, ℕ, ◌<◌, Bool, true, false, List, [], ◌∷◌, ◌++◌}
 use Rattle.std.proofs.Common.{Option, Some, None, Result, Ok, Err, MatchResult, IfErr, OnOk, IsErrAnd, true≢false, ◌^◌}
 use Rattle.std.specs.Prelude.{not, option_map, slice_get, if◌then◌else◌}
@@ -39,7 +39,7 @@ use Rattle.sign_core.proofs.ChainParts.{bound_tree, leaf_digest, key_chain, xmss
 
 -- ---- what is kept of a name
 
--- A name's binding, with the record that it is kept of.
+-- A name's binding, with its record.
 pub record IsFound (key : Key) (records : List Record) (name : List ℕ) (binding : Binding) : Type 0 where
   pub place : ℕ
   pub bound : Bound
@@ -122,7 +122,7 @@ module _ {S R M : Type 0} (m : message.Ghosts M) (view : View S R) (before after
     room = λ k bound at none. inl lacking;
   }
 
-  -- the cache of a current tree isn't there that stood before the name
+  -- the cache of a current tree is missing that stood before the binding
   pub lacks_cache : {cached : Cached} (text digest : List ℕ) → ReadWhole m.transition m.remaining text before after → IsDigest text digest
       → not (are_same digest binding.digest) ≡ false
       → LacksCache key view.records (Some (bottom_of key.secret)) binding.place cached
@@ -165,7 +165,7 @@ module _ {S R M : Type 0} (m : message.Ghosts M) (view : View S R) (before after
     room = λ k bound at lacking. absurd (true≢false lacking);
   }
 
--- bytes that compare as the recorded digest are the binding's
+-- a digest equal to the recorded one is the binding's
 pub recorded_digest : (key : Key) (records : List Record) (name : List ℕ) (binding : Binding) (found : IsFound key records name binding) (digest : List ℕ)
     → not (are_same digest binding.digest) ≡ false → digest ≡ found.bound.digest
 recorded_digest key records name binding found digest same =
@@ -180,7 +180,7 @@ same_size own key capacity is = subst (λ (k : Key). capacity < signature_size k
 
 -- ---- what answers a place as a fault
 
--- the fault that is answered is that of a place
+-- the fault is `Damaged` of a place with P
 pub fault_of : {A : Type 0} (linked : Result A ℕ) (mapped : Result A SignFault) (fault : SignFault) (P : ℕ → Type 0)
     → MatchResult linked (λ x. mapped ≡ Ok x) (λ k. IsErrAnd mapped (λ e. e ≡ Damaged k)) → mapped ≡ Err fault → IfErr linked P
     → (k : ℕ) × (fault ≡ Damaged k) × P k
@@ -196,7 +196,7 @@ damaged_after_caches (Err k) mapped fault answer cases was is early =
     let of_place : fault ≡ Damaged k = subst (λ r. IsErrAnd r (λ e. e ≡ Damaged k)) was cases in
     never_such is_before_repeat answer (Damaged k) (is ∙ ap Err of_place) refl early
 
--- where none is answered, there was none
+-- an Ok was an Ok before its faults were mapped
 pub linked_ok : {A : Type 0} (linked : Result A ℕ) (mapped : Result A SignFault) (x : A) (P : Type 0)
     → MatchResult linked (λ y. mapped ≡ Ok y) (λ k. IsErrAnd mapped (λ e. e ≡ Damaged k)) → mapped ≡ Ok x → OnOk linked P → P
 linked_ok (Ok y) mapped x P cases was is = is
@@ -220,7 +220,7 @@ bound_xmss_leaf key records name binding secret legal keyed of_key kept =
     subst (λ (b : Binding). b.leaf < 2 ^ xmss_height_of secret.tree) found.is
     (xmss_leaf_inside records key secret found.place found.bound legal keyed of_key found.stands)
 
--- the chain by the whole of the records
+-- the key's chain, by all records
 xmss_chain : (records : List Record) (key : Key) (secret : XmssSecret) (k : ℕ) (P : Option ℕ → Type 0) → key_in records ≡ Some key → IsXmssKey secret key
     → ((rest : List Record) → P (damaged_in key 0 (KeyRecord key ∷ rest) 0))
     → P (damaged_in key (bottom_of key.secret) records (tree_before (bottom_of key.secret) records k))
@@ -244,7 +244,7 @@ module _ {S R M : Type 0} (m : message.Ghosts M) (view : View S R) (before after
       subst (λ f. Repeats m (state_of view) cached before after capacity (Err f) key name) (sym of_place)
       (damaged m view before after capacity key name binding found text digest k whole is same at)
 
-  -- the recorded signature, in the room that was made for it
+  -- the recorded signature, in its room
   pub signed_xmss : {A : Type 0} {cached : Cached} (text digest bytes into : List ℕ) (linked : Result A ℕ) (mapped : Result A SignFault) (x : A)
       → ReadWhole m.transition m.remaining text before after → key_in view.records ≡ Some key → IsXmssKey secret key
       → digest_at key view.records found.place found.bound.leaf found.bound.randomizer text ≡ digest
@@ -285,7 +285,7 @@ chain_read key records ledger name binding found trees text digest keyed these s
     ∙ ap (λ (b : Binding). message_digest_of (secret_at trees records b.tree).identifier b.leaf b.randomizer text) found.is
     ∙ ap (λ l. message_digest_of (secret_at trees l binding.tree).identifier binding.leaf binding.randomizer text) (sym same) ∙ sym is
 
--- what new links sign with
+-- the signings of new links
 pub links_signs : {A : Type 0} (linked : Result A ℕ) (mapped : Result A SignFault) (x : A) (links above old : List Link) (link : Link) (rest : List Signing)
     → MatchResult linked (λ y. mapped ≡ Ok y) (λ k. IsErrAnd mapped (λ e. e ≡ Damaged k)) → mapped ≡ Ok x
     → OnOk linked (signings_of above ≡ signings_of old ++ rest) → links ≡ above ++ link ∷ [] → old ≡ []
@@ -294,14 +294,13 @@ links_signs linked mapped x links above old link rest cases was signs same none 
     ap signings_of same ∙ map-append signing_of_link above (link ∷ [])
     ∙ ap (λ l. l ++ signing_of_link link ∷ []) (linked_ok linked mapped x _ cases was signs ∙ ap (λ l. signings_of l ++ rest) none)
 
--- no links are made
 pub none_made : AreMade []
 none_made i link at = absurd (cc)
 
 module _ {S R M : Type 0} (m : message.Ghosts M) (view : View S R) (before after : M) (capacity : ℕ) (key : Key) (name : List ℕ) (binding : Binding)
     (found : IsFound key view.records name binding) (own : Key) (ledger : List Record) (level : ℕ) (own_is : own ≡ key) (same_records : ledger ≡ view.records)
     (level_is : level ≡ bottom_of own.secret) where
-  -- the tree that is kept is the one before the binding
+  -- the binding's tree is the one that was current before it
   chain_same : damaged_in own level ledger binding.tree
       ≡ damaged_in key (bottom_of key.secret) view.records (tree_before (bottom_of key.secret) view.records found.place)
   chain_same =
@@ -322,7 +321,7 @@ module _ {S R M : Type 0} (m : message.Ghosts M) (view : View S R) (before after
       subst (λ f. Repeats m (state_of view) cached before after capacity (Err f) key name) (sym of_place)
       (damaged m view before after capacity key name binding found text digest k whole is same (sym chain_same ∙ at))
 
-  -- the recorded signature, in the room that was made for it
+  -- the recorded signature, in its room
   pub signed_chain : {A : Type 0} {cached : Cached} (trees : Trees) (text digest bytes into : List ℕ) (linked : Result A ℕ) (mapped : Result A SignFault) (x : A) (links : List Link)
       → ReadWhole m.transition m.remaining text before after
       → digest_at key view.records found.place found.bound.leaf found.bound.randomizer text ≡ digest

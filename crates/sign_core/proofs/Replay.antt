@@ -22,7 +22,7 @@ use Rattle.sign_core.proofs.Lists.{take_with_next}
 
 -- ---- the first illegal record
 
--- the first illegal record of a beginning stays it
+-- the first illegal record of a beginning is the first of the whole list
 pub first_illegal_longer : (records more : List Record) (k : ℕ) → first_illegal records ≡ Some k → first_illegal (records ++ more) ≡ Some k
 first_illegal_longer records more k is =
     illegal_append (records ++ more) 0 records more

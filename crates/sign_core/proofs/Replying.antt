@@ -38,7 +38,7 @@ first_part a b all old new e result answer whole first =
     part_so FrameCut never = absurd never
     part_so MessageRead never = absurd never
 
--- all of it was written, and passing it on fails
+-- all of it was written, and the flush fails
 pub whole_part : (bytes : List ℕ) (old middle new : Option (List ℕ)) → Appends old middle bytes → Keeps middle new → WritesReply bytes old new (Err WriteFailed)
 whole_part bytes old middle new written kept = (bytes, [], sym (append-nil bytes), Appends-kept old middle new bytes written kept)
 

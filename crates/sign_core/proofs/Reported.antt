@@ -49,7 +49,7 @@ reported_repeated state key k bound chance (Some message) =
     (λ same. kept_choice P (not chance.has_room) _ _ (λ none. reported_given message (refused state OutOfMemory) (λ is. cc))
     (λ room. reported_repeat state key k bound message damaged))
 
--- ---- the wanted records
+-- ---- the new records
 
 reported_append : (given : Option (List ℕ)) (state : State) (entry : Record) (fate : Fate) (next : List Record → Outcome (List ℕ))
     → ((all : List Record) → IsReported given (next all)) → IsReported given (appended state entry fate next)

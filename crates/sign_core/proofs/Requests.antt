@@ -70,7 +70,7 @@ free_anew secret records level tree inside is none =
 
 -- ---- a request under way
 
--- So many levels are still to get a new tree, and the level above them has a free leaf.
+-- `below` levels still need a new tree, and the level above them has a free leaf.
 pub record IsReady (key : Key) (name : List ℕ) (below : ℕ) (records : List Record) (handed : List Handed) : Type 0 where
   pub kept : IsKept records handed
   pub keyed : key_in records ≡ Some key
@@ -106,7 +106,7 @@ extend_can key records extend stays low inside free new =
 same_bytes : (bytes : List ℕ) → are_same bytes bytes ≡ true
 same_bytes bytes = (bytes_decides bytes bytes).1 refl
 
--- what is made is sound
+-- the new Extend is sound
 pub extend_sound : (trees : Trees) (records : List Record) (level leaf : ℕ) (identifier seed randomizer : List ℕ)
     → (let secret = lms_secret (slice_index_or trees.pairs level trees.top.pair) identifier seed in
     is_sound_extend (Some trees) records (length records) (extend_of trees records level secret randomizer leaf) ≡ true)
@@ -236,7 +236,7 @@ kept_bound key name (Some message) records handed (Some randomizer) fate ready d
     } in
     kept_append (open_on records) handed name (Some message) entry fate _ ready.kept more (kept_handed all handed x more is)
 
--- ---- all wanted records
+-- ---- all new records
 
 pub first_drawn : (draws : List Draw) → AllByRecursion IsTreeDraw draws → IsTreeDraw (first_draw draws)
 first_drawn [] all = tt

@@ -1,4 +1,4 @@
--- What each end of a call of retire is: a step of the world.
+-- Each end of a call of retire is a step of the world.
 use Rattle.std.proofs.Common.{◌≡◌, ℕ, ◌+◌, ◌<◌, ◌≤◌, Bool, true, false, List, [], ◌++◌, length, Some, None, Result, Err, refl, sym, ap, ◌∙◌}
 use Rattle.std.proofs.Common.{arith, true≢false, append-nil}
 use Rattle.std.specs.Prelude.{take, nat_le, nat_lt, not, if◌then◌else◌}
@@ -23,7 +23,7 @@ use Rattle.sign_core.specs.World.{Fate, Outcome, State, acked, answered, refused
 use Rattle.sign_core.specs.inner.Cases.{retired_under}
 use Rattle.sign_core.proofs.Adding.{LeavesItsList}
 
--- a retiring, by what hinders it
+-- a retiring, by what refuses it
 abbrev judged : State → (upto : ℕ) → Fate → (closed moved range done full : Bool) → Outcome (Unit {0})
 judged state upto fate closed moved range done full =
     if closed then refused state Stopped
@@ -70,7 +70,7 @@ done_step limit state upto fate key keyed opened stays inside before =
 
 -- ---- ends
 
--- what a stop before the first write leaves
+-- what a crash before the first write leaves
 pub beginning_kept : (records left all : List Record) → left ≡ records → all ≡ records ++ [] → IsBeginning (length records) all left
 beginning_kept records left all is kept = record {
   count = length records;
@@ -114,7 +114,7 @@ left_retires g v upto answer signer only step failures refusals = record {
   stays = λ _ _. refl;
 }
 
--- a call that is hindered at once
+-- a call that is refused at once
 pub hindered_retires : {S R : Type 0} (g : store.Ghosts S) (v : View S R) (upto : ℕ) (key : Key) (fault : SignFault) → IsSigner g v
     → LeavesItsList g v.store
     → key_in v.records ≡ Some key → Hinders v.is_open (has_moved v.records) fault → Retires g v v upto (Err fault)

@@ -1,4 +1,4 @@
--- The calls of a signer over an honest store are calls of the world's.
+-- A signer's calls over an honest store are calls of the world.
 use Rattle.std.proofs.Common.{◌≡◌, ◌∙◌, refl, sym, ap, subst, ℕ, inl, inr, Bool, true, false, List, [], ◌∷◌, ◌++◌, length, take, Option, Some, None}
 use Rattle.std.proofs.Common.{Result, Ok, Err, append-nil, arith, true≢false}
 use Rattle.std.specs.Prelude.{IsSome, IsTrue, if◌then◌else◌, nat_le, nat_lt, not}
@@ -44,11 +44,10 @@ use Rattle.sign_core.proofs.DrawnAgain.{signed_read}
 use Rattle.sign_core.proofs.OnceParts.{closed_retires, closed_under}
 use Rattle.state_file.specs.declared.record.Version.{Version}
 
--- a state is its parts
 state_is : {S R : Type 0} (new : View S R) (state : State) → state.records ≡ new.records → state.is_open ≡ new.is_open → state ≡ state_of new
 state_is new state records is_open = λ i. record { records = records i; is_open = is_open i }
 
--- an outcome's state and acknowledged records are those of the call
+-- an outcome's state and acknowledged records are the call's
 is_after : {S R A : Type 0} (new : View S R) (left : World) (mine outcome : Outcome A) → mine ≡ outcome → left.state ≡ mine.state
     → (left.state.is_open ≡ true → mine.acknowledged ≡ left.state.records) → new.records ≡ outcome.acknowledged → new.is_open ≡ outcome.state.is_open
     → IsAfter new left
@@ -194,7 +193,7 @@ refuses_to_retire g old new upto answer world closed retires =
 
 -- ---- creates and openings
 
--- An outcome is open where it answers Ok, and only there.
+-- An outcome is open exactly if it answers Ok.
 abbrev OpenBy : {A : Type 0} → Outcome A → Type 0
 OpenBy outcome = ((a : _) → outcome.answer ≡ Ok a → outcome.state.is_open ≡ true)
     × ((fault : SignFault) → outcome.answer ≡ Err fault → outcome.state.is_open ≡ false)
@@ -467,7 +466,7 @@ refuses_to_open g kept_in random result world stopped opens =
 
 -- ---- calls that last
 
--- what a stop leaves of a store that runs
+-- a crash leaves a running store's list, and nothing else
 abbrev pub NothingElse : {S : Type 0} → store.Ghosts S → Type 0
 NothingElse {S = S} g = (kept_in : S) → LeavesItsList g kept_in
 

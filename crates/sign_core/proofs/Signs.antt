@@ -1,4 +1,4 @@
--- What each end of a call of sign is: a step of the world.
+-- Each end of a call of sign is a step of the world.
 use Rattle.std.proofs.Common.{◌≡◌, ◌∙◌, ℕ, ◌+◌, ◌-◌, ◌<◌, ◌≤◌, Bool, true, false, not, List, [], ◌++◌, length, Option, Some, None, Result, Ok, Err, refl}
 use Rattle.std.proofs.Common.{sym, ap, ap₂, subst, inl, arith, true≢false, append-nil}
 use Rattle.std.specs.Prelude.{take, nat_lt, if◌then◌else◌, option_map, MatchResult, IsErrAnd}
@@ -37,7 +37,7 @@ use Rattle.sign_core.specs.Textbook.{damaged_in, digest_at, tree_before}
 use Rattle.sign_core.proofs.Adding.{LeavesItsList}
 use Rattle.sign_core.proofs.Refusals.{after_caches, before_repeat, keeps_at_all, keeps_after_draws, same_view}
 
--- ---- requests, by what hinders them
+-- ---- requests, by what refuses them
 
 request_by : (limit : ℕ) → State → Key → (name : List ℕ) → Chance → (closed moved : Bool) → Option (ℕ × Bound) → Outcome (List ℕ)
 request_by limit state key name chance closed moved found =
@@ -58,7 +58,7 @@ anew state key name chance level full lacking =
     else bound_sound state key name chance level
     (damaged_in key level state.records (tree_before level state.records (length state.records))))
 
--- a name that isn't bound, of which this level is the deepest with a free leaf
+-- a new name, where this level is the deepest with a free leaf
 anew_is : (limit : ℕ) (state : State) (key : Key) (name : List ℕ) (chance : Chance) (level : ℕ) (full lacking : Bool) → key_in state.records ≡ Some key
     → state.is_open ≡ true → has_moved state.records ≡ false → binding_in state.records name ≡ None → is_long key name ≡ false
     → deepest key.secret state.records ≡ Some level → nat_lt limit (length state.records + wanted_count key.secret level) ≡ full → not chance.has_room ≡ lacking
@@ -77,7 +77,7 @@ abbrev pub kept : State → Result (List ℕ) SignFault → (is_read : Bool) →
 kept state answer is_read =
     record { state = state; answer = answer; acknowledged = state.records; failed = None; drawn = []; is_read = is_read }
 
--- a refusal for want of memory before draws is the signer's own, or its store's
+-- a 29 before draws is the signer's own, or its store's
 abbrev pub CountsEarly : (has_room : Bool) → Result (List ℕ) SignFault → (before after : ℕ) → Type 0
 CountsEarly true answer before after = Counts is_out_of_memory before after answer
 CountsEarly false answer before after = after ≡ before
@@ -160,7 +160,6 @@ some_mapped : {A B : Type 0} (f : A → B) (found : Option A) (b : B) → option
 some_mapped f None b is = absurd (none-some _ is)
 some_mapped f (Some a) b is = (a, refl)
 
--- what isn't some value is none
 pub is_none : {A : Type 0} (found : Option A) → ((x : A) → found ≡ Some x → ⊥) → found ≡ None
 is_none None other = refl
 is_none (Some x) other = absurd (other x refl)
@@ -170,7 +169,7 @@ none_mapped f None is = refl
 none_mapped f (Some a) is = absurd (cc)
 
 module _ {S R M : Type 0} (g : store.Ghosts S) (r : source.Ghosts R) (m : message.Ghosts M) where
-  -- a call that leaves all but how much memory there is
+  -- a call that leaves all but memory and caches
   pub left_signs : (old new : View S R) (name : List ℕ) (before after : M) (capacity : ℕ) (key : Key) (answer : Result (List ℕ) SignFault)
       (has_room is_read : Bool) (given : Option (List ℕ)) → KeepsAll old new
       → (is_fault is_before_caches answer ≡ true → new.cached ≡ old.cached) → old.spare ≤ new.spare → IsSigner g old → LeavesItsList g old.store → key_in old.records ≡ Some key
@@ -208,7 +207,7 @@ module _ {S R M : Type 0} (g : store.Ghosts S) (r : source.Ghosts R) (m : messag
     message = read;
   }
 
-  -- a call that is hindered at once
+  -- a call that is refused at once
   pub hindered_signs : (v : View S R) (name : List ℕ) (before : M) (capacity : ℕ) (key : Key) (fault : SignFault) → IsSigner g v → LeavesItsList g v.store
       → key_in v.records ≡ Some key → Hinders v.is_open (has_moved v.records) fault → Signs g r m v v name before before capacity (Err fault)
   unfolding request_by
@@ -346,7 +345,7 @@ module _ {S R M : Type 0} (g : store.Ghosts S) (r : source.Ghosts R) (m : messag
     cached = mid.cached;
   }
 
-  -- what is kept of a signer with other memory is kept of it
+  -- `KeepsAll` doesn't depend on the old memory and caches
   kept_of_other : (old new : View S R) (spare : ℕ) (cached : Cached)
       → KeepsAll (record { store = old.store; random = old.random; records = old.records; is_open = old.is_open; spare = spare; cached = cached }) new → KeepsAll old new
   kept_of_other old new spare cached keeps =
@@ -427,7 +426,7 @@ module _ {S R M : Type 0} (g : store.Ghosts S) (r : source.Ghosts R) (m : messag
     not_before_caches = refl;
   }
 
-  -- the standing chain is sound, and what is wanted from there is made
+  -- the standing chain is sound, and the records below it are made
   pub fulfils_binds : (old new : View S R) (name : List ℕ) (before after : M) (level : ℕ) (key : Key) (answer : Result (List ℕ) SignFault)
       → damaged_in key level old.records (tree_before level old.records (length old.records)) ≡ None
       → Fulfils g r m name (bottom_of key.secret - level) old new before after answer key → old.is_open ≡ true → level < levels_of key.secret
@@ -451,7 +450,7 @@ value_or : {A E : Type 0} → A → Result A E → A
 value_or other (Ok x) = x
 value_or other (Err fault) = other
 
--- the deepest level with a free leaf, by records that are the same
+-- the deepest level with a free leaf, along equal records
 pub deepest_after : (records other : List Record) (key own : Key) (level : ℕ) → other ≡ records → key_in records ≡ Some key → key_in other ≡ Some own
     → deepest key.secret records ≡ Some level → deepest own.secret other ≡ Some level
 deepest_after records other key own level same keyed is at =
@@ -472,7 +471,7 @@ can_bind most v mid name level size capacity room x keeps unbound fits prepares 
       room = λ own is. same ∙ made.does.1 ∙ ap (λ k. signature_size k.secret) (same_Some key own (sym keyed ∙ is));
     }
 
--- a value that passed through a change of faults
+-- an Ok was an Ok before its faults were mapped
 pub linked_value : {A : Type 0} (linked : Result A ℕ) (mapped : Result A SignFault) (x : A)
     → MatchResult linked (λ y. mapped ≡ Ok y) (λ k. IsErrAnd mapped (λ e. e ≡ Damaged k)) → mapped ≡ Ok x → linked ≡ Ok x
 unfolding value_or

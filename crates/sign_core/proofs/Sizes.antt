@@ -97,7 +97,7 @@ secret_sizes (XmssSpec tree) (a ∷ b ∷ c ∷ d ∷ rest) secret can are is = 
 abbrev HasPublic : Secret → Type 0
 HasPublic secret = (public : AnyPublic) × (public_by secret (root_by secret) ≡ Some public)
 
--- what is made by a spec has a public key
+-- a secret from a spec has a public key
 pub spec_public : (spec : Spec) (fields : List (List ℕ)) (secret : Secret) → IsSpec spec → secret_from spec fields ≡ Some secret
     → (public : AnyPublic) × (public_by secret (root_by secret) ≡ Some public)
 spec_public (LmsSpec pair) [] secret can is = absurd (cc)

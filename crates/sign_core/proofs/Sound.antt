@@ -22,7 +22,7 @@ none_handed records whole = record {
   recorded = λ x (k, within, at). absurd (omega arith);
 }
 
--- records that grew from those of a key are some
+-- records that begin with a key's aren't empty
 some_left : (records more left : List Record) (key : Key) → key_in records ≡ Some key → lasting left ≡ lasting records ++ more → left ≡ [] → ⊥
 some_left [] more left key keyed grown empty = cc
 some_left (KeyRecord own ∷ records) more left key keyed grown empty = let none = sym (ap lasting empty) ∙ grown in cc

@@ -1,4 +1,4 @@
--- The chain of trees under which a new name signs stands, over any legal records: each tree that is begun for it is sound.
+-- Over any legal records, the chain by which a new name signs stands: each tree begun for it is sound.
 use Rattle.std.proofs.Common.{◌≡◌, ◌∙◌, refl, sym, ap, subst, ℕ, zero, suc, ◌-◌, ◌<◌, inl, inr, Bool, true, false, List, [], ◌∷◌, ◌++◌}
 use Rattle.std.proofs.Common.{length, find, cond, Option, Some, None, arith}
 use Rattle.std.specs.Prelude.{not, slice_index_or, unwrap_or}
@@ -23,7 +23,7 @@ use Rattle.sign_core.proofs.Requests.{bound_can, extend_can, extend_of, extend_s
 use Rattle.sign_core.proofs.Sizes.{digest_size, key_has_sizes}
 use Rattle.sign_core.proofs.Stays.{before_stays, digest_stays, key_stays, last_is, old_or_new, record_stays, some_keyed, sound_stays, tree_low}
 
--- The records are those of the key, legal, and their parts have their sizes.
+-- The key's records are legal, and their parts have their sizes.
 pub record AreOf (key : Key) (records : List Record) : Type 0 where
   pub legal : IsLegal records
   pub sizes : AllHaveSizes records
@@ -75,7 +75,7 @@ chain_at_end key level records entry some sound =
 
 -- ---- a request under way
 
--- So many levels are still to get a new tree; the level above them has a free leaf, and its chain of trees is sound.
+-- `below` levels still need a new tree; the level above them has a free leaf, and its chain of trees is sound.
 pub record IsStanding (key : Key) (name : List ℕ) (below : ℕ) (records : List Record) : Type 0 where
   pub are : AreOf key records
   pub stays : has_moved records ≡ false

@@ -1,4 +1,4 @@
--- A chain of trees that stands: how many levels it has, and what it is after an Extend more.
+-- A standing chain of trees: how many levels it has, and the chain after one more Extend.
 use Rattle.std.proofs.Common.{◌≡◌, ◌∙◌, ℕ, suc, ◌+◌, ◌-◌, ◌<◌, ◌≤◌, true, false, List, [], ◌∷◌, ◌++◌, length, map, take, Some, sym, ap, subst, arith, add-one}
 use Rattle.std.specs.Prelude.{◌&&◌, is_some, nat_le, nat_lt, not, slice_get, slice_index_or, unwrap_or}
 use Rattle.std.proofs.Math.Seq.{take-length}
@@ -115,7 +115,7 @@ can_extend key trees records above last extend keyed stays stands level few leaf
 
 -- ---- one level more
 
--- what the trees sign, with the new tree's
+-- the signings of the trees, with the new tree's
 signings_grown : (trees : Trees) (records : List Record) (level tree : ℕ) (extend : Extend) (above : List Link) (last : Link) → current level records ≡ Some tree
     → tree < length records → signings_of above ≡ signings_above trees level records tree → last.tree.secret ≡ secret_at trees records tree
     → extend.parent_leaf ≡ last.tree.leaf → extend.randomizer ≡ last.randomizer → extend.digest ≡ last.digest

@@ -1,4 +1,4 @@
--- What a list of records says stays so when more records come after it.
+-- What records determine stays when more records follow.
 use Rattle.std.proofs.Common.{◌≡◌, ◌∙◌, refl, sym, ap, ap₂, ℕ, zero, suc, ◌+◌, ◌-◌, ◌<◌, ◌≤◌, ◌⊎◌, inl, inr, Bool, true, false, List, [], ◌∷◌, ◌++◌}
 use Rattle.std.proofs.Common.{length, take, Option, Some, None, arith}
 use Rattle.std.specs.Prelude.{◌&&◌, if◌then◌else◌, slice_get, unwrap_or}
@@ -25,7 +25,7 @@ use Rattle.sign_core.specs.Textbook.{signature_at, signature_by, signing_by, sig
 
 -- ---- places
 
--- a place of a list with one more is one of the list, or the last
+-- an item of a list with one more is an old one, or the last
 pub old_or_new : {A : Type 0} (xs : List A) (new : A) (k : ℕ) (x : A) → slice_get (xs ++ new ∷ []) k ≡ Some x → (slice_get xs k ≡ Some x) ⊎ (new ≡ x)
 old_or_new [] new zero x is = inr (cc)
 old_or_new [] new (suc k) x is = absurd (cc)
@@ -193,7 +193,6 @@ key_stays (BoundRecord bound ∷ rest) ys key is = absurd (cc)
 key_stays (Retire upto ∷ rest) ys key is = absurd (cc)
 key_stays (Moved ∷ rest) ys key is = absurd (cc)
 
--- where there is a key, there is a record
 pub some_keyed : (records : List Record) (key : Key) → key_in records ≡ Some key → 0 < length records
 some_keyed [] key is = absurd (cc)
 some_keyed (first ∷ rest) key is = omega arith

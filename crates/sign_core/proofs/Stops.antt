@@ -1,4 +1,4 @@
--- What a stop at any moment of an event leaves, is what an event leaves whose append is cut off there.
+-- What a crash at any moment of an event leaves, an event leaves whose append is cut there.
 use Rattle.std.proofs.Common.{◌≡◌, ◌∙◌, refl, sym, ap, subst, ℕ, zero, suc, ◌+◌, ◌-◌, ◌≤◌, ◌⊎◌, inl, inr, Bool}
 use Rattle.std.proofs.Common.{true, false, List, [], ◌∷◌, ◌++◌, length, Option, Some, None, Result, Ok, Err, append_assoc, append-nil, arith}
 use Rattle.std.specs.Prelude.{if◌then◌else◌, nat_le, nat_lt, not, take}
@@ -29,15 +29,15 @@ use Rattle.sign_core.specs.Cuts.{IsBeginning, IsLeftBy, StopLaw, reached}
 use Rattle.sign_core.specs.Events.{IsTreeDraw}
 use Rattle.sign_core.specs.World.{World, create, handed_with, request, requested, retire, retired, stop}
 
--- the append was cut off, and left these records
+-- the append was cut, and left these records
 abbrev pub IsCutAt : {A : Type 0} → Outcome A → (left : List Record) → Type 0
 IsCutAt outcome left = (outcome.state ≡ closed_on left) × (outcome.answer ≡ Err StoreFailed)
 
--- one of these outcomes was cut off and left these records, whatever the draws of trees that it doesn't use
+-- one of these outcomes was cut and left these records, whatever the draws of trees that it doesn't use
 abbrev pub OneCut : {A I : Type 0} → (outcomes : I → List Draw → Outcome A) → (left : List Record) → Type 0
 OneCut {I = I} outcomes left = (i : I) × ((unused : List Draw) → IsCutAt (outcomes i unused) left)
 
--- The outcome reaches the records and more, and each beginning that is longer than the records is left by another.
+-- The outcome reaches the records and more, and another one leaves each beginning that is longer than the records.
 pub record Stops {A : Type 0} (records : List Record) (outcome : Outcome A) (ways : List Record → Type 0) : Type 0 where
   pub more : List Record
   pub reaches : reached outcome ≡ records ++ more
@@ -84,7 +84,7 @@ longer records entry more ways later ended leads each (x ∷ first) rest are =
       | inr way ↦ subst (λ e. ways (records ++ e ∷ first)) same (subst ways (append_assoc records (entry ∷ []) first) (leads _ way))
     ])
 
--- an append with another fate was cut off, or what comes after it
+-- an append with another fate was cut, or what comes after it
 abbrev Appended : {A I : Type 0} → I → State → Record → (I → List Draw → List Record → Outcome A) → List Record → Type 0
 Appended {I = I} i state entry nexts = OneCut {I = Fate × I} (λ i unused. appended state entry i.0 (nexts i.1 unused))
 
@@ -126,7 +126,6 @@ read_stops : {A : Type 0} {records : List Record} {ways : List Record → Type 0
     → Stops records outcome ways → Stops records (reading outcome) ways
 read_stops outcome stops = record { more = stops.more; reaches = stops.reaches; each = stops.each }
 
--- a choice
 stops_choice : {A I : Type 0} (records : List Record) (test : Bool) (x y : Outcome A) (xs ys : I → List Draw → Outcome A)
     → Stops records x (OneCut xs) → Stops records y (OneCut ys)
     → Stops records (if test then x else y) (OneCut (λ i unused. if test then xs i unused else ys i unused))
@@ -327,7 +326,7 @@ pub left_by_stop : (limit : ℕ) (world : World) (left : List Record) → left �
 left_by_stop limit world left is =
     record { events = stop ∷ []; possible = (tt, tt); leads = ap (λ l. record { state = closed_on l; handed = world.handed }) (sym is) }
 
--- what stops leave, where each way is one event
+-- what crashes leave, where each way is one event
 left_by : {A : Type 0} (limit : ℕ) (world : World) (outcome : Outcome A) (ways : List Record → Type 0) (left : List Record)
     → Stops world.state.records outcome ways → ((all : List Record) → ways all → IsLeftBy limit world all)
     → IsBeginning (length world.state.records) (reached outcome) left → IsLeftBy limit world left

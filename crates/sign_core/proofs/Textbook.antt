@@ -90,7 +90,7 @@ module _ (key : Key) (trees : Trees) (records : List Record) (has : HasTrees key
       → n < 2 ^ height_of (secret_at trees records tree).pair.tree
   tree_leaf level k tree n is inside = subst (λ pair. n < 2 ^ height_of pair.tree) (sym (tree_pair level k tree is)) (has.leaves level n inside)
 
-  -- what a level above the bottom signs with has its sizes
+  -- the signing of a level above the bottom has its sizes
   pub link_sized : (level : ℕ) (x next : Signing) → SignsNext trees records level x next → IsSized x
   link_sized level x next link =
       let sizes = has.sizes link.place (ExtendRecord link.extend) link.stands in
@@ -103,7 +103,7 @@ module _ (key : Key) (trees : Trees) (records : List Record) (has : HasTrees key
             (subst (λ n. link.extend.parent_leaf < leaves_at key.secret n) same inside);
       })
 
-  -- and so has what a binding signs with
+  -- and so has a binding's
   pub bound_sized : (k tree : ℕ) (bound : Bound) → slice_get records k ≡ Some (BoundRecord bound) → current (bottom_of key.secret) (take k records) ≡ Some tree
       → IsSized (signing_of_bound trees records tree bound)
   bound_sized k tree bound stands is =

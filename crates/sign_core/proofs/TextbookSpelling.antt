@@ -1,4 +1,4 @@
--- The textbook signature is spelled by its bytes.
+-- The bytes of the textbook signature spell it.
 use Rattle.std.proofs.Common.{◌≡◌, ◌∙◌, ap, ℕ, zero, suc, ◌/◌, ◌<◌, ◌^◌, List, [], length, get_or, arith}
 use Rattle.std.proofs.lemmas.List.FromFn.{get_or-map-range_with_len, length-map-range_with_len}
 use Rattle.sha2.proofs.Facts256.{length-sha256}
@@ -22,7 +22,6 @@ path_size secret q i inside =
     let node_at : ℕ → List ℕ = λ k. node (leaves_of secret) (joins_of secret) k (sibling (q / 2 ^ k)) in
     ap length (get_or-map-range_with_len node_at 0 (height_of secret.pair.tree) i i [] inside (omega arith)) ∙ node_size secret i (sibling (q / 2 ^ i))
 
--- the bytes of the textbook signature spell it
 pub textbook_spelled : (secret : LmsSecret) (q : ℕ) (randomizer digest : List ℕ) → q < 2 ^ height_of secret.pair.tree → length randomizer ≡ 32
     → Spells signature (textbook secret q randomizer digest) (signature_bytes (textbook secret q randomizer digest))
 textbook_spelled secret q randomizer digest inside size =

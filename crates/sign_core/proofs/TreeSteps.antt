@@ -1,4 +1,4 @@
--- Which trees are current: what `current` finds is the current tree, and what one more record changes.
+-- `current` finds the current tree, and what one more record changes.
 use Rattle.std.proofs.Common.{◌≡◌, ◌≢◌, ◌⊎◌, inl, inr, ℕ, zero, suc, ◌+◌, ◌<◌, ◌≤◌, Bool, true, false, cond, List, [], ◌∷◌, ◌++◌}
 use Rattle.std.proofs.Common.{length, take, drop, Option, Some, None, refl, sym, ap, subst, ◌∙◌, arith, eqb-true, eq-eqb, true≢false}
 use Rattle.std.specs.Prelude.{slice_get}
@@ -28,7 +28,7 @@ makes_not level entry other none same = eqb-false other.level level (subst (λ e
 abbrev NoneMakes : ℕ → List Record → Type 0
 NoneMakes level entries = (i : ℕ) (other : Extend) → slice_get entries i ≡ Some (ExtendRecord other) → other.level ≢ level
 
--- the last Extend of a level, in entries of which the first has place k, has place j
+-- in entries from place k on, the last Extend of the level has place j
 record LastFrom (level k : ℕ) (entries : List Record) (j : ℕ) : Type 0 where
   at : ℕ
   extend : Extend
@@ -129,7 +129,7 @@ pub tell_same : (a b : Option ℕ) (tree : ℕ) → a ≡ Some tree → b ≡ So
 tell_same a b tree first second =
     subst (λ o. same_tree o b ≡ true) (sym first) (subst (λ o. same_tree (Some tree) o ≡ true) (sym second) (eq-eqb tree tree refl))
 
--- what is current at the end of a beginning is so in all, and the other way round
+-- a beginning's current tree is the list's at that place, and conversely
 from_front : (records : List Record) (k level tree : ℕ) → k ≤ length records
     → IsCurrent (take k records) (length (take k records)) level tree → IsCurrent records k level tree
 from_front records k level tree within is =
@@ -160,13 +160,13 @@ current_below level above_is records tree (Some j) found is =
     from_front records j level above (omega (arith, last.before)) (above_is (take j records) above there) in
     subst (λ t. IsCurrent records (length records) (suc level) t) at (last, (above, above_is records above here, back))
 
--- the tree that `current` finds is the current one
+-- what `current` finds is the current tree
 pub current_is : (level : ℕ) (records : List Record) (tree : ℕ) → current level records ≡ Some tree → IsCurrent records (length records) level tree
 current_is zero records tree is = sym (same_Some 0 tree is)
 current_is (suc level) records tree is =
     current_below level (λ before t at. current_is level before t at) records tree (last_from (suc level) 0 None records) refl is
 
--- and it finds it
+-- and `current` finds each current tree
 pub is_current : (level : ℕ) (records : List Record) (tree : ℕ) → IsCurrent records (length records) level tree → current level records ≡ Some tree
 is_current zero records tree is = ap Some (sym is)
 is_current (suc level) records tree (last, (above, here, there)) =

@@ -1,4 +1,4 @@
--- What a refusal leaves: no refusal of a request but 25 binds a name, and what a retiring answers where it records nothing.
+-- No refusal of a request but 25 binds a name; and what a retiring answers where it records nothing.
 use Rattle.std.proofs.Common.{◌≡◌, ◌≢◌, ◌∙◌, refl, ap, ℕ, zero, suc, ◌+◌, ◌-◌, ◌<◌, ◌≤◌, Bool, true, false, List, [], ◌∷◌, ◌++◌}
 use Rattle.std.proofs.Common.{length, Option, Some, None, Err}
 use Rattle.std.specs.Prelude.{if◌then◌else◌, nat_le, nat_lt, not, slice_index_or}
@@ -25,7 +25,7 @@ use Rattle.sign_core.proofs.OnceKept.{kept_choice}
 
 -- ---- what is bound
 
--- Where it is refused for another reason than 25, each name is bound as it was.
+-- Refused for another reason than 25, each name is bound as it was.
 abbrev IsQuiet : (before : List Record) → Outcome (List ℕ) → Type 0
 IsQuiet before outcome = (fault : SignFault) (other : List ℕ) → outcome.answer ≡ Err fault → fault ≢ StoreFailed
     → binding_in outcome.state.records other ≡ binding_in before other
@@ -82,7 +82,6 @@ quiet_fulfilled key name chance (suc below) draws records =
     quiet_extended records key (bottom_of key.secret - below) (trees_of key.secret) (first_draw draws)
     (fulfilled key name chance below (later_draws draws)) (quiet_fulfilled key name chance below (later_draws draws))
 
--- no refusal but 25 binds a name
 pub binds_none : (limit : ℕ) (state : State) (name other : List ℕ) (chance : Chance) (fault : SignFault)
     → (requested limit state name chance).answer ≡ Err fault → fault ≢ StoreFailed
     → binding_in (requested limit state name chance).state.records other ≡ binding_in state.records other
@@ -109,7 +108,7 @@ moved_retires limit state key upto fate open_now moved keyed =
     ∙ ap (λ test. if not test then refused state Stopped else rest (has_moved state.records)) open_now
     ∙ ap rest moved
 
--- what an active signer answers, by whether the tree has these leaves, whether they are below the next one, and whether the store is full
+-- an active signer's answer: the tree has no such leaves, they are below the next one, or the store is full
 by_tests : (state : State) (upto : ℕ) (fate : Fate) (outside past full : Bool) → Outcome (Unit {0})
 by_tests state upto fate outside past full =
     if outside then refused state RetireRange

@@ -1,4 +1,4 @@
--- Each leaf that a textbook signature uses is named by a record, with the digest that the record says.
+-- A record names each leaf that a textbook signature uses, with the digest that it signs.
 use Rattle.std.proofs.Common.{◌≡◌, ◌∙◌, refl, sym, ap, subst, inl, inr, ℕ, zero, suc, ◌+◌, ◌-◌, ◌<◌, ◌≤◌, List, [], ◌∷◌, length, take, map, get_or}
 use Rattle.std.proofs.Common.{length-append, Some, None, arith}
 use Rattle.std.specs.Prelude.{Contains, slice_get}
@@ -60,13 +60,13 @@ Signs (BoundRecord bound) digest = digest ≡ bound.digest
 Signs (Retire upto) digest = ⊥
 Signs Moved digest = ⊥
 
--- the tree at this place goes by this I; that of XMSS is the Key's
+-- the tree at this place has this I; an XMSS tree is the Key's
 abbrev pub IsTreeOf : Secret → List Record → (tree : ℕ) → (identifier : List ℕ) → Type 0
 IsTreeOf (Lms own) records tree identifier = (made : Record) × (slice_get records tree ≡ Some made) × (identifier_of made ≡ Some identifier)
 IsTreeOf (Hss levels top seed) records tree identifier = (made : Record) × (slice_get records tree ≡ Some made) × (identifier_of made ≡ Some identifier)
 IsTreeOf (Xmss own) records tree identifier = tree ≡ 0
 
--- A use is of the leaf that the record at this place names, and of what it signs.
+-- A use of the leaf that the record at this place names, and of what it signs.
 pub record IsUseOf (key : Key) (records : List Record) (place : ℕ) (use_made : LeafUse) : Type 0 where
   pub entry : Record
   pub stands : slice_get records place ≡ Some entry
@@ -75,18 +75,17 @@ pub record IsUseOf (key : Key) (records : List Record) (place : ℕ) (use_made :
   pub of_tree : IsTreeOf key.secret records tree use_made.identifier
   pub signs : Signs entry use_made.digest
 
--- Each of these uses is that of a record, and the last one that of the record at place k.
+-- Each of these uses is a record's, and the last one the record's at place k.
 record AreUsesOf (key : Key) (records : List Record) (k : ℕ) (uses : List LeafUse) : Type 0 where
   each : (u : LeafUse) → Contains uses u → (place : ℕ) × IsUseOf key records place u
   last : (u : LeafUse) → IsLast u uses → IsUseOf key records k u
 
 -- ---- lists of uses
 
--- the use at a place
 use_at : (f : ℕ → LeafUse) (n i : ℕ) (other : LeafUse) → i < n → get_or (map f (range_with_len 0 n)) i other ≡ f i
 use_at f n i other inside = get_or-map-range_with_len f 0 n i i other inside (omega arith)
 
--- those of levels 0 to n
+-- the uses of levels 0 to n
 of_levels : (key : Key) (records : List Record) (k n : ℕ) (f : ℕ → LeafUse) (uses : List LeafUse) → uses ≡ map f (range_with_len 0 (n + 1))
     → ((i : ℕ) → i < n → (place : ℕ) × IsUseOf key records place (f i)) → IsUseOf key records k (f n) → AreUsesOf key records k uses
 of_levels key records k n f uses are above bottom =
@@ -162,7 +161,7 @@ xmss_uses records version secret root message k bound uses is (s, spelled, are) 
       signs = sym is.digest;
     })
 
--- it goes by the public key
+-- its tree is named by the public key
 pub xmss_named : (public : XmssPublic) (message bytes : List ℕ) (uses : List LeafUse) (u : LeafUse) → MakesUses (AnyXmss public) message bytes uses
     → Contains uses u → u.identifier ≡ xmss_public_bytes public
 unfolding xmss_use
@@ -245,7 +244,7 @@ use_here trees records above bottom message top i levels top_is inside =
 
 -- ---- trees of HSS keys
 
--- a current tree goes by the I of its secret
+-- a current tree's I is its secret's
 tree_of : (trees : Trees) (records : List Record) (key : Key) (identifier : List ℕ) (level k tree : ℕ) → slice_get records 0 ≡ Some (KeyRecord key)
     → identifier_of (KeyRecord key) ≡ Some trees.top.identifier → current level (take k records) ≡ Some tree
     → identifier ≡ (secret_at trees records tree).identifier
@@ -258,7 +257,7 @@ tree_of trees records key identifier (suc level) k tree first key_is is named =
     let made = (current_made level k records tree is).1 in
     (ExtendRecord made.extend, made.stands, ap Some (sym (named ∙ ap (λ r. (secret_by trees r).identifier) made.stands)))
 
--- The use of a level above the bottom is that of the Extend that makes the next level's tree.
+-- The use of a level above the bottom is the Extend's that makes the next level's tree.
 link_use : (trees : Trees) (records : List Record) (key : Key) (level : ℕ) (x next : Signing) → slice_get records 0 ≡ Some (KeyRecord key)
     → identifier_of (KeyRecord key) ≡ Some trees.top.identifier
     → ((tree : ℕ) (identifier : List ℕ) → ((made : Record) × (slice_get records tree ≡ Some made) × (identifier_of made ≡ Some identifier))
@@ -345,8 +344,7 @@ uses_by records version (Xmss secret) root message k bound public uses is is_pub
     (subst (λ p. MakesUses p message (signature_at (key_with version (Xmss secret) root) records k bound) uses)
     (sym (same_Some (AnyXmss (record { tree = secret.tree; root = root; seed = secret.public_seed })) public is_public)) makes)
 
--- Over legal records where the chain of its trees is sound, each use that the textbook signature of a binding makes is that
--- of a record ..
+-- Over legal records where the chain of its trees is sound, each use of a binding's textbook signature is a record's ..
 pub use_checked : (records : List Record) (key : Key) (name message : List ℕ) (k : ℕ) (bound : Bound) (public : AnyPublic) (uses : List LeafUse) (u : LeafUse)
     → IsLegal records → AllHaveSizes records → IsBoundTo records key name message k bound
     → damaged_in key (bottom_of key.secret) records (tree_before (bottom_of key.secret) records k) ≡ None → public_in key ≡ Some public
@@ -356,7 +354,7 @@ use_checked records key name message k bound public uses u legal sizes is sound 
     (uses_by records key.version key.secret key.root message k bound public uses
     (soundly_bound records key name message k bound legal sizes is sound) is_public makes).each u there
 
--- .. and the last one is that of the binding's.
+-- .. and the last one is the binding's.
 pub last_checked : (records : List Record) (key : Key) (name message : List ℕ) (k : ℕ) (bound : Bound) (public : AnyPublic) (uses : List LeafUse) (u : LeafUse)
     → IsLegal records → AllHaveSizes records → IsBoundTo records key name message k bound
     → damaged_in key (bottom_of key.secret) records (tree_before (bottom_of key.secret) records k) ≡ None → public_in key ≡ Some public

@@ -230,26 +230,23 @@ checked_by records version (Xmss secret) root message k bound public is is_publi
     (same_Some (AnyXmss (record { tree = secret.tree; root = root; seed = secret.public_seed })) public is_public)
     (xmss_checked records version secret root message k bound is)
 
--- The textbook signature of a binding is valid for each message of its digest, if the chain of its trees is sound.
 pub checked : (records : List Record) (key : Key) (name message : List ℕ) (k : ℕ) (bound : Bound) (public : AnyPublic) → IsLegal records → AllHaveSizes records
     → IsBoundTo records key name message k bound → damaged_in key (bottom_of key.secret) records (tree_before (bottom_of key.secret) records k) ≡ None
     → public_in key ≡ Some public → IsValidUnder public message (signature_at key records k bound)
 checked records key name message k bound public legal sizes is sound is_public =
     checked_by records key.version key.secret key.root message k bound public (soundly_bound records key name message k bound legal sizes is sound) is_public
 
--- where no element passes a test, none is found
 none_passes : {A : Type 0} (test : A → Bool) (xs : List A) → ((x : A) → test x ≡ false) → find test xs ≡ None
 none_passes test [] none = refl
 none_passes test (x ∷ xs) none = ap (λ b. cond b (Some x) (find test xs)) (none x) ∙ none_passes test xs none
 
--- sound records have no damaged chain
 pub undamaged : (records : List Record) (key : Key) (level tree : ℕ) → AreSound records → key_in records ≡ Some key → damaged_in key level records tree ≡ None
 undamaged records key level tree sound keyed =
     let same : sound.key ≡ key = same_Some sound.key key (sym sound.keyed ∙ keyed) in
     none_passes (λ k. not (is_sound_at key records k)) (chain level records tree)
     (λ k. ap not (subst (λ own. is_sound_at own records k ≡ true) same (sound.sound k)))
 
--- so all their textbook signatures are valid
+-- all textbook signatures of sound records are valid
 pub all_valid : (records : List Record) (key : Key) (name message : List ℕ) (k : ℕ) (bound : Bound) (public : AnyPublic) → AreSound records
     → AllHaveSizes records
     → IsBoundTo records key name message k bound → public_in key ≡ Some public → IsValidUnder public message (signature_at key records k bound)

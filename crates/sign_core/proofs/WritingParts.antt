@@ -66,7 +66,7 @@ got_some [] i inside = absurd (omega (arith, inside))
 got_some (x ∷ xs) zero inside = (x, refl)
 got_some (x ∷ xs) (suc i) inside = got_some xs i (omega (arith, inside))
 
--- what they sign with
+-- the levels' signings
 level_signings : (links : List Link) (levels : List Level) → AreLevelsOf links levels → length links ≤ length levels
     → map signing_of (take (length links) levels) ≡ signings_of links
 level_signings [] levels are few = refl
@@ -176,7 +176,7 @@ chain_types key trees records level place last legal keyed these at bottom last_
 
 -- ---- the signature of a binding
 
--- What the chain of a binding's tree signs with makes the binding's textbook signature.
+-- The signings of the chain of a binding's tree make the binding's textbook signature.
 chain_signature : (secret : Secret) (trees : Trees) (records : List Record) (k : ℕ) (bound : Bound) (key : Key) → slice_get records 0 ≡ Some (KeyRecord key)
     → trees_of secret ≡ Some trees
     → let tree = tree_before (bottom_of secret) records k in
@@ -194,7 +194,7 @@ chain_signature (Hss (pair ∷ rest) identifier seed) trees records k bound key 
     (sym (same_Some _ trees these))
 chain_signature (Xmss secret) trees records k bound key first these = absurd (cc)
 
--- So what `write_chain` writes of the links of a binding's chain is the binding's signature.
+-- So `write_chain` writes the binding's signature from the links of its chain.
 pub written_signature : (key : Key) (trees : Trees) (records : List Record) (k : ℕ) (bound : Bound) (links : List Link) (bytes : List ℕ)
     → key_in records ≡ Some key → trees_of key.secret ≡ Some trees
     → (let tree = tree_before (bottom_of key.secret) records k in

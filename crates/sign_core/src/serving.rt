@@ -57,7 +57,7 @@ impl Reply {
 /// - 27 where the input ends inside a message, or a read fails;
 /// - 36 where a reply can't be written; what was bound stays bound.
 ///
-/// 35 and 27 are replied, too; a message's 27 only if the signer hadn't refused for another reason.
+/// 35 and 27 are replied, too, unless the request was refused for another reason before.
 ///
 /// A message is read as far as it comes, whether or not its reply can be written. Reader and writer have no trace in
 /// common, so the following is tested. A reply is written after the last byte of its message was read and before the

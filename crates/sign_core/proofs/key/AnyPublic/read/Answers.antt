@@ -2,7 +2,7 @@ use Rattle.std.proofs.Common.{rules}
 use Rattle.sign_core.proofs.KeyReading.{spelled_read}
 use Rattle.sign_core.proofs.key.AnyPublic.read.Goals as goal
 
--- of each length: an answer that is right is the key that the bytes spell
+-- each length: a right answer is the key of these bytes
 pub returns-in-56-clause-spelled : goal.returns-in-56-clause-spelled
 returns-in-56-clause-spelled c = spelled_read c.args.bytes.now _ (search rules) (search rules)
 

@@ -2,7 +2,7 @@ use Rattle.std.proofs.Common.{◌≡◌, length, take}
 use Rattle.sign_core.specs.inner.Writing.{AreLevelsOf}
 use Rattle.sign_core.proofs.writing.LinkLevels.of.Given as goal
 
--- The levels so far are those of the first links.
+-- The levels so far are the first links'.
 abbrev pub invariant-loop-i : goal.invariant-loop-i
 invariant-loop-i l = record {
   places : length l.places ≡ 8;
