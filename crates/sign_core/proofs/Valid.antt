@@ -154,8 +154,8 @@ hss_has_trees records version pair rest identifier seed root message k bound is 
       sizes = is.sizes;
     }
 
--- The levels of an HSS key's signature: there are as many as the key has, the first is the top tree's, each signs the
--- next one's key and the last the message, and their fields have their sizes.
+-- The levels of an HSS key's signature, as many as the key's. The first is the top tree's, each signs the next one's
+-- key and the last the message, and their fields have their sizes.
 pub record AreLevelsOf (trees : Trees) (records : List Record) (above : List Signing) (bottom : Signing) (message : List ℕ) : Type 0 where
   pub count : length above + 1 ≡ length trees.pairs
   pub few : length trees.pairs ≤ 8

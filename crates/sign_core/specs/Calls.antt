@@ -84,7 +84,7 @@ pub record Call (S : Type 0) : Type 0 where
   pub store : S
 
 -- The event can come. A crash at any moment of the call leaves a beginning of the records that the event reaches, no
--- shorter than the old records; or the call leaves the store as it was.
+-- shorter than the old records. Or the call leaves the store as it was.
 pub record IsCall {S : Type 0} (moment : S → ℕ) (left_since : S → ℕ → List Record → Type 0) (limit : ℕ)
     (world : World) (old : S) (call : Call S) : Type 0 where
   pub possible : IsEvent call.event

@@ -97,8 +97,8 @@ CutsField layout bytes = (from : ℕ) → (place : ℕ) × HasFault layout bytes
 
 -- ---- how frames are read
 
--- A read of a frame's message with `left` bytes to come: it gives at most as many of the input's; none where none are
--- left; and an error where a read of the input fails, or the input is at its end.
+-- A read of a frame's message with `left` bytes to come. It gives at most as many of the input's, and none where none
+-- are left. It fails where a read of the input fails, or the input is at its end.
 abbrev pub ReadsPart : {M : Type 0} → message.Ghosts M → (left : ℕ) → M → ReadOutcome → (after : ℕ) → M → Type 0
 ReadsPart m left old (Ok bytes) after new = (after + length bytes ≡ left)
     × (((bytes ≡ []) × (left ≡ 0) × (new ≡ old))

@@ -20,7 +20,7 @@ SpellsKey (Lms key) bytes = Spells lms_public_key key bytes
 SpellsKey (Hss key) bytes = Spells hss_public_key key bytes
 SpellsKey (Xmss key) bytes = Spells xmss_public_key key bytes
 
--- What is wrong with bytes that are no key: their length isn't 56, 60 or 68 bytes; or they have this fault as a key of
+-- What is wrong with bytes that are no key. Their length isn't 56, 60 or 68 bytes; or they have this fault as a key of
 -- the scheme with their length.
 abbrev pub KeyHasFault : List ℕ → KeyFault → Type 0
 KeyHasFault bytes (Length n) = (n ≡ length bytes) × (n ≢ 56) × (n ≢ 60) × (n ≢ 68)

@@ -73,8 +73,8 @@ binding_kept secret records name = option_map (kept_of secret records) (binding_
 
 -- ---- a ledger
 
--- A ledger's parts match its records: the Extends by place, the bindings by name, each I after the Key's, the current
--- trees with their next leaves, the number of records, and whether a Moved is last.
+-- A ledger's parts match its records. It has the Extends by place, the bindings by name, each I after the Key's, and
+-- the current trees with their next leaves. It knows the number of records, and whether a Moved is last.
 pub record IsTableOf (records : List Record) (key : Key) (made : ByPlace Made) (bindings : ByText Binding)
     (identifiers : ByText ℕ) (levels : List (Option Tree)) (count : ℕ) (moved : Bool) : Type 0 where
   pub legal : IsLegal records

@@ -65,7 +65,7 @@ bytes_drawn draws = concat (map (λ (draw : Draw). concat draw.fields) draws)
 abbrev pub all_drawn : Chance → List ℕ
 all_drawn chance = bytes_drawn chance.trees ++ concat chance.bound.fields
 
--- A new name is signed where this level is the deepest with a free leaf: a tree is begun for each level below it, and
+-- A new name is signed where this level is the deepest with a free leaf. A tree is begun for each level below it, and
 -- the name is bound to the next leaf of the bottom tree and to the message's digest. The answer is its signature.
 pub record IsSigned (key : Key) (records : List Record) (level : ℕ) (name message : List ℕ) (chance : Chance)
     (outcome : Outcome (List ℕ)) : Type 0 where

@@ -29,8 +29,8 @@ pub record AreRetiringsAnswered (limit : ℕ) (world : World) : Type 0 where
       → next_at key.secret world.state.records (bottom_of key.secret) < upto
       → length world.state.records + 1 ≤ limit
       → retired limit world.state upto acked ≡ answered (open_on (world.state.records ++ Retire upto ∷ [])) tt
-  -- one after a Moved is refused; so is one of more leaves than the tree has; one no further than the next leaf is
-  -- answered; and none of them changes anything
+  -- one after a Moved, or of more leaves than the tree has, is refused; one no further than the next leaf is Ok; and
+  -- none of them changes anything
   pub moved : (key : Key) (upto : ℕ) (fate : Fate) → world.state.is_open ≡ true
       → has_moved world.state.records ≡ true → key_in world.state.records ≡ Some key
       → retired limit world.state upto fate ≡ refused world.state Moved

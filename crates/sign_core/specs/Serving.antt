@@ -89,8 +89,8 @@ AreFrames [] bytes = bytes ≡ []
 AreFrames (first ∷ later) bytes = (own : List ℕ) × (rest : List ℕ) × (bytes ≡ own ++ rest)
     × IsFrame first.request own × IsWholeMessage first.request × AreFrames later rest
 
--- The reply to the next bytes of an input, and the fault that ends the serving, if any: a whole frame; a head cut at
--- the input's end (35), or by a read that fails (27); or a message that is cut (27).
+-- The reply to the next bytes of an input, and the fault that ends the serving, if any. The bytes are a whole frame; or
+-- they are cut in a message (27); or in a head, at the input's end (35) or by a read that fails (27).
 abbrev pub Turn : (bytes : List ℕ) → Ending → List Exchange → (reply : List ℕ) → Option ServeFault → Type 0
 Turn bytes ending exchanges reply None = (exchange : Exchange) × (exchanges ≡ exchange ∷ []) × (ending ≡ going)
     × IsFrame exchange.request bytes × IsWholeMessage exchange.request × (reply ≡ reply_of exchange)

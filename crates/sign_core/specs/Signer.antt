@@ -43,7 +43,7 @@ use Rattle.sign_core.specs.Textbook.{AllHaveSizes}
 -- ---- a signer
 
 -- A signer as callers see it: its store, source and records, whether it is open, for how many more records it has
--- memory, and the trees that it has caches of.
+-- memory, and which caches it has.
 pub record View (S R : Type 0) : Type 0 where
   pub store : S
   pub random : R

@@ -57,8 +57,8 @@ pub record RetiresInWorld {S R : Type 0} (g : store.Ghosts S) (handed : List Han
   pub leaves : IsAfter new (after (g.most old.store) (world_of (state_of old) handed) event)
   pub hands : (after (g.most old.store) (world_of (state_of old) handed) event).handed ≡ handed
 
--- what a create or an opening leaves: a signer open on the world's records; or none, and none in the world, on the
--- records of the store that is handed back
+-- what a create or an opening leaves: a signer open on the world's records; or no open signer, and the world on the
+-- records of the store handed back
 abbrev pub OpensIn : {S R : Type 0} → store.Ghosts S → Result (View S R) (Refused (S × R) SignFault) → World → Type 0
 OpensIn g (Ok signer) left = IsAfter signer left
 OpensIn g (Err refused) left = left.state ≡ closed_on (g.list refused.given.0)
@@ -110,7 +110,7 @@ pub record IsRefusedOpening {S R : Type 0} (g : store.Ghosts S) (world : World) 
   pub stays : after (g.most kept_in) world event ≡ world
 
 -- Over an honest store each call of an open signer, each create and each opening is the event of the world in its
--- contract. Over any store a call of a closed signer is an event that leaves the world as it was; so is a create or an
+-- contract. Over any store a call of a closed signer is an event that leaves the world as it was. So is a create or an
 -- opening on a store that has stopped.
 pub record SignerLaw {S R M : Type 0} (g : store.Ghosts S) (r : source.Ghosts R) (m : message.Ghosts M) : Type 0 where
   pub signs : (old new : View S R) (name : List ℕ) (before later : M) (capacity : ℕ)

@@ -39,9 +39,9 @@ pub record State : Type 0 where
   pub records : List Record
   pub is_open : Bool
 
--- What an event leaves and answers, and how far it came: the records acknowledged at its end, the one whose append was
--- cut, if any, the bytes that were drawn, and whether the message was read. The state has the acknowledged records, and
--- perhaps the one that was cut.
+-- What an event leaves and answers, and how far it came. It has the records acknowledged at its end, the one whose
+-- append was cut, if any, the drawn bytes, and whether the message was read. The state has the acknowledged records,
+-- and perhaps the one that was cut.
 pub record Outcome (A : Type 0) : Type 0 where
   pub state : State
   pub answer : Result A SignFault
@@ -174,8 +174,8 @@ append entry fate state rest = appended state entry fate (λ records. rest tt (o
 
 -- ---- create
 
--- A create's version and chance: why the load of record 0 failed, if it did; the fields that the source gave, fewer
--- where it failed; whether memory was granted; and what became of the append.
+-- A create's version and chance: why record 0 couldn't be loaded, if so; the fields that the source gave, fewer where
+-- it failed; whether memory was granted; and the append's fate.
 pub record Creation : Type 0 where
   pub version : Version
   pub failed_load : Option SignFault
@@ -247,8 +247,8 @@ pub record Draw : Type 0 where
   pub fields : List (List ℕ)
   pub fate : Fate
 
--- A request's chance: whether memory was granted at its beginning; what became of each new tree, from the top down, and
--- of the binding; and what the message's reader gave, if it didn't fail.
+-- A request's chance: whether memory was granted at its beginning; each new tree's draw, from the top down, and the
+-- binding's; and what the message's reader gave, if it didn't fail.
 pub record Chance : Type 0 where
   pub has_room : Bool
   pub trees : List Draw

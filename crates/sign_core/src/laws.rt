@@ -128,8 +128,8 @@ pub fn sound_law()
 ///
 /// - an opening where nothing fails opens the signer on them, and answers the public key of record 0;
 /// - every event leaves legal records;
-/// - each signature that a request gives, or a run hands out, is valid under that key for the message that was read,
-///   for new and bound names and in every scheme;
+/// - each signature that a request gives, or a run hands out, is valid under that key for the message that was read: for
+///   a new name or a bound one, and in every scheme;
 /// - a record refused as damaged (28) is the first in its chain of trees, from the top down, that differs from the
 ///   secrets, and nothing changed.
 ///
@@ -140,9 +140,10 @@ pub fn opened_law()
 
 /// Which refusal an event answers: the first cause that applies, in the event's order. Without one the answer is Ok.
 ///
-/// - A request: 26, 31; under a bound name 27, 21, 29, 28; under a new one 33, 22, 30, 29, 28, then for each new tree
-///   23 where I isn't drawn, 24, 23 where SEED or C isn't, 25 or 29 of its append, and for the binding 23, 27, 25 or
-///   29.
+/// - A request: 26, 31.
+/// - Under a bound name then: 27, 21, 29, 28.
+/// - Under a new name then: 33, 22, 30, 29, 28. For each new tree: 23 where I isn't drawn, 24, 23 where SEED or C
+///   isn't, 25 or 29 of its append. For the binding: 23, 27, 25 or 29.
 /// - A retiring: 26, 31, 32; then Ok where it retires nothing; else 30, 25 or 29.
 /// - A create: why record 0 couldn't be loaded, 50, 23, 29, 25 or 29 of its append.
 /// - An opening: 44 of the first record that isn't legal, if each one up to it was loaded; why one couldn't be loaded;
@@ -157,9 +158,9 @@ pub fn refusal_law()
 /// What stands after a refusal.
 ///
 /// A refused request binds no name. It leaves the old records and drew nothing, unless it was to bind a new name. Then
-/// the trees that it had begun stand after the old records: from the deepest level with a free leaf downwards, each
-/// under the next leaf of the one above, and made of its draw. It drew what these and the next record are made of;
-/// after 24 only the I of the next.
+/// the trees that it had begun, if any, stand after the old records. They go from the deepest level with a free leaf
+/// downwards, each under the next leaf of the one above, and made of its draw. It drew what these and the next record
+/// are made of; after 24 only the I of the next.
 ///
 /// Only after 25 one more record may stand, the one whose append failed. It is the next tree; or, after the last tree,
 /// this name's binding to the next leaf, with the drawn C and the digest of the message.
@@ -196,11 +197,11 @@ pub fn calls_law()
     ensures calls { CallsLaw }
 {}
 
-/// What a crash leaves of a store, at any moment since the first of some calls on it, a run of the world leaves: the
-/// first of the calls end, and then events that can come leave it.
+/// A run of the world leaves what a crash leaves of a store, at any moment since the first of some calls on it. The
+/// first of these calls end, and then events that can come leave it.
 ///
 /// Each call is an event. By its contract a crash at any moment of it leaves a beginning of the records that the event
-/// reaches, no shorter than the old records; or it leaves the store as it was.
+/// reaches, no shorter than the old records. Or it leaves the store as it was.
 pub fn stopped_law<S: Store>()
     ensures stopped { StoppedLaw S.Store }
 {}
@@ -234,7 +235,7 @@ pub fn moves_law<D: Disk + Drop, E: Disk + Drop>()
 
 /// Over an honest store, each call of an open signer, each create and each opening is an event of `once_law`'s world:
 /// the one in its own contract. Over any store, a call of a closed signer answers 26, and is an event that leaves the
-/// world as it was; so is a create or an opening on a store that has stopped.
+/// world as it was. So is a create or an opening on a store that has stopped.
 ///
 /// A crash at any moment of the call leaves what a crash of the event leaves. After the call the signer is open exactly
 /// if the world is, and then on the same records. Its answer is what the event hands out, for the message that was

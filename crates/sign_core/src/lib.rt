@@ -1,5 +1,5 @@
-//! The signer: public keys of every scheme, the ledger of a key's records, the signer over a store of records and a
-//! source of random bytes, and the law that no leaf signs twice.
+//! The signer: public keys of every scheme, a key's records in memory, and signing over a store of records and a source
+//! of random bytes. And the law that no leaf signs twice.
 //!
 //! ```rust
 //! use sign_core::{AnyPublic, Signer, TapeSource, verify_any};
@@ -24,9 +24,9 @@
 //! ```
 //!
 //! The contract for the crates above: each call of `create`, `open`, `sign` and `retire` is a step of the world of one
-//! key, by a chance that the store, the source and the message decide (`specs/Signer.antt`, `specs/World.antt`). Over
-//! every list of such steps, and of crashes at any moment, no leaf signs two digests, a name has one signature, and
-//! every signature handed out is valid (`once_law`, `specs/Headline.antt`).
+//! key. The store, the source and the message decide its chance (`specs/Signer.antt`, `specs/World.antt`). Over every
+//! list of such steps, and of crashes at any moment, no leaf signs two digests and a name has one signature. Every
+//! signature handed out is valid (`once_law`, `specs/Headline.antt`).
 //!
 //! `migrate_key` moves a key to one new state file, and no crash leaves two files that can sign
 //! (`specs/Migration.antt`). The old file's runs go on across it (`moves_law`). `create_telling`, `sign_telling` and

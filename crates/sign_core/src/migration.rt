@@ -8,7 +8,7 @@ use crate::migration::old_file::open_old;
 use state_file::{Disk, MigrateFault, Place, Refused, fill, seal};
 use std::alloc::Global;
 
-/// Moves the records of a key from a file of version 1 to a new one of version 2, where they go on: the old file gets a
+/// Moves the records of a key from a file of version 1 to a new one of version 2, where they go on. The old file gets a
 /// Moved at its end, and signs no more. Gives both disks back, and the new file's number of records.
 ///
 /// A crash at any moment leaves the old records, with a Moved or without; and a new place as it was, without a key, or

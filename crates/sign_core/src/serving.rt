@@ -43,9 +43,9 @@ impl Reply {
 }
 
 /// Answers the requests of an input one after the other, and writes the reply to each before it reads the next one. A
-/// request is the size of its name in one byte, the name, the size of its message in four bytes, and the message, which
-/// is signed as it is read. A reply is its number in one byte, the size of its body in four, and the body: the
-/// signature for 0, the slot in four bytes for 28, and nothing for any other number. All sizes are big-endian.
+/// request is the size of its name in one byte, the name, the size of its message in four bytes, and the message. It is
+/// signed as it is read. A reply is its number in one byte, the size of its body in four, and the body. The body is the
+/// signature for 0, the slot in four bytes for 28, and empty for any other number. All sizes are big-endian.
 ///
 /// A name that isn't 1 to 128 visible characters of ASCII is answered 34. After a refusal the rest of the message is
 /// read first, and discarded.

@@ -38,8 +38,8 @@ abbrev pub is_no_memory : SignFault → Bool
 is_no_memory NoMemoryToOpen = true
 is_no_memory _ = false
 
--- What an append does to a store that runs and has room, by its answer: to the list, to whether the store has stopped,
--- and to the count of its device's failures.
+-- An append to a store that runs and has room, by its answer: what becomes of the list, whether the store has stopped,
+-- and the count of its device's failures.
 abbrev pub AppendsTo : {A : Type 0} (old : List Record) (entry : Record) (new : List Record) (stopped : Bool)
     (failures_before failures_after : ℕ) → Result A SignFault → Type 0
 AppendsTo old entry new stopped before after (Ok _) =

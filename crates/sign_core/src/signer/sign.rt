@@ -56,7 +56,7 @@ impl<S: Store, R: Source> Signer<S, R> {
     /// How many leaves the cache of a level's current tree has made, at most `u64::MAX`; None where the level has no
     /// cache of its current tree.
     ///
-    /// No signature depends on caches, so tests check the rest: the number is the cache's count of leaves, a signer
+    /// No signature depends on caches, so tests check the rest. The number is the cache's count of leaves, a signer
     /// uses its caches, and one just made or opened has none.
     pub fn cache_leaves(&self, level: u8) -> Option<u64>
         ensures few { UnderKey self.now.records (λ key. levels_of key.secret ≤ level → result ≡ None) }
@@ -82,9 +82,9 @@ impl<S: Store, R: Source> Signer<S, R> {
     /// Signs a message under a name: writes the signature's bytes over `out`. A bound name has one digest and one
     /// signature (21 for another message). A new name takes the next leaf, and is bound in the store before it signs.
     ///
-    /// Refusals in their order: 26, 31; under a bound name 27, 21, 29, 28; under a new one 33, 22, 30, 29, 28; then for
-    /// each new tree 23, 24, 29 for its cache and 25; then 23 for C, 27, 25. 29 also comes where the store answers 46
-    /// to an append. After a refusal `out` is empty.
+    /// Refusals in their order: 26, 31. Under a bound name then 27, 21, 29, 28. Under a new one then 33, 22, 30, 29,
+    /// 28; for each new tree 23, 24, 29 for its cache and 25; and 23 for C, 27, 25. 29 also comes where the store
+    /// answers 46 to an append. After a refusal `out` is empty.
     ///
     /// Once the binding's append has answered Ok, `sign` answers Ok. It draws I, SEED and C for each new tree and C for
     /// the binding; for XMSS it draws nothing. The message is read to its end, or can't be read (27), or is as it was.
