@@ -128,8 +128,8 @@ pub fn sound_law()
 ///
 /// - an opening where nothing fails opens the signer on them, and answers the public key of record 0;
 /// - every event leaves legal records;
-/// - each signature that a request gives, or a run hands out, is valid under that key for the message that was read: for
-///   a new name or a bound one, and in every scheme;
+/// - each signature that a request gives, or a run hands out, is valid under that key for the message that was read:
+///   for a new name or a bound one, and in every scheme;
 /// - a record refused as damaged (28) is the first in its chain of trees, from the top down, that differs from the
 ///   secrets, and nothing changed.
 ///
