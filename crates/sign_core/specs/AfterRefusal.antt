@@ -103,7 +103,6 @@ IsDrawnKey version spec fields drawn entry = (secret : Secret) × (secret_from s
 
 -- ---- the law
 
--- an event is refused
 abbrev pub IsRefusal : {A : Type 0} → Outcome A → Type 0
 IsRefusal outcome = (fault : SignFault) × (outcome.answer ≡ Err fault)
 

@@ -35,11 +35,9 @@ pub record Cached : Type 0 where
 abbrev pub cache_at : List (Option LmsSecret) → (level : ℕ) → Option LmsSecret
 cache_at levels level = slice_index_or levels level None
 
--- A level has the cache of the tree with this secret.
 abbrev pub HasLevel : Cached → (level : ℕ) → LmsSecret → Type 0
 HasLevel cached level secret = cache_at cached.levels level ≡ Some secret
 
--- A level has the cache of its current tree.
 abbrev pub HasCurrent : Trees → List Record → (level : ℕ) → Cached → Type 0
 HasCurrent trees records level cached =
     (tree : ℕ) × (current level records ≡ Some tree) × HasLevel cached level (secret_at trees records tree)
@@ -56,7 +54,6 @@ pub record LacksLevel (key : Key) (records : List Record) (lowest before : ℕ) 
   pub earlier : tree < before
   pub lacks : HasLevel cached level (secret_at trees records tree) → ⊥
 
--- The cache of an XMSS key's tree is missing.
 pub record LacksXmss (key : Key) (cached : Cached) : Type 0 where
   pub secret : XmssSecret
   pub of_key : key.secret ≡ Xmss secret

@@ -25,7 +25,6 @@ reached_by limit world (retire upto fate) = reached (retired limit world.state u
 reached_by limit world (migrate fate) = world.state.records
 reached_by limit world stop = world.state.records
 
--- the records that it acknowledges
 abbrev pub acknowledged_by : (limit : ℕ) → World → Event → List Record
 acknowledged_by limit world (create spec chance) = (created world.state spec chance).acknowledged
 acknowledged_by limit world (reopen chance) = (opened world.state chance).acknowledged
@@ -48,7 +47,6 @@ abbrev pub stepped : (limit : ℕ) → World → Step → World
 stepped limit world (ends event) = after limit world event
 stepped limit world (stops event left) = record { state = closed_on left; handed = world.handed }
 
--- a chain of steps, each in the world that the one before left
 abbrev pub AreSteps : (limit : ℕ) → World → List Step → Type 0
 AreSteps limit world [] = Unit {0}
 AreSteps limit world (step ∷ steps) = IsStep limit world step × AreSteps limit (stepped limit world step) steps
@@ -102,7 +100,6 @@ pub record IsLastingCall {S : Type 0} (g : store.Ghosts S) (limit : ℕ) (world 
   pub lasts : IsOpenAfter limit world call.event → (left : List Record)
       → g.left_since call.store (g.moment call.store) left → left ≡ (after limit world call.event).state.records
 
--- calls one after the other
 abbrev pub AreCalls : {S : Type 0} (moment : S → ℕ) (left_since : S → ℕ → List Record → Type 0) (limit : ℕ)
     → World → (old : S) → List (Call S) → Type 0
 AreCalls moment left_since limit world old [] = Unit {0}
@@ -114,7 +111,6 @@ AreLastingCalls g limit world old [] = Unit {0}
 AreLastingCalls g limit world old (call ∷ calls) = IsLastingCall g limit world old call
     × AreLastingCalls g limit (after limit world call.event) call.store calls
 
--- the store after all of them
 abbrev pub store_after_calls : {S : Type 0} (old : S) → List (Call S) → S
 store_after_calls old [] = old
 store_after_calls old (call ∷ calls) = store_after_calls call.store calls

@@ -68,6 +68,5 @@ IsEvent (retire upto fate) = Unit {0}
 IsEvent (migrate fate) = Unit {0}
 IsEvent stop = Unit {0}
 
--- each event is one that can come
 abbrev pub AllEvents : List Event → Type 0
 AllEvents events = AllByRecursion IsEvent events

@@ -9,7 +9,6 @@ use Rattle.sign_core.specs.declared.fault.SignFault.TheVariants.{NoKey, NoMemory
 use Rattle.sign_core.specs.declared.fault.SignFault.TheVariants.{RandomRepeated, RetireRange, Stopped, StoreFailed}
 use Rattle.sign_core.specs.declared.fault.SignFault.TheVariants.{Unreadable}
 
--- the number that reports a signer's fault
 abbrev pub number_of : SignFault → ℕ
 number_of Changed = 21
 number_of Exhausted = 22
@@ -31,7 +30,6 @@ number_of DeviceFailed = 45
 number_of NoMemoryToOpen = 46
 number_of KeyThere = 50
 
--- the number that reports a serving's fault
 abbrev pub serve_number_of : ServeFault → ℕ
 serve_number_of serving.MessageRead = 27
 serve_number_of serving.FrameCut = 35

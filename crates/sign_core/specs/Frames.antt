@@ -43,7 +43,6 @@ pub record ReadsInput {M : Type 0} (m : message.Ghosts M) (given : List ℕ) (en
 
 -- ---- frames
 
--- one byte
 abbrev pub byte : Layout ℕ
 byte = field 1 (λ bytes. done (slice_index bytes 0))
 
@@ -72,7 +71,6 @@ abbrev pub IsFrame : Request → List ℕ → Type 0
 IsFrame request bytes =
     (front : List ℕ) × Spells head (request.name, request.announced) front × (bytes ≡ front ++ request.message)
 
--- All of the message came.
 abbrev pub IsWholeMessage : Request → Type 0
 IsWholeMessage request = (request.is_whole ≡ true) × (length request.message ≡ request.announced)
 

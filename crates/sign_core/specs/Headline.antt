@@ -29,7 +29,6 @@ pub record LeafUse : Type 0 where
   pub leaf : ℕ
   pub digest : List ℕ
 
--- the use that an LMS signature makes
 abbrev pub lms_use : LmsPublic → (message : List ℕ) → LmsSignature → LeafUse
 lms_use key message s =
     record { identifier = key.identifier; leaf = s.q; digest = q_of key.identifier s.q s.randomizer message }
@@ -87,7 +86,6 @@ pub record WereHanded (world : World) (x y : Handed) (uses others : List LeafUse
   pub first_uses : MakesUses public x.message x.signature uses
   pub second_uses : MakesUses public y.message y.signature others
 
--- Two uses are of one leaf of one tree.
 pub record IsOneLeaf (u v : LeafUse) : Type 0 where
   pub identifier : u.identifier ≡ v.identifier
   pub leaf : u.leaf ≡ v.leaf
@@ -98,7 +96,6 @@ IsLast u uses = (above : List LeafUse) × (uses ≡ above ++ u ∷ [])
 
 -- ---- the law
 
--- What holds of all signatures that were handed out.
 pub record SignsOnce (world : World) : Type 0 where
   -- no leaf at any level signs two digests
   pub one_digest : (x y : Handed) (uses others : List LeafUse) (u v : LeafUse) → WereHanded world x y uses others
@@ -115,6 +112,5 @@ pub record SignsOnce (world : World) : Type 0 where
   pub valid : (x : Handed) → Contains world.handed x
       → (public : AnyPublic) × (public_in_world world ≡ Some public) × IsValidUnder public x.message x.signature
 
--- it holds after every list of events from the beginning
 abbrev pub HeadlineLaw : Type 0
 HeadlineLaw = (limit : ℕ) (events : List Event) → AllEvents events → SignsOnce (run limit beginning events)

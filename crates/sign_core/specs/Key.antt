@@ -29,7 +29,6 @@ KeyHasFault bytes (Unreadable fault) =
     ⊎ ((length bytes ≡ 60) × HasFault hss_public_key bytes 0 fault)
     ⊎ ((length bytes ≡ 68) × HasFault xmss_public_key bytes 0 fault)
 
--- Verification answers what the key's scheme says.
 abbrev pub KeyVerdict : {A : Type 0} → AnyPublic → List ℕ → List ℕ → Result A Refusal → Type 0
 KeyVerdict (Lms key) message bytes result = LmsVerdict key message bytes result
 KeyVerdict (Hss key) message bytes result = HssVerdict key message bytes result

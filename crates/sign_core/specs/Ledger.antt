@@ -29,14 +29,12 @@ pub record Table : Type 0 where
 
 -- ---- maps
 
--- a map from texts
 abbrev pub ByText : Type 0 → Type 0
 ByText V = HashMap (List ℕ) V (BuildHasherDefault FoldHasher)
 
 abbrev pub of_text : {V : Type 0} → ByText V → List ℕ → Option V
 of_text entries text = get (pointwise nat_eq) entries text
 
--- a map from places
 abbrev pub ByPlace : Type 0 → Type 0
 ByPlace V = HashMap ℕ V (BuildHasherDefault FoldHasher)
 
@@ -88,7 +86,6 @@ pub record IsTableOf (records : List Record) (key : Key) (made : ByPlace Made) (
   pub identifiers_are : (identifier : List ℕ)
       → is_some (of_text identifiers identifier) ≡ has_identifier (drop 1 records) identifier
 
--- Extends and Bounds take memory in a ledger.
 abbrev pub TakesMemory : Record → Type 0
 TakesMemory (ExtendRecord extend) = Unit {0}
 TakesMemory (BoundRecord bound) = Unit {0}
@@ -98,7 +95,6 @@ TakesMemory Moved = ⊥
 
 -- ---- records that are taken up
 
--- the number that reports a fault
 abbrev pub fault_number : LedgerFault → ℕ
 fault_number Empty = 40
 fault_number (Illegal k) = 44

@@ -33,7 +33,6 @@ pub record IsPreparedOn {D : Type 0} (d : disk.Ghosts D) (on : D) (store : FileS
   pub running : has_stopped store ≡ false
   pub honest : d.honest (disk_of store) ≡ d.honest on
 
--- the store was opened or prepared
 abbrev pub IsStoreOn : {D : Type 0} (d : disk.Ghosts D) → (on : D) → FileStore D d → Type 0
 IsStoreOn d on store = IsOpenedOn d on store ⊎ IsPreparedOn d on store
 
@@ -111,7 +110,6 @@ abbrev pub left_by_all : {D : Type 0} (d : disk.Ghosts D) → (before : List ℕ
 left_by_all d before [] = before
 left_by_all d before (life ∷ lives) = left_by_all d (left_by d life) lives
 
--- and what has been handed out
 abbrev pub handed_by_all : {D : Type 0} {d : disk.Ghosts D} → (limit : ℕ) → List Handed → List (Life D d) → List Handed
 handed_by_all limit handed [] = handed
 handed_by_all limit handed (life ∷ lives) = handed_by_all limit (handed_by limit handed life) lives
@@ -127,7 +125,6 @@ pub record IsLeftByRun (limit : ℕ) (first : World) (handed : List Handed) (con
 abbrev pub LedTo : (limit : ℕ) → List Handed → List ℕ → Type 0
 LedTo limit handed content = IsLeftByRun limit beginning handed content
 
--- the records of a key of version 1
 abbrev pub CanMigrate : List Record → Type 0
 CanMigrate records = (key : Key) × (key_in records ≡ Some key) × (key.version ≡ One)
 

@@ -15,6 +15,5 @@ pub record IsOnce (limit : ℕ) (world : World) : Type 0 where
   pub retirings : AreRetiringsAnswered limit world
   pub openings : AreOpeningsAnswered world
 
--- it holds after every list of events from the beginning
 abbrev pub OnceLaw : Type 0
 OnceLaw = (limit : ℕ) (events : List Event) → AllEvents events → IsOnce limit (run limit beginning events)

@@ -40,7 +40,6 @@ IsDamagedFor key records (Some (k, bound)) slot =
 IsDamagedFor key records None slot = (level : ℕ) × (deepest key.secret records ≡ Some level)
     × IsFirstDamaged key records level (tree_before level records (length records)) slot
 
--- What holds over well-formed records.
 pub record OpenedLaw : Type 0 where
   -- they are opened, where nothing fails
   pub reopens : (state : State) → AreWellFormed state.records → Reopens state

@@ -28,7 +28,6 @@ pub record Reopens (state : State) : Type 0 where
   pub keyed : public_of_key (key_in state.records) ≡ Some public
   pub opens : opened state None ≡ answered (open_on state.records) public
 
--- What creates and openings answer in a world, and on which records.
 pub record AreOpeningsAnswered (world : World) : Type 0 where
   -- a create where no record stands begins a key and answers its public key, where nothing fails
   pub begins : (spec : Spec) (secret : Secret) (chance : Creation) → IsSpec spec → world.state.records ≡ []

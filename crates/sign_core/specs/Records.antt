@@ -127,11 +127,9 @@ wanted_count secret level = levels_of secret - level
 
 -- ---- what is bound
 
--- whether two lists of bytes are equal
 abbrev pub are_same : List ℕ → List ℕ → Bool
 are_same a b = pointwise nat_eq a b
 
--- whether a record binds a name
 abbrev pub binds : (name : List ℕ) → Record → Option Bound
 binds name (BoundRecord bound) = if are_same bound.name name then Some bound else None
 binds name (KeyRecord key) = None
@@ -156,12 +154,10 @@ binding_in records name = bound_from name 0 records
 abbrev pub is_long : Key → (name : List ℕ) → Bool
 is_long key name = nat_lt (name_most key.version) (length name)
 
--- whether a record makes a tree of this I
 abbrev pub is_of : (identifier : List ℕ) → Option (List ℕ) → Bool
 is_of identifier None = false
 is_of identifier (Some other) = are_same other identifier
 
--- whether one of the records does
 abbrev pub has_identifier : List Record → (identifier : List ℕ) → Bool
 has_identifier records identifier = is_some (find (λ entry. is_of identifier (identifier_of entry)) records)
 

@@ -67,11 +67,9 @@ RefusesRepeat state key k bound chance =
     (Unless (Of OutOfMemory (chance.has_room ≡ false))
     (Unless (IsUnsound (damaged_in key bottom state.records (tree_before bottom state.records k))) IsOk)))
 
--- no level has a free leaf
 abbrev pub HasNoLeaf : Secret → List Record → Type 0
 HasNoLeaf secret records = (level : ℕ) → level < levels_of secret → free_at secret records level ≡ 0
 
--- this is drawn first
 abbrev pub BeginsWith : (fields : List (List ℕ)) → (identifier : List ℕ) → Type 0
 BeginsWith fields identifier = (others : List (List ℕ)) × (fields ≡ identifier ∷ others)
 

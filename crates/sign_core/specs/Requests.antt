@@ -24,7 +24,6 @@ use Rattle.sign_core.specs.Headline.{IsBoundTo}
 
 -- ---- draws without a failure
 
--- as many fields as sizes, and an append that is acknowledged
 pub record IsComplete (sizes : List ℕ) (draw : Draw) : Type 0 where
   pub fields : length draw.fields ≡ length sizes
   pub acknowledged : draw.fate ≡ acked
@@ -57,7 +56,6 @@ pub record BindsName (key : Key) (before : List Record) (name message : List ℕ
   pub randomizer : randomizer_from key.secret fields ≡ Some bound.randomizer
   pub digest : bound.digest ≡ digest_at key before (length before) bound.leaf bound.randomizer message
 
--- all fields of some draws, one after the other
 abbrev pub bytes_drawn : List Draw → List ℕ
 bytes_drawn draws = concat (map (λ (draw : Draw). concat draw.fields) draws)
 
@@ -99,7 +97,6 @@ pub record DrewAgain (before : List Record) (draws : List Draw) (left : List Rec
 
 -- ---- the law
 
--- What requests answer in a world, and what they change.
 pub record AreRequestsAnswered (limit : ℕ) (world : World) : Type 0 where
   -- what a request answers is handed out
   pub counted : (name message signature : List ℕ) (chance : Chance) → chance.given ≡ Some message

@@ -9,7 +9,6 @@ use Rattle.sign_core.specs.declared.fault.SignFault.TheVariants.{StoreFailed}
 use Rattle.sign_core.specs.Records.{has_moved, key_in, leaves_of_current, next_at}
 use Rattle.sign_core.specs.World.{Fate, State, World, acked, no_memory, answered, open_on, refused, retired}
 
--- A signer is open on these records of the key, and they don't go on elsewhere.
 pub record IsActive (state : State) (key : Key) : Type 0 where
   pub is_open : state.is_open ≡ true
   pub stays : has_moved state.records ≡ false
@@ -20,7 +19,6 @@ pub record IsBeyondNext (records : List Record) (key : Key) (upto : ℕ) : Type 
   pub inside : upto ≤ leaves_of_current key.secret records (bottom_of key.secret)
   pub beyond : next_at key.secret records (bottom_of key.secret) < upto
 
--- What retirings answer in a world, and what they change.
 pub record AreRetiringsAnswered (limit : ℕ) (world : World) : Type 0 where
   -- a retiring beyond the next leaf is recorded, if the tree has these leaves, the store has room and nothing fails
   pub retires : (key : Key) (upto : ℕ) → world.state.is_open ≡ true → has_moved world.state.records ≡ false

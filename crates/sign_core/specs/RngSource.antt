@@ -5,6 +5,5 @@ use Rattle.sign_core.specs.declared.rng_source.RngSource.{RngSource}
 abbrev pub rng_of : {T E : Type 0} → RngSource T E → T
 rng_of source = source.rng
 
--- how often it has failed
 abbrev pub rng_failures_of : {T E : Type 0} → RngSource T E → ℕ
 rng_failures_of source = source.failures

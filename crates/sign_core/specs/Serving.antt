@@ -38,7 +38,6 @@ reply_bytes Signed signature = reply_frame 0 signature
 reply_bytes (Refused fault) signature = reply_frame (number_of fault) (body_of fault)
 reply_bytes BadName signature = reply_frame 34 []
 
--- a request and its reply
 pub record Exchange : Type 0 where
   pub request : Request
   pub reply : Reply
@@ -74,7 +73,6 @@ AnswersExchange g r exchange old new capacity after =
     KeepsCapacity old.records capacity after
     × AnswersBy g r exchange.reply exchange.signature exchange.request old new capacity
 
--- Requests are answered one after the other.
 abbrev pub AnswersInTurn : {S R : Type 0} → store.Ghosts S → source.Ghosts R → List Exchange → (old new : View S R)
     → (capacity after : ℕ) → Type 0
 AnswersInTurn g r [] old new capacity after = (new ≡ old) × (after ≡ capacity)

@@ -63,11 +63,9 @@ view_of store random ledger caches is_open = record {
   cached = caches;
 }
 
--- the same signer with other caches
 abbrev pub caching : {S R : Type 0} → View S R → Cached → View S R
 caching view caches = record view { cached = caches }
 
--- its state in the world
 abbrev pub state_of : {S R : Type 0} → View S R → State
 state_of view = record { records = view.records; is_open = view.is_open }
 
@@ -296,7 +294,6 @@ abbrev pub store_after : {S R : Type 0} → Result (View S R) (Refused (S × R) 
 store_after (Ok signer) = signer.store
 store_after (Err refused) = refused.given.0
 
--- the source afterwards
 abbrev pub random_after : {S R : Type 0} → Result (View S R) (Refused (S × R) SignFault) → R
 random_after (Ok signer) = signer.random
 random_after (Err refused) = refused.given.1

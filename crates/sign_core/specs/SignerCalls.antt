@@ -17,7 +17,6 @@ use Rattle.sign_core.specs.Signer.{Creates, IsSigner, Opens, Retires, Signs, Vie
 use Rattle.sign_core.specs.World.{Event, Handed, State, World, after, closed_on, create, reopen, request, retire}
 use Rattle.state_file.specs.declared.record.Version.{Version}
 
--- a state of the world in which this was handed out
 abbrev pub world_of : State → List Handed → World
 world_of state handed = record { state = state; handed = handed }
 
@@ -70,18 +69,15 @@ pub record OpensInWorld {S R : Type 0} (g : store.Ghosts S) (records : List Reco
   pub leaves : OpensIn g result (after (g.most kept_in) (world_of (closed_on records) handed) event)
   pub hands : (after (g.most kept_in) (world_of (closed_on records) handed) event).handed ≡ handed
 
--- The store runs, and keeps what was synced.
 pub record IsRunning {S : Type 0} (g : store.Ghosts S) (kept_in : S) : Type 0 where
   pub running : g.stopped kept_in ≡ false
   pub honest : IsTrue (g.honest kept_in)
 
--- The signer is open, and its store keeps what was synced.
 pub record IsOpenSigner {S R : Type 0} (g : store.Ghosts S) (view : View S R) : Type 0 where
   pub signer : IsSigner g view
   pub is_open : view.is_open ≡ true
   pub honest : IsTrue (g.honest view.store)
 
--- Neither the signer nor the world's is open.
 pub record AreClosed {S R : Type 0} (view : View S R) (world : World) : Type 0 where
   pub is_closed : view.is_open ≡ false
   pub none_open : world.state.is_open ≡ false

@@ -16,10 +16,8 @@ Fills before after upcoming left bytes (Err _) = (after ≡ before + 1) × (left
 
 -- ---- a `TapeSource`
 
--- the bytes that are left
 abbrev pub left_in : TapeSource → List ℕ
 left_in source = source.bytes.now
 
--- how often it has failed
 abbrev pub tape_failures_of : TapeSource → ℕ
 tape_failures_of source = source.failures

@@ -82,7 +82,6 @@ signings_above trees (suc level) records tree =
     let parent = tree_before level records tree in
     signings_above trees level records parent ++ signing_by trees records parent (slice_get records tree)
 
--- a binding's signing in a bottom tree
 abbrev pub signing_of_bound : Trees → List Record → (tree : ℕ) → Bound → Signing
 signing_of_bound trees records tree bound = record {
   secret = secret_at trees records tree;
@@ -101,7 +100,6 @@ trees_of (Hss (pair ∷ rest) identifier seed) =
     Some (record { top = lms_secret pair identifier seed; pairs = pair ∷ rest })
 trees_of (Xmss secret) = None
 
--- the public key in a Key
 abbrev pub lms_public_in : LmsPair → (identifier root : List ℕ) → LmsPublic
 lms_public_in pair identifier root = record { pair = pair; identifier = identifier; root = root }
 
@@ -191,7 +189,6 @@ is_sound_at key records k = is_sound_record key records k (slice_get records k)
 abbrev pub damaged_in : Key → (level : ℕ) → List Record → (tree : ℕ) → Option ℕ
 damaged_in key level records tree = find (λ k. not (is_sound_at key records k)) (chain level records tree)
 
--- All records are sound, and legal.
 pub record AreSound (records : List Record) : Type 0 where
   pub legal : IsLegal records
   pub key : Key
@@ -207,7 +204,6 @@ SecretHasSizes (Hss levels identifier seed) = (length identifier ≡ 16) × (len
 SecretHasSizes (Xmss secret) =
     (length secret.secret_seed ≡ 32) × (length secret.prf_key ≡ 32) × (length secret.public_seed ≡ 32)
 
--- the parts of a record have their sizes in bytes
 abbrev pub HasSizes : Record → Type 0
 HasSizes (KeyRecord key) = SecretHasSizes key.secret × (length key.root ≡ 32)
 HasSizes (ExtendRecord extend) = (length extend.identifier ≡ 16) × (length extend.seed ≡ 32)

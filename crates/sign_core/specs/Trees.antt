@@ -5,16 +5,13 @@ use Rattle.state_file.specs.declared.record.Secret.{Secret}
 use Rattle.sign_core.specs.Records.{current, next_in}
 use Rattle.sign_core.specs.declared.trees.Tree.{Tree}
 
--- a tree with its next leaf
 abbrev pub with_next : Secret → List Record → Option ℕ → Option Tree
 with_next secret records None = None
 with_next secret records (Some place) = Some (record { place = place; next = next_in secret records place })
 
--- the current tree of a level, with its next leaf
 abbrev pub tree_at : Secret → List Record → (level : ℕ) → Option Tree
 tree_at secret records level = with_next secret records (current level records)
 
--- the tree that is kept for a level
 abbrev pub kept_at : List (Option Tree) → (level : ℕ) → Option Tree
 kept_at levels level = slice_index_or levels level None
 

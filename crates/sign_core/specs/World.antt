@@ -34,7 +34,6 @@ use Rattle.sign_core.specs.Textbook.{signature_at, tree_before, trees_of}
 
 -- ---- states and outcomes
 
--- the records, and whether a signer is open on them
 pub record State : Type 0 where
   pub records : List Record
   pub is_open : Bool
@@ -50,22 +49,18 @@ pub record Outcome (A : Type 0) : Type 0 where
   pub drawn : List ℕ
   pub is_read : Bool
 
--- a refusal that leaves the state
 abbrev pub refused : {A : Type 0} → State → SignFault → Outcome A
 refused state fault =
     let records = state.records in
     record { state = state; answer = Err fault; acknowledged = records; failed = None; drawn = []; is_read = false }
 
--- an answer that leaves the state
 abbrev pub answered : {A : Type 0} → State → A → Outcome A
 answered state a =
     record { state = state; answer = Ok a; acknowledged = state.records; failed = None; drawn = []; is_read = false }
 
--- a signer is open on the records
 abbrev pub open_on : List Record → State
 open_on records = record { records = records; is_open = true }
 
--- no signer is open
 abbrev pub closed_on : List Record → State
 closed_on records = record { records = records; is_open = false }
 
@@ -80,11 +75,9 @@ cut acknowledged entry left = record {
   is_read = false;
 }
 
--- these bytes are drawn, and then this comes
 abbrev pub drawing : {A : Type 0} → List ℕ → Outcome A → Outcome A
 drawing bytes outcome = record outcome { drawn = bytes ++ outcome.drawn }
 
--- the message is read, and then this comes
 abbrev pub reading : {A : Type 0} → Outcome A → Outcome A
 reading outcome = record outcome { is_read = true }
 
@@ -132,7 +125,6 @@ the_state state rest = rest state state
 abbrev pub the_records : {B : Type 0} → Step B (List Record)
 the_records state rest = rest state.records state
 
--- the value, or a refusal where there is none
 abbrev pub some_or : {B A : Type 0} → SignFault → Option A → Step B A
 some_or fault None state rest = refused state fault
 some_or fault (Some a) state rest = rest a state
@@ -143,16 +135,13 @@ refuse_if fault wrong state rest = if wrong then refused state fault else rest t
 abbrev pub refuse_unless : {B : Type 0} → SignFault → Bool → Step B (Unit {0})
 refuse_unless fault right state rest = if not right then refused state fault else rest tt state
 
--- the event ends here with this answer, or it goes on
 abbrev pub answer_if : {B : Type 0} → B → Bool → Step B (Unit {0})
 answer_if answer done state rest = if done then answered state answer else rest tt state
 
--- the refusal, if there is one
 abbrev pub refuse_with : {B : Type 0} → Option SignFault → Step B (Unit {0})
 refuse_with (Some fault) state rest = refused state fault
 refuse_with None state rest = rest tt state
 
--- the signer is closed, or open, from here on
 abbrev pub close : {B : Type 0} → Step B (Unit {0})
 close state rest = rest tt (closed_on state.records)
 
@@ -163,7 +152,6 @@ open_signer state rest = rest tt (open_on state.records)
 abbrev pub draw : {B A : Type 0} → (made : Option A) → (fields : List (List ℕ)) → Step B A
 draw made fields state rest = drawing (concat fields) (some_or RandomFailed made state rest)
 
--- the message is read, or its reader failed
 abbrev pub read : {B : Type 0} → Option (List ℕ) → Step B (List ℕ)
 read None state rest = reading (refused state MessageRead)
 read (Some message) state rest = reading (rest message state)
@@ -193,7 +181,6 @@ secret_from (XmssSpec tree) (secret_seed ∷ prf_key ∷ public_seed ∷ []) =
     Some (Xmss (record { tree = tree; secret_seed = secret_seed; prf_key = prf_key; public_seed = public_seed }))
 secret_from (XmssSpec tree) fields = None
 
--- the key with this secret, in a file of this version
 abbrev pub new_key : Version → Secret → Key
 new_key version secret = record { version = version; secret = secret; root = root_by secret }
 
@@ -263,7 +250,6 @@ abbrev pub later_draws : List Draw → List Draw
 later_draws [] = []
 later_draws (draw ∷ draws) = draws
 
--- the fields after the first one
 abbrev pub later_fields : List (List ℕ) → List (List ℕ)
 later_fields [] = []
 later_fields (field ∷ fields) = fields
@@ -303,7 +289,6 @@ extend_record trees records level secret randomizer leaf =
       root = public.root;
     })
 
--- I of a new tree
 abbrev pub draw_identifier : {B : Type 0} → (fields : List (List ℕ)) → Step B (List ℕ)
 draw_identifier [] state rest = refused state RandomFailed
 draw_identifier (identifier ∷ fields) state rest = drawing identifier (rest identifier state)
@@ -341,7 +326,6 @@ randomizer_from (Hss levels identifier seed) fields = None
 randomizer_from (Xmss secret) [] = Some (replicate 32 0)
 randomizer_from (Xmss secret) fields = None
 
--- the binding of a name to a leaf and to the message's digest under it
 abbrev pub new_bound : Key → List Record → (name : List ℕ) → (leaf : ℕ) → (randomizer message : List ℕ) → Bound
 new_bound key records name leaf randomizer message = record {
   name = name;
@@ -350,7 +334,6 @@ new_bound key records name leaf randomizer message = record {
   digest = digest_at key records (length records) leaf randomizer message;
 }
 
--- The name is bound: C is drawn, the message is read, the record is appended.
 abbrev pub bind : Key → (name : List ℕ) → Chance → Step (List ℕ) (List ℕ)
 bind key name chance = do
   old ← the_records
@@ -400,7 +383,6 @@ retired limit state upto fate = event (do
 
 -- ---- whole runs
 
--- a signature that was handed out, for a name and a message
 pub record Handed : Type 0 where
   pub name : List ℕ
   pub message : List ℕ
@@ -410,7 +392,6 @@ pub record World : Type 0 where
   pub state : State
   pub handed : List Handed
 
--- no records, closed, nothing handed out
 abbrev pub beginning : World
 beginning = record { state = closed_on []; handed = [] }
 
@@ -443,7 +424,6 @@ pub data Event : Type 0 where
   migrate : Migration → Event
   stop : Event
 
--- what is handed out with an answer
 abbrev pub handed_with : (name : List ℕ) → (given : Option (List ℕ)) → Result (List ℕ) SignFault → List Handed
 handed_with name (Some message) (Ok signature) =
     record { name = name; message = message; signature = signature } ∷ []
@@ -464,7 +444,6 @@ after limit world (retire upto fate) =
 after limit world (migrate fate) = record { state = migrated world.state fate; handed = world.handed }
 after limit world stop = record { state = closed_on world.state.records; handed = world.handed }
 
--- all events, one after the other
 abbrev pub run : (limit : ℕ) → World → List Event → World
 run limit world [] = world
 run limit world (event ∷ events) = run limit (after limit world event) events

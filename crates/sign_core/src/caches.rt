@@ -174,7 +174,6 @@ impl Caches {
         }
     }
 
-    /// Takes all caches out, so that none is left.
     pub(crate) fn take(&mut self) -> Self
         ensures { result ≡ self.old }
     {

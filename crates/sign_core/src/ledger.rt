@@ -66,7 +66,6 @@ pub(crate) struct Binding {
     pub(crate) tree: u32,
 }
 
-// Whether records of this version may go on in another file.
 fn can_move(version: Version) -> bool
     ensures { result ≡ can_move version }
 {
@@ -242,7 +241,6 @@ impl Ledger {
         *moved
     }
 
-    /// The tree of the Extend at a place.
     pub(crate) fn made(&self, place: u32) -> Option<Made>
         ensures { result ≡ made_at self.now.records place }
     {

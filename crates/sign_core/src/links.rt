@@ -104,7 +104,6 @@ impl Link {
     ghost use Rattle.hss.specs.Secret.{signing_of};
     ghost use Rattle.sign_core.specs.inner.Links.{IsMade, signing_of_link};
 
-    /// The link as a level of a signature.
     pub(crate) fn level(&self) -> Level<'_>
         requires { IsMade self.now.tree }
         ensures signing { signing_of result ≡ signing_of_link self.now }

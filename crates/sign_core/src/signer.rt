@@ -196,7 +196,6 @@ fn load_at<S: Store>(store: &mut S, slot: u32) -> Result<Option<Record>, SignFau
     }
 }
 
-// Loads the key, record 0.
 fn load_key<S: Store>(store: &mut S) -> Result<Key, SignFault>
     ensures loads { IfOk result (λ key. LoadsRecord S.Store store.old store.new 0 (Ok (Some (KeyRecord key)))) }
     ensures sizes { IfOk result (λ key. HasSizes (KeyRecord key)) }
@@ -371,7 +370,6 @@ impl<S: Store, R: Source> Signer<S, R> {
         Ok(())
     }
 
-    // Appends a record to the store, and adds it to the ledger.
     fn add(&mut self, entry: Record) -> Result<(), SignFault>
         requires open { self.old.is_open ≡ true }
         requires follows { can_follow (key_in self.old.records) self.old.records entry ≡ true }

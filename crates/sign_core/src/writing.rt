@@ -122,7 +122,6 @@ struct LinkLevels<'a> {
 impl<'a> LinkLevels<'a> {
     ghost use Rattle.sign_core.specs.inner.Writing.{AreLevelsOf};
 
-    // The levels of 1 to 8 links, in their order.
     fn of(links: &'a [Link]) -> Self
         requires some { 0 < length links.now }
         requires few { length links.now ≤ 8 }

@@ -3,7 +3,6 @@ use Rattle.std.specs.Prelude.{Bool, true, false}
 use Rattle.sign_core.specs.declared.fault.SignFault.{SignFault}
 use Rattle.sign_core.specs.declared.fault.SignFault.TheVariants.{StoreFailed}
 
--- whether a signer is closed after this answer
 abbrev pub closes : SignFault → Bool
 closes StoreFailed = true
 closes _ = false

@@ -30,7 +30,6 @@ ReadsField m layout view old new (Err MessageRead) =
     (bytes : List ℕ) × CutsField layout bytes × ReadsInput m bytes broken old new
 ReadsField m layout view old new (Err WriteFailed) = ⊥
 
--- the bytes of a name, and what a head says
 abbrev pub bytes_of : ArrayVec ℕ 255 (Unit {0}) → List ℕ
 bytes_of name = name.items
 

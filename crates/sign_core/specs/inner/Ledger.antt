@@ -21,7 +21,6 @@ pub record Stays (old new : Table) : Type 0 where
   pub records : new.records ≡ old.records
   pub spare : old.spare ≤ new.spare
 
--- One more record can be counted, and there is memory for it.
 pub record HasRoomForOne (entry : Record) (table : Table) : Type 0 where
   pub few : length table.records < 2 ^ 32 - 1
   pub room : TakesMemory entry → 0 < table.spare

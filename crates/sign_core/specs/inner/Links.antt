@@ -17,7 +17,6 @@ use Rattle.sign_core.specs.declared.links.SigningTree.{SigningTree}
 use Rattle.sign_core.specs.Records.{are_same}
 use Rattle.sign_core.specs.Textbook.{Trees, trees_of}
 
--- the trees of a key
 abbrev pub trees_in : KeyTrees → Trees
 trees_in trees = record { top = trees.top; pairs = trees.levels }
 
@@ -31,7 +30,6 @@ IsTreeAt records zero place = place ≡ 0
 IsTreeAt records (suc level) place =
     (extend : Extend) × (slice_get records place ≡ Some (ExtendRecord extend)) × (extend.level ≡ suc level)
 
--- the signing of a tree's leaf
 abbrev pub signing_with : LmsSecret → (leaf : ℕ) → (randomizer digest : List ℕ) → Signing
 signing_with secret leaf randomizer digest =
     record { secret = secret; leaf = leaf; randomizer = randomizer; digest = digest }
@@ -39,7 +37,6 @@ signing_with secret leaf randomizer digest =
 abbrev pub signing_of_link : Link → Signing
 signing_of_link link = signing_with link.tree.secret link.tree.leaf link.randomizer link.digest
 
--- the signings of a chain's trees
 abbrev pub signings_of : List Link → List Signing
 signings_of links = map signing_of_link links
 

@@ -34,7 +34,6 @@ pub record ReadsRecords {D A : Type 0} (d : disk.Ghosts D) (old new : FileStore 
   pub counts : CountsFailures d is_failed_migration (disk_of old) (disk_of new) answer
   pub running : OnOk answer (has_stopped new ≡ false)
 
--- What the load of record k finds.
 abbrev pub FindsRecord : (honest : Bool) → List Record → (k : ℕ) → Result (Option Record) MigrateFault → Type 0
 FindsRecord honest list k (Ok None) = length list ≤ k
 FindsRecord honest list k (Ok (Some entry)) = (k < length list) × IsRecordAt honest list k entry

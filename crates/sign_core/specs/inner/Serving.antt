@@ -72,7 +72,6 @@ Asks g r m name old new before after capacity signature (Refused fault) = IsName
 Asks g r m name old new before after capacity signature BadName =
     (IsName name → ⊥) × (new ≡ old) × (after ≡ before)
 
--- whether a reply says that the message can't be read
 abbrev pub is_unread : Reply → Bool
 is_unread (Refused fault) = is_message_read fault
 is_unread _ = false

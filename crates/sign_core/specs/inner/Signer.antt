@@ -28,12 +28,10 @@ use Rattle.sign_core.specs.Textbook.{public_in}
 use Rattle.sign_core.specs.Signer.{View, is_random_failed, UsesMemory, unreadable_slot, state_of, is_store_failed}
 use Rattle.sign_core.specs.Signer.{is_out_of_memory, is_device_failed, LeavesOld, Ends}
 
--- a call failed before
 abbrev pub is_stopped : SignFault → Bool
 is_stopped Stopped = true
 is_stopped _ = false
 
--- memory was refused while the records were read
 abbrev pub is_no_memory : SignFault → Bool
 is_no_memory NoMemoryToOpen = true
 is_no_memory _ = false
@@ -55,7 +53,6 @@ abbrev pub LeavesEither : {S : Type 0} → store.Ghosts S → (old new : S) → 
 LeavesEither g old new entry = WhileRunning (g.honest old) (g.stopped old)
     (LeavesOnly g.moment g.left_since old new (λ left. (left ≡ g.list old) ⊎ (left ≡ g.list old ++ entry ∷ [])))
 
--- everything that an append does
 pub record IsAppended {S A : Type 0} (g : store.Ghosts S) (old new : S) (entry : Record) (answer : Result A SignFault)
     : Type 0 where
   pub running : g.stopped old ≡ false
@@ -67,7 +64,6 @@ pub record IsAppended {S A : Type 0} (g : store.Ghosts S) (old new : S) (entry :
   pub honest : g.honest new ≡ g.honest old
   pub most : g.most new ≡ g.most old
 
--- a record is added, and nothing answered
 abbrev pub added : State → Record → Fate → Outcome (Unit {0})
 added state entry fate = appended state entry fate (λ records. answered (open_on records) tt)
 
@@ -109,7 +105,6 @@ FindsNone list honest old_stopped new_stopped before after (Err OutOfMemory) =
     (old_stopped ≡ false) × (after ≡ before)
 FindsNone list honest old_stopped new_stopped before after (Err _) = ⊥
 
--- everything that looking for a key does
 pub record LooksForKey {S A : Type 0} (g : store.Ghosts S) (old new : S) (answer : Result A SignFault) : Type 0 where
   pub finds : FindsNone (g.list old) (g.honest old) (g.stopped old) (g.stopped new) (g.failures old) (g.failures new)
       answer
@@ -128,7 +123,6 @@ IsDrawn spec fields (Ok secret) = secret_from spec fields ≡ Some secret
 IsDrawn spec fields (Err RandomFailed) = secret_from spec fields ≡ None
 IsDrawn spec fields (Err _) = ⊥
 
--- what drawing a secret does
 pub record DrawsSecret {R : Type 0} (r : source.Ghosts R) (spec : Spec) (old new : R) (answer : Result Secret SignFault)
     : Type 0 where
   pub fields : List (List ℕ)
@@ -160,7 +154,6 @@ LoadsAt honest list old_stopped k new_stopped before after (Err NoMemoryToOpen) 
     (old_stopped ≡ false) × (after ≡ before)
 LoadsAt honest list old_stopped k new_stopped before after (Err _) = ⊥
 
--- everything that the load of record k does
 pub record LoadsRecord {S : Type 0} (g : store.Ghosts S) (old new : S) (k : ℕ)
     (answer : Result (Option Record) SignFault) : Type 0 where
   pub loads : LoadsAt (g.honest old) (g.list old) (g.stopped old) k (g.stopped new) (g.failures old) (g.failures new)

@@ -35,7 +35,6 @@ use Rattle.sign_core.specs.Caches.{Cached, LacksCache}
 use Rattle.sign_core.specs.Ledger.{binding_kept}
 use Rattle.sign_core.specs.Signing.{UnderKey, answered_with, KeepsCapacity}
 
--- the types of the trees of links
 abbrev pub pairs_of : List Link → List LmsPair
 pairs_of links = map (λ link. link.tree.secret.pair) links
 
@@ -177,11 +176,9 @@ pub record Repeats {M : Type 0} (m : message.Ghosts M) (state : State) (cached :
   pub room : (k : ℕ) (bound : Bound) → binding_in state.records name ≡ Some (k, bound) → has_room ≡ false
       → (capacity < signature_size key.secret) ⊎ LacksCache key state.records (Some (bottom_of key.secret)) k cached
 
--- The binding is this name's.
 abbrev pub IsBindingOf : List Record → Binding → Key → (name : List ℕ) → Type 0
 IsBindingOf records binding key name = binding_kept key.secret records name ≡ Some binding
 
--- The binding is some name's.
 abbrev pub IsSomeBinding : List Record → Binding → Type 0
 IsSomeBinding records binding = UnderKey records (λ key. (name : List ℕ) × IsBindingOf records binding key name)
 

@@ -11,7 +11,6 @@ use Rattle.state_file.specs.declared.record.Secret.TheVariants.{Lms, Hss, Xmss}
 use Rattle.sign_core.specs.declared.links.Link.{Link}
 use Rattle.sign_core.specs.inner.Links.{signing_of_link}
 
--- the types of the trees that sign
 abbrev pub types_of : List Signing → List LmsPair
 types_of signings = map (λ signing. signing.secret.pair) signings
 

@@ -29,7 +29,6 @@ fn load_slot<D: Disk + Drop>(
     }
 }
 
-// Loads the key, record 0, and takes it up.
 fn begin_ledger<D: Disk + Drop>(
     alloc: Global,
     store: &mut FileStore<D>,
@@ -60,7 +59,6 @@ fn take_next(ledger: &mut Ledger, entry: &Record) -> Result<(), MigrateFault>
     })
 }
 
-// Loads all records in their order, and takes them up.
 fn load_ledger<D: Disk + Drop>(
     alloc: Global,
     store: &mut FileStore<D>,
