@@ -261,18 +261,17 @@ levels_range records key n sizes keyed is = by_secret key.secret (key_has_sizes 
 
 -- ---- what an append requires
 
--- a record that their file can hold can follow records that aren't empty
+-- records that aren't empty can be followed by a record that their file can hold
 follows_some : (records : List Record) (entry : Record) → 0 < length records → FitsVersion (version_in records) entry → CanFollow records entry
 follows_some [] entry some fits = absurd (omega (arith, some))
 follows_some (first ∷ rest) entry some fits = fits
 
--- and those of an honest store
+-- and so can an honest store's list
 pub follows_tied : {S : Type 0} (g : store.Ghosts S) (kept_in : S) (records : List Record) (entry : Record) (key : Key) → key_in records ≡ Some key
     → IsTied g kept_in records → FitsVersion (version_in records) entry → IsTrue (g.honest kept_in) → CanFollow (g.list kept_in) entry
 follows_tied g kept_in records entry key keyed tied fits honest =
     subst (λ list. CanFollow list entry) (sym (tied.same honest)) (follows_some records entry (some_records records key keyed) fits)
 
--- a Key can follow an empty list
 pub follows_none : (list : List Record) (key : Key) → length list ≡ 0 → CanFollow list (KeyRecord key)
 follows_none [] key none = refl
 follows_none (first ∷ rest) key none = absurd (omega (arith, none))

@@ -75,7 +75,6 @@ module _ (key : Key) (name : List ℕ) where
   abbrev Quiet : (level : ℕ) → List Record → Chance → Outcome (List ℕ) → Type 0
   Quiet level before chance outcome = IsRefusal outcome → LeavesTrees key before level name chance outcome
 
-  -- no tree was begun
   none : (level : ℕ) (records : List Record) (chance : Chance) (outcome : Outcome (List ℕ))
       → Leaves records (IsNextWanted key records level name chance []) outcome
       → LeavesTrees key records level name chance outcome
@@ -422,7 +421,6 @@ module _ (state : State) (spec : Spec) (chance : Creation) (can : IsSpec spec) (
   abbrev QuietHere : Outcome AnyPublic → Type 0
   QuietHere outcome = QuietIn state.records (IsDrawnKey chance.version spec chance.fields outcome.drawn) outcome
 
-  -- the Key of the secret of these fields
   abbrev IsKeyOf : Record → Type 0
   IsKeyOf entry =
       (secret : Secret) × (secret_from spec chance.fields ≡ Some secret) × (entry ≡ KeyRecord (new_key chance.version secret))
@@ -455,7 +453,6 @@ module _ (state : State) (spec : Spec) (chance : Creation) (can : IsSpec spec) (
       (append_quiet state (KeyRecord key) chance.fate next (secret, is, refl)
       (published_never (state.records ++ KeyRecord key ∷ []) (public_in key) public has))
 
-  -- nothing is drawn after the fields
   draws_nothing : (found : Option Secret) → (begun state chance found).drawn ≡ []
   draws_nothing None = refl
   draws_nothing (Some secret) = by_room chance.has_room

@@ -87,7 +87,6 @@ current_new level above records extend of parent =
     (tell_same (current level (take (length records) (records ++ ExtendRecord extend ∷ [])))
     (current level (records ++ ExtendRecord extend ∷ [])) above there here)
 
--- with no tree above there is none below
 under_none : (above : List Record → Option ℕ) (records : List Record) (found : Option ℕ) → above records ≡ None → under above records found ≡ None
 under_none above records None none = refl
 under_none above records (Some j) none =
@@ -97,7 +96,6 @@ under_none above records (Some j) none =
     apart None = refl
     apart (Some tree) = refl
 
--- a tree that is current was made before the end
 pub tree_within : (records : List Record) (level tree : ℕ) → 0 < length records → current level records ≡ Some tree → tree < length records
 tree_within records zero tree some is = omega (arith, some, same_Some 0 tree is)
 tree_within records (suc level) tree some is = let (last, parent) = current_is (suc level) records tree is in last.before
@@ -218,12 +216,10 @@ pub next_new : (secret : Secret) (records : List Record) (entry : Record) → 0 
 next_new secret records entry some =
     next_unmade secret (records ++ entry ∷ []) (length records) some (omega (arith, length_push records entry))
 
--- a record that reaches no number in a tree leaves its next leaf
 pub next_kept : (secret : Secret) (records : List Record) (entry : Record) (tree : ℕ) → number_in tree (reaches secret records entry) ≡ 0
     → next_in secret (records ++ entry ∷ []) tree ≡ next_in secret records tree
 next_kept secret records entry tree none = omega (arith, next_appended secret records entry tree, none)
 
--- a record that reaches a number in a tree raises it to that
 pub next_raised : (secret : Secret) (records : List Record) (entry : Record) (tree n : ℕ) → reaches secret records entry ≡ Some (tree, n)
     → next_in secret (records ++ entry ∷ []) tree ≡ max (next_in secret records tree) n
 next_raised secret records entry tree n reached =

@@ -28,7 +28,6 @@ is_tried {S = S} {R = R} g old new entry answer adds Kept = by_fate adds.fate ad
     by_fate cut_new ends = λ same none. absurd (true≢false (ap (is_fault is_of_append) ends.answer_is ∙ none))
     by_fate no_memory ends = λ same none. absurd (true≢false (ap (is_fault is_of_append) ends.answer_is ∙ none))
 
--- An append's answer comes after all draws.
 pub comes_after_draws : {S R : Type 0} (g : store.Ghosts S) (old new : View S R) (entry : Record) (answer : Result (Unit {0}) SignFault) → Adds g old new entry answer
     → is_fault is_before_draws answer ≡ false
 comes_after_draws {S = S} {R = R} g old new entry answer adds = by_fate adds.fate adds.ends
@@ -45,7 +44,6 @@ pub same_fault : {B : Type 0} (is_kind : SignFault → Bool) (answer : Result (U
 same_fault is_kind (Ok done) value = refl
 same_fault is_kind (Err fault) value = refl
 
--- After Ok the record stands at the end.
 pub added_records : {S R : Type 0} (g : store.Ghosts S) (old new : View S R) (entry : Record) (answer : Result (Unit {0}) SignFault) (done : Unit {0})
     → Adds g old new entry answer → answer ≡ Ok done → new.records ≡ old.records ++ entry ∷ []
 added_records {S = S} {R = R} g old new entry answer done adds is = by_fate adds.fate adds.ends

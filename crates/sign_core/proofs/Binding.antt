@@ -141,7 +141,7 @@ module _ {S R M : Type 0} (g : store.Ghosts S) (r : source.Ghosts R) (m : messag
   read_by entry sign drawn cut_new = refl
   read_by entry sign drawn no_memory = refl
 
-  -- and its end
+  -- an append's end, after the draws and the reading
   ends_added : {caches : Cached} (new : View S R) (entry : Record) (sign : List Record → List ℕ) (drawn : List ℕ) (a : Result (Unit {0}) SignFault) (fate : Fate) → is_open ≡ true
       → Ends g (view_of kept_in mid ledger caches is_open) new (added (state_of (view_of kept_in mid ledger caches is_open)) entry fate) a
       → Ends g (view_of kept_in random ledger caches is_open) new (append_so entry sign drawn fate) (answered_with a (sign (ledger.records ++ entry ∷ [])))
@@ -183,7 +183,6 @@ module _ {S R M : Type 0} (g : store.Ghosts S) (r : source.Ghosts R) (m : messag
     stays = λ same none. is_tried g (view_of kept_in mid ledger caches is_open) new entry a adds (new.store ≡ kept_in) same (sym (same_fault is_of_append a _) ∙ none);
   }
 
--- an append keeps the key
 pub key_of_added : {S R : Type 0} (g : store.Ghosts S) (old new : View S R) (entry : Record) (a : Result (Unit {0}) SignFault) (x : Unit {0}) (key own : Key)
     → Adds g old new entry a → a ≡ Ok x → key_in old.records ≡ Some key → key_in new.records ≡ Some own → own ≡ key
 key_of_added g old new entry a x key own adds is keyed after =
@@ -215,7 +214,6 @@ pub one_field : (upcoming left : Option (List ℕ)) (randomizer : List ℕ) → 
 one_field upcoming left randomizer gives =
     subst (λ bytes. Provides upcoming bytes left) (sym (append-nil (randomizer ++ []) ∙ append-nil randomizer)) gives
 
--- C of a key with LMS trees is drawn
 drawn_randomizer : (secret : Secret) (trees : Trees) (randomizer : List ℕ) → trees_of secret ≡ Some trees
     → (randomizer_from secret (randomizer ∷ []) ≡ Some randomizer) × (randomizer_from secret [] ≡ None) × (has_randomizer secret randomizer ≡ true)
 drawn_randomizer (Lms secret) trees randomizer these = (refl, refl, refl)
@@ -244,7 +242,6 @@ bound_of_chain records key trees above last name bound text keyed these stands n
     ∙ sym (leaf_digest records key trees (length records) (next_at key.secret records bottom) bound.randomizer text keyed these) in
     λ i. record { name = named i; leaf = leaf i; randomizer = bound.randomizer; digest = digest i }
 
--- such a record can follow
 pub bound_follows : (records : List Record) (key : Key) (tree : ℕ) (name : List ℕ) (bound : Bound) → key_in records ≡ Some key → has_moved records ≡ false
     → current (bottom_of key.secret) records ≡ Some tree → bound.leaf ≡ next_at key.secret records (bottom_of key.secret)
     → next_at key.secret records (bottom_of key.secret) < leaves_at key.secret (bottom_of key.secret)
@@ -269,7 +266,6 @@ chain_follows_bound records key trees above last name bound keyed these stays st
 
 -- ---- a binding under LMS or HSS
 
--- a key of LMS or HSS draws C for a binding
 chain_sizes : (secret : Secret) (trees : Trees) (randomizer : List ℕ) → trees_of secret ≡ Some trees → length randomizer ≡ 32 → AreBytes randomizer
     → AreFields (randomizer_sizes secret) (randomizer ∷ [])
 chain_sizes (Lms secret) trees randomizer these sized bytes = (sized, bytes, tt)
@@ -278,7 +274,6 @@ chain_sizes (Xmss secret) trees randomizer these sized bytes = absurd (none-some
 
 module _ {S R M : Type 0} (g : store.Ghosts S) (r : source.Ghosts R) (m : message.Ghosts M) (name : List ℕ) (kept_in : S) (random mid : R) (ledger : Table)
     (is_open : Bool) (before after : M) (key : Key) (trees : Trees) (these : trees_of key.secret ≡ Some trees) where
-  -- the source fails
   pub undrawn : {caches : Cached} (fault : SignFault) → is_open ≡ true → IsTied g kept_in ledger.records → after ≡ before
       → LeavesItsList g kept_in
       → DrawsBytes (r.failures random) (r.failures mid) (r.upcoming random) (r.upcoming mid) (Err fault)
@@ -300,7 +295,6 @@ module _ {S R M : Type 0} (g : store.Ghosts S) (r : source.Ghosts R) (m : messag
         lacks_tree = λ is same. absurd (cc (is));
       })
 
-  -- the message can't be read
   pub unread_bound : {caches : Cached} (randomizer : List ℕ) → is_open ≡ true → IsTied g kept_in ledger.records
       → LeavesItsList g kept_in
       → DrawsBytes (r.failures random) (r.failures mid) (r.upcoming random) (r.upcoming mid) (Ok randomizer) → length randomizer ≡ 32 → AreBytes randomizer
@@ -385,13 +379,11 @@ standing_pairs records key trees other above links last link these others stands
     ∙ stands.pairs ∙ all_pairs key.secret trees these
     ∙ ap (λ (t : Trees). t.pairs) (same_Some trees other (sym these ∙ others))
 
--- the links of such a chain are made
 pub standing_made : (records : List Record) (key : Key) (trees : Trees) (above links : List Link) (last : SigningTree) (link : Link)
     → Stands key trees records (bottom_of key.secret) above last → links ≡ above ++ link ∷ [] → link.tree ≡ last → AreMade links
 standing_made records key trees above links last link stands is same =
     subst AreMade (sym is) (more_made above link stands.made (subst IsMade (sym same) stands.last_made))
 
--- They write the binding's signature.
 pub standing_signs : (records : List Record) (key own : Key) (trees : Trees) (above links : List Link) (last : SigningTree) (link : Link) (bound : Bound) (bytes : List ℕ)
     → key_in records ≡ Some key → own ≡ key → trees_of key.secret ≡ Some trees → Stands key trees records (bottom_of key.secret) above last
     → links ≡ above ++ link ∷ [] → link.tree ≡ last → last.leaf ≡ bound.leaf → link.randomizer ≡ bound.randomizer → link.digest ≡ bound.digest
@@ -445,7 +437,6 @@ bound_of_xmss records key own secret name bound text of_key same named leaf none
     ∙ sym (xmss_leaf_digest records key secret (length records) next (replicate 32 0) text of_key) in
     λ i. record { name = named i; leaf = leaf i; randomizer = none i; digest = digest i }
 
--- and it can follow
 pub xmss_follows : (records : List Record) (key : Key) (secret : XmssSecret) (name : List ℕ) (bound : Bound) → key_in records ≡ Some key
     → has_moved records ≡ false → IsXmssKey secret key → 0 < free_at key.secret records 0 → bound.leaf ≡ next_at key.secret records (bottom_of key.secret)
     → bound.name ≡ name → binding_in records name ≡ None → bound.randomizer ≡ replicate 32 0
@@ -475,7 +466,6 @@ module _ {S R M : Type 0} (g : store.Ghosts S) (r : source.Ghosts R) (m : messag
       ∙ ap (λ s. fulfilled key name (undrawn_chance fate given) (bottom_of s - 0) [] v.records) of_key
       ∙ ap (λ s. drawing [] (bound_with (open_on v.records) key name (randomizer_from s []) given fate)) of_key
 
-  -- the key's record isn't sound
   pub damaged_binds : {A : Type 0} (linked : Result A ℕ) (mapped : Result A SignFault) (fault : SignFault) → IsTied g v.store v.records → after ≡ before
       → LeavesItsList g v.store
       → MatchResult linked (λ x. mapped ≡ Ok x) (λ k. IsErrAnd mapped (λ e. e ≡ Damaged k)) → mapped ≡ Err fault
@@ -496,7 +486,6 @@ module _ {S R M : Type 0} (g : store.Ghosts S) (r : source.Ghosts R) (m : messag
         not_before_caches = refl;
       })
 
-  -- the message can't be read
   pub unread_binds : {A : Type 0} (linked : Result A ℕ) (mapped : Result A SignFault) (x : A) → v.is_open ≡ true → IsTied g v.store v.records
       → LeavesItsList g v.store
       → MatchResult linked (λ y. mapped ≡ Ok y) (λ k. IsErrAnd mapped (λ e. e ≡ Damaged k)) → mapped ≡ Ok x

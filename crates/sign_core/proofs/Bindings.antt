@@ -14,7 +14,6 @@ use Rattle.sign_core.specs.Records.{are_same, binding_in, binds, bound_from, has
 
 -- ---- names
 
--- what binds a name is a Bound of that name
 binds_means : (name : List ℕ) (entry : Record) (bound : Bound) → binds name entry ≡ Some bound → (entry ≡ BoundRecord bound) × (bound.name ≡ name)
 binds_means name (KeyRecord key) bound is = absurd (none-some bound is)
 binds_means name (ExtendRecord extend) bound is = absurd (none-some bound is)
@@ -141,13 +140,11 @@ binding_appended records entry name =
     let place : 0 + length records ≡ length records = omega arith in
     bound_append name 0 records (entry ∷ []) ∙ ap (λ n. option_or (binding_in records name) (or_later n (binds name entry) None)) place
 
--- what is bound stays bound
 pub binding_stays : (records more : List Record) (name : List ℕ) (found : ℕ × Bound) → binding_in records name ≡ Some found
     → binding_in (records ++ more) name ≡ Some found
 binding_stays records more name found is =
     bound_append name 0 records more ∙ ap (λ o. option_or o (bound_from name (0 + length records) more)) is
 
--- a free name is bound by its record
 pub binding_new : (records : List Record) (bound : Bound) → binding_in records bound.name ≡ None
     → binding_in (records ++ BoundRecord bound ∷ []) bound.name ≡ Some (length records, bound)
 binding_new records bound free =

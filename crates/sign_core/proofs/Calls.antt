@@ -95,7 +95,6 @@ randomizer_fields (Hss levels identifier seed) fields are = are
 randomizer_fields (Xmss secret) [] are = tt
 randomizer_fields (Xmss secret) (field ∷ fields) are = absurd are
 
--- draws under a key are draws of an event
 pub draws_of : (secret : Secret) (chance : Chance) → AreDrawsOf secret chance → AreDraws chance
 draws_of secret chance drawn = record { trees = drawn.trees; bound = randomizer_fields secret chance.bound.fields drawn.bound }
 

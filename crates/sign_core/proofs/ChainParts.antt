@@ -36,7 +36,6 @@ use Rattle.sign_core.proofs.TreeSteps.{before_current}
 pub same_key : (records : List Record) (a b : Key) → key_in records ≡ Some a → key_in records ≡ Some b → a ≡ b
 same_key records a b is_a is_b = same_Some a b (sym is_a ∙ is_b)
 
--- records begin with their key
 pub key_and_rest : (records : List Record) (key : Key) → key_in records ≡ Some key → (rest : List Record) × (records ≡ KeyRecord key ∷ rest)
 key_and_rest [] key is = absurd (cc)
 key_and_rest (KeyRecord first ∷ rest) key is = (rest, ap (λ k. KeyRecord k ∷ rest) (same_Some first key is))
@@ -45,7 +44,7 @@ key_and_rest (BoundRecord bound ∷ rest) key is = absurd (cc)
 key_and_rest (Retire upto ∷ rest) key is = absurd (cc)
 key_and_rest (Moved ∷ rest) key is = absurd (cc)
 
--- so the chain of the key's tree needs only its record
+-- the chain of the key's tree needs only its record
 pub key_chain : (records : List Record) (key : Key) (P : Option ℕ → Type 0) → key_in records ≡ Some key
     → ((rest : List Record) → P (damaged_in key 0 (KeyRecord key ∷ rest) 0)) → P (damaged_in key 0 records 0)
 key_chain records key P keyed each =
@@ -68,7 +67,6 @@ levels_typed (Hss [] identifier seed) trees these = absurd (cc)
 levels_typed (Hss (pair ∷ rest) identifier seed) trees these = (omega arith, ap (λ (t : Trees). length t.pairs) (sym (same_Some _ trees these)))
 levels_typed (Xmss secret) trees these = absurd (cc)
 
--- the types down to the bottom level are all
 pub all_pairs : (secret : Secret) (trees : Trees) → trees_of secret ≡ Some trees → take (bottom_of secret + 1) trees.pairs ≡ trees.pairs
 all_pairs secret trees these =
     let (some, typed) = levels_typed secret trees these in
@@ -100,7 +98,6 @@ bound_tree records key trees k bound legal keyed these at =
           (leaf_inside records key k bound legal keyed at),
     )
 
--- the digest that a leaf of the tree before place k signs
 pub leaf_digest : (records : List Record) (key : Key) (trees : Trees) (k leaf : ℕ) (randomizer text : List ℕ) → key_in records ≡ Some key
     → trees_of key.secret ≡ Some trees
     → digest_at key records k leaf randomizer text
@@ -171,7 +168,6 @@ links_pairs records key trees other level place links last legal keyed these oth
 
 -- ---- XMSS
 
--- the leaf of a binding is one of the tree's
 pub xmss_leaf_inside : (records : List Record) (key : Key) (secret : XmssSecret) (k : ℕ) (bound : Bound) → IsLegal records → key_in records ≡ Some key
     → IsXmssKey secret key → slice_get records k ≡ Some (BoundRecord bound) → bound.leaf < 2 ^ xmss_height_of secret.tree
 xmss_leaf_inside records key secret k bound legal keyed is at =

@@ -21,7 +21,6 @@ use Rattle.sign_core.specs.Textbook.{signings_above, tree_before, trees_of}
 
 -- ---- lists
 
--- an item of a beginning is an item of the list
 pub got_in-take : {A : Type 0} (k : ℕ) (xs : List A) (i : ℕ) (x : A) → slice_get (take k xs) i ≡ Some x → (i < k) × (slice_get xs i ≡ Some x)
 got_in-take zero xs i x is = absurd (cc)
 got_in-take (suc k) [] i x is = absurd (cc)
@@ -126,7 +125,6 @@ current_made level k records tree is =
 
 -- ---- what each level of a chain signs
 
--- an Extend's signing
 abbrev pub named_by : LmsSecret → Extend → Signing
 named_by secret extend = record { secret = secret; leaf = extend.parent_leaf; randomizer = extend.randomizer; digest = extend.digest }
 
@@ -171,7 +169,6 @@ chained_more trees records above s last chained link =
           ];
     }
 
--- a sound Extend's digest
 sound_digest : (trees : Trees) (records : List Record) (tree level : ℕ) (extend : Extend) → extend.level ≡ level + 1
     → is_sound_extend (Some trees) records tree extend ≡ true
     → extend.digest ≡ message_digest_of (secret_at trees records (tree_before level records tree)).identifier extend.parent_leaf extend.randomizer

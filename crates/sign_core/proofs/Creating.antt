@@ -36,7 +36,6 @@ use Rattle.state_file.specs.declared.record.Version.{Version}
 
 -- ---- refused before the append
 
--- the store keeps its list
 keeps_old : {S A : Type 0} (g : store.Ghosts S) (old new : S) (bytes : List ℕ) (fault : SignFault) → g.list new ≡ g.list old → LeavesOld g old new
     → Counts {A = A} is_store_failed (g.failures old) (g.failures new) (Err fault) → g.honest new ≡ g.honest old → g.most new ≡ g.most old
     → KeepsStore g old new (g.list old) (drawing bytes (refused {A = A} (closed_on (g.list old)) fault))
@@ -127,7 +126,6 @@ empty_step version [] spec fields fate secret none is =
     ap (λ s. drawing (concat fields) (begun (closed_on []) (record { version = version; failed_load = None; fields = fields; has_room = true; fate = fate }) s)) is
 empty_step version (first ∷ rest) spec fields fate secret none is = absurd (omega (arith, none))
 
--- a create where the source fails
 undrawn_random : {S R : Type 0} (g : store.Ghosts S) (r : source.Ghosts R) (version : Version) (spec : Spec) (old mid : S) (before after : R)
     → LooksForKey {A = Unit {0}} g old mid (Ok tt) → DrawsSecret r spec before after (Err RandomFailed)
     → MakesKey g r version spec old mid before after (IsAnsweredByKey (Err RandomFailed))
@@ -184,7 +182,6 @@ honest_mid : {S A : Type 0} {g : store.Ghosts S} {old mid new : S} {entry : Reco
     → IsTrue (g.honest old) → IsTrue (g.honest mid)
 honest_mid has honest = subst IsTrue (sym has.looked.honest) honest
 
--- the moments of both
 both_moments : {S A : Type 0} (g : store.Ghosts S) (old mid new : S) (entry : Record) (answer : Result A SignFault) (all : List Record)
     → HasAppended g old mid new entry answer → all ≡ g.list old ++ entry ∷ []
     → WhileRunning (g.honest old) (g.stopped old) (LeavesOnly g.moment g.left_since old new (IsBeginning (length (g.list old)) all))

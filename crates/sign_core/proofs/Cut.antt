@@ -63,7 +63,6 @@ other_reading first second other = record {
   left = other.left;
 }
 
--- an append, and what comes after it
 other_append : {A : Type 0} (state : State) (entry : Record) (fate : Fate) (next other : List Record → Outcome A)
     → ((records : List Record) → IsOther (next records) (other records)) → IsOther (appended state entry fate next) (appended state entry (turned fate) other)
 other_append state entry acked next other later = later (state.records ++ entry ∷ [])

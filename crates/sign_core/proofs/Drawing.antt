@@ -20,7 +20,6 @@ pub provides_none : (upcoming : Option (List ℕ)) → Provides upcoming [] upco
 provides_none None = refl
 provides_none (Some upcoming) = refl
 
--- two fills, one after the other
 provides_both : (upcoming : Option (List ℕ)) (a : List ℕ) (between : Option (List ℕ)) (b : List ℕ) (left : Option (List ℕ)) → Provides upcoming a between
     → Provides between b left → Provides upcoming (a ++ b) left
 provides_both None a None b left h k = k
@@ -34,7 +33,6 @@ pub record HasDrawn {R : Type 0} (r : source.Ghosts R) (old new : R) (fields : L
   pub source : Provides (r.upcoming old) (concat fields) (r.upcoming new)
   pub failures : r.failures new ≡ r.failures old
 
--- a draw of one field
 abbrev pub Draws : {R : Type 0} → source.Ghosts R → (old new : R) → Result (List ℕ) SignFault → Type 0
 Draws r old new answer = DrawsBytes (r.failures old) (r.failures new) (r.upcoming old) (r.upcoming new) answer
 
@@ -52,7 +50,6 @@ more_drawn r old mid new fields field so_far more =
       failures = more.0 ∙ so_far.failures;
     }
 
--- all fields were drawn
 pub all_drawn : {R : Type 0} (r : source.Ghosts R) (spec : Spec) (old new : R) (fields : List (List ℕ)) (secret : Secret) → HasDrawn r old new fields
     → AreFields (key_sizes spec) fields → secret_from spec fields ≡ Some secret → DrawsSecret r spec old new (Ok secret)
 all_drawn r spec old new fields secret has are is = record {
@@ -63,7 +60,6 @@ all_drawn r spec old new fields secret has are is = record {
   failures = has.failures;
 }
 
--- a draw failed
 pub draw_stops : {R : Type 0} (r : source.Ghosts R) (spec : Spec) (old mid new : R) (fields : List (List ℕ)) (fault : SignFault) → HasDrawn r old mid fields
     → AreFields (key_sizes spec) fields → secret_from spec fields ≡ None → Draws r mid new (Err fault) → DrawsSecret r spec old new (Err fault)
 draw_stops r spec old mid new fields RandomFailed has are is failed = record {

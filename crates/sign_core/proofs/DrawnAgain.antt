@@ -307,7 +307,6 @@ drawn_most limit state key name chance keyed drawn =
 
 -- ---- what is signed was read
 
--- Where a signature is answered, a message was given and read.
 abbrev IsRead : (given : Option (List ℕ)) → Outcome (List ℕ) → Type 0
 IsRead given outcome = (signature : List ℕ) → outcome.answer ≡ Ok signature → IsSome given × (outcome.is_read ≡ true)
 

@@ -13,7 +13,6 @@ use Rattle.sign_core.specs.Records.{has_identifier}
 use Rattle.sign_core.specs.Events.{AreFields, tree_sizes}
 use Rattle.sign_core.specs.inner.Signing.{DrawsTree}
 
--- two fills, one after the other
 pub gives_both : (upcoming : Option (List ℕ)) (a : List ℕ) (between : Option (List ℕ)) (b : List ℕ) (left : Option (List ℕ)) → Provides upcoming a between → Provides between b left → Provides upcoming (a ++ b) left
 gives_both None a None b left h k = k
 gives_both None a (Some rest) b left h k = absurd (cc)
@@ -53,14 +52,12 @@ fails_once : (before after : ℕ) (upcoming left : Option (List ℕ)) (fault : S
 fails_once before after upcoming left fault draws =
     (subst (λ (f : SignFault). DrawsBytes before after upcoming left (Err f)) (draw_fails before after upcoming left fault draws).0 draws).0
 
--- the answer of a failed draw
 failed : (records : List Record) (before after : ℕ) (upcoming left : Option (List ℕ)) (fault : SignFault) (answer : Result TreeSeeds SignFault)
     → fault ≡ RandomFailed → answer ≡ Err fault → DrawsTree records before after upcoming left (Err RandomFailed)
     → DrawsTree records before after upcoming left answer
 failed records before after upcoming left fault answer is answers draws =
     subst (DrawsTree records before after upcoming left) (ap Err (sym is) ∙ sym answers) draws
 
--- The source fails for SEED.
 pub seed_fails : (records : List Record) (before mid after : ℕ) (upcoming between left : Option (List ℕ)) (identifier : List ℕ) (fault : SignFault)
     (answer : Result TreeSeeds SignFault)
     → Drawn before mid upcoming between 16 identifier → has_identifier records identifier ≡ false
@@ -82,7 +79,6 @@ seed_fails records before mid after upcoming between left identifier fault answe
       λ other rest is. let same : identifier ≡ other = cc in ap (has_identifier records) (sym same) ∙ fresh,
     )
 
--- The source fails for C.
 pub randomizer_fails : (records : List Record) (before mid after_two after : ℕ) (upcoming between last left : Option (List ℕ)) (identifier seed : List ℕ) (fault : SignFault)
     (answer : Result TreeSeeds SignFault)
     → Drawn before mid upcoming between 16 identifier → has_identifier records identifier ≡ false → Drawn mid after_two between last 32 seed
@@ -105,7 +101,6 @@ randomizer_fails records before mid after_two after upcoming between last left i
       λ other rest is. let same : identifier ≡ other = cc in ap (has_identifier records) (sym same) ∙ fresh,
     )
 
--- The source gives all three.
 pub all_drawn : (records : List Record) (before mid after_two after : ℕ) (upcoming between last left : Option (List ℕ)) (identifier seed randomizer : List ℕ)
     → Drawn before mid upcoming between 16 identifier → has_identifier records identifier ≡ false → Drawn mid after_two between last 32 seed
     → Drawn after_two after last left 32 randomizer

@@ -87,7 +87,6 @@ ended_fulfilled Q ends key name chance (suc below) draws records =
     ended_extended Q ends (open_on records) key (bottom_of key.secret - below) (trees_of key.secret) (first_draw draws) _
     (ended_fulfilled Q ends key name chance below (later_draws draws))
 
--- Q holds where a record is damaged
 abbrev pub IsDamaged : (Outcome (List ℕ) → Type 0) → State → Key → Type 0
 IsDamaged Q state key = (level tree slot : ℕ) → damaged_in key level state.records tree ≡ Some slot → Q (refused state (Damaged slot))
 
@@ -148,7 +147,6 @@ pub ended_request : (Q : Outcome (List ℕ) → Type 0) → Ends Q → (limit : 
     → ((key : Key) → key_in state.records ≡ Some key → IsDamaged Q state key) → Q (refused state Exhausted) → Q (requested limit state name chance)
 ended_request Q ends limit state name chance bad used_up = ended_under Q ends limit state name chance (key_in state.records) bad used_up
 
--- answers other than 28
 pub not_damaged : (slot : ℕ) → Ends (λ outcome. outcome.answer ≢ Err (Damaged slot))
 not_damaged slot = record {
   drawn = λ bytes outcome never. never;

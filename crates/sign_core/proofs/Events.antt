@@ -70,7 +70,6 @@ after_published : (records : List Record) (handed : List Handed) (public : Optio
 after_published records handed (Some public) kept = kept
 after_published records handed None kept = kept
 
--- a list that isn't as long as 1 is empty
 pub none_there : (records : List Record) → nat_le 1 (length records) ≡ false → records ≡ []
 none_there [] short = refl
 none_there (first ∷ rest) short = absurd (omega (arith, leb-false 1 (length (first ∷ rest)) short))
@@ -109,7 +108,6 @@ after_opened state handed (Some (slot, fault)) (Some k) kept = kept
 
 -- ---- retire
 
--- where leaves can be retired, there is a tree
 retire_there : (found : Option ℕ) (secret : Secret) (records : List Record) (leaves upto : ℕ) → upto ≤ (if is_some found then leaves else 0)
     → next_of secret records found < upto
     → (is_some found ≡ true) × (upto ≤ leaves)

@@ -59,19 +59,16 @@ head_cut first rest is cuts = λ from. let (place, fault) = cuts (from + 1) in (
 head_said : (first rest : List ℕ) (said : List ℕ × ℕ) → length first ≡ 1 → Spells (after_size (slice_index first 0)) said rest → Spells head said (first ++ rest)
 head_said first rest said is spelled = (first, rest, refl, is, spelled)
 
--- the bytes of a block are its value
 block_is : (n : ℕ) (value bytes : List ℕ) → Spells (block n) value bytes → (length value ≡ n) × (bytes ≡ value)
 block_is n value bytes (front, rest, whole, size, (same, none)) =
     (ap length (sym same) ∙ size, whole ∙ ap (λ l. front ++ l) none ∙ append-nil front ∙ same)
 
--- a block that is cut has fewer bytes
 block_cut : (n : ℕ) (part : List ℕ) → CutsField (block n) part → length part < n
 block_cut n part cuts = elim (cuts 0).1 [
   | inl (less, same) ↦ less
   | inr (front, rest, whole, size, (some, same)) ↦ let never : Truncated ≡ Trailing = ap (λ (f : ReadFault). f.cause) same in absurd (cc)
 ]
 
--- a name that is cut
 name_cut_so : {M : Type 0} (m : message.Ghosts M) (size : ℕ) (buffer : List ℕ) (old new : M) (e : ServeFault)
     → length buffer ≡ size → FillsBuffer m buffer old new (Err e) → ReadsField m (block size) bytes_of old new (Err e)
 name_cut_so m size buffer old new FrameCut is (part, less, reads) = (part, λ from. (from, inl (omega (arith, less, is), refl)), reads)
@@ -83,7 +80,7 @@ pub name_cut : {M : Type 0} (m : message.Ghosts M) (size : ℕ) (buffer : List �
 name_cut m size buffer old new e result answer is fills =
     subst (λ (a : Result Name ServeFault). ReadsField m (block size) bytes_of old new a) (sym answer) (name_cut_so m size buffer old new e is fills)
 
--- so the head is cut
+-- where the name is cut, the head is cut
 after_name_cut_so : {M : Type 0} (m : message.Ghosts M) (size : ℕ) (old new : M) (e : ServeFault)
     → ReadsField m (block size) bytes_of old new (Err e) → ReadsField m (after_size size) said_by old new (Err e)
 after_name_cut_so m size old new FrameCut (bytes, cuts, reads) =
@@ -97,7 +94,7 @@ pub after_name_cut : {M : Type 0} (m : message.Ghosts M) (size : ℕ) (old new :
 after_name_cut m size old new e result answer name =
     subst (λ (a : Result Head ServeFault). ReadsField m (after_size size) said_by old new a) (sym answer) (after_name_cut_so m size old new e name)
 
--- as where the size of the message is cut
+-- and where the size of the message is cut
 after_number_cut_so : {M : Type 0} (m : message.Ghosts M) (size : ℕ) (name : Name) (old middle new : M) (buffer : List ℕ) (e : ServeFault)
     → length buffer ≡ 4 → ReadsField m (block size) bytes_of old middle (Ok name) → FillsBuffer m buffer middle new (Err e)
     → ReadsField m (after_size size) said_by old new (Err e)
@@ -116,7 +113,6 @@ after_number_cut m size name old middle new buffer e result answer four read fil
     subst (λ (a : Result Head ServeFault). ReadsField m (after_size size) said_by old new a) (sym answer)
     (after_number_cut_so m size name old middle new buffer e four read fills)
 
--- name and size were read
 pub after_read : {M : Type 0} (m : message.Ghosts M) (size announced : ℕ) (name : Name) (old middle new : M) (buffer : List ℕ) → length buffer ≡ 4
     → announced ≡ big_number 4 buffer → ReadsField m (block size) bytes_of old middle (Ok name) → ReadsInput m buffer going middle new
     → ReadsField m (after_size size) said_by old new (Ok (head_of name announced))
@@ -153,7 +149,6 @@ head_unread m first old new WriteFailed is other never = absurd never
 
 -- ---- a message
 
--- a request of this name, with this announced length
 abbrev pub request_of : (name : List ℕ) → (announced : ℕ) → (text : List ℕ) → Bool → Request
 request_of name announced text whole = record { name = name; announced = announced; message = text; is_whole = whole }
 
@@ -400,7 +395,6 @@ pub record Taken {S R I : Type 0} (g : store.Ghosts S) (r : source.Ghosts R) (m 
   pub reads : ReadsInput m bytes ending before after
   pub answers : AnswersInTurn g r exchanges old new capacity room
 
--- a head that is cut
 pub taken_head : {S R I : Type 0} (g : store.Ghosts S) (r : source.Ghosts R) (m : message.Ghosts I) (signer : View S R) (before after : I) (capacity : ℕ)
     (e : ServeFault) → ReadsHead m before after (Err e) → Taken g r m signer signer before after capacity capacity (reply_frame (serve_number_of e) []) (Some e)
 taken_head g r m signer before after capacity FrameCut (bytes, some, cuts, reads) =
@@ -414,7 +408,6 @@ abbrev pub fault_after : Bool → Option ServeFault
 fault_after true = None
 fault_after false = Some MessageRead
 
--- a request
 pub taken_frame : {S R I : Type 0} (g : store.Ghosts S) (r : source.Ghosts R) (m : message.Ghosts I) (found : Head) (old new : View S R) (before middle after : I)
     (capacity room : ℕ) (signature : List ℕ) (reply : Reply) (whole : Bool) → ReadsHead m before middle (Ok (Some found))
     → AnswersFrame g r m (said_by found) old new middle after capacity room signature (reply, whole)
@@ -535,7 +528,6 @@ module _ {S R I : Type 0} (g : store.Ghosts S) (r : source.Ghosts R) (m : messag
       subst (λ (a : Result Bool ServeFault). Turns g r m old new before after contents left capacity room a) (sym answer)
       (turn_lost g r m old new before after capacity room contents left (reply_bytes reply bytes) (fault_after whole) lost (frame_taken whole refl) writes)
 
--- the input is at its end
 pub turn_over : {S R I : Type 0} (g : store.Ghosts S) (r : source.Ghosts R) (m : message.Ghosts I) (signer : View S R) (before after : I) (capacity : ℕ)
     (contents : Option (List ℕ)) → ReadsHead m before after (Ok None) → Turns g r m signer signer before after contents contents capacity capacity (Ok false)
 turn_over g r m signer before after capacity contents reads = record {
@@ -593,7 +585,6 @@ served_none g r m signer before contents capacity = record {
 
 module _ {S R I : Type 0} (g : store.Ghosts S) (r : source.Ghosts R) (m : message.Ghosts I) (old middle new : View S R) (before between after : I)
     (contents given left : Option (List ℕ)) (capacity room space count : ℕ) where
-  -- one more
   pub served_more : (went : Bool) → went ≡ true → HasServed g r m old middle before between contents given capacity room count
       → Turns g r m middle new between after given left room space (Ok went)
       → HasServed g r m old new before after contents left capacity space (count + 1)
@@ -660,7 +651,6 @@ module _ {S R I : Type 0} (g : store.Ghosts S) (r : source.Ghosts R) (m : messag
       closed served (Err e) turn.bytes turn.ending turn.exchanges turn.written (omega (arith, few, served.count_is), turn.ends) turn.reads turn.answers
       turn.writes
 
--- after the last reply
 pub serves_all : {S R I : Type 0} (g : store.Ghosts S) (r : source.Ghosts R) (m : message.Ghosts I) (old new : View S R) (before after : I)
     (contents left : Option (List ℕ)) (room count : ℕ) → HasServed g r m old new before after contents left 0 room count → count ≡ 2 ^ 32
     → Serves g r m old new before after contents left (Ok count)

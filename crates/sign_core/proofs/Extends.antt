@@ -41,7 +41,6 @@ use Rattle.sign_core.specs.Textbook.{Trees, trees_of}
 use Rattle.sign_core.proofs.Appended.{after_draw, counts_answered, ends_alike, comes_after_draws, is_tried, no_draw_fails, same_fault}
 use Rattle.sign_core.proofs.Fulfilled.{drawing_twice, extends_by, next_extend, whole_draw}
 
--- the records are a beginning of themselves
 all_left : (records left : List Record) → left ≡ records → IsBeginning (length records) (records ++ []) left
 all_left records left is = record {
   count = length records;

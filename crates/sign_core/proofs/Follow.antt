@@ -37,7 +37,6 @@ first_alone (BoundRecord bound) rest other = refl
 first_alone (Retire upto) rest other = refl
 first_alone Moved rest other = refl
 
--- the key stays
 pub key_stays : (records more : List Record) → 0 < length records → key_in (records ++ more) ≡ key_in records
 key_stays [] more some = absurd (omega (arith, some))
 key_stays (entry ∷ rest) more some = first_alone entry (rest ++ more) rest
@@ -89,7 +88,6 @@ names_reach secret records k (BoundRecord bound) tree leaf within (is, same) =
 names_reach secret records k (Retire upto) tree leaf within names = absurd names
 names_reach secret records k Moved tree leaf within names = absurd names
 
--- a Retire reaches its own number
 pub retire_reaches : (secret : Secret) (records : List Record) (k upto tree : ℕ) → k ≤ length records
     → IsCurrent records k (bottom_of secret) tree → reaches secret (take k records) (Retire upto) ≡ Some (tree, upto)
 retire_reaches secret records k upto tree within is =
@@ -242,7 +240,6 @@ follower_names key before (BoundRecord bound) tree leaf is (there, same) =
 follower_names key before (Retire upto) tree leaf is names = absurd names
 follower_names key before Moved tree leaf is names = absurd names
 
--- its I is new
 pub follower_identifier : (key : Key) (before : List Record) (entry : Record) (identifier : List ℕ) → can_follow_legal key before entry ≡ true
     → identifier_of entry ≡ Some identifier → has_identifier before identifier ≡ false
 follower_identifier key before (KeyRecord other) identifier is own = absurd (true≢false (sym is))
@@ -253,7 +250,6 @@ follower_identifier key before (BoundRecord bound) identifier is own = absurd (n
 follower_identifier key before (Retire upto) identifier is own = absurd (none-some identifier own)
 follower_identifier key before Moved identifier is own = absurd (none-some identifier own)
 
--- and so is its name
 pub follower_name : (key : Key) (before : List Record) (bound : Bound) → can_follow_legal key before (BoundRecord bound) ≡ true
     → binding_in before bound.name ≡ None
 follower_name key before bound is = let (free, new, random) = bound_means key before bound is in new
@@ -287,7 +283,6 @@ next_under before entry tree leaf legal names = elim ((is_next legal.key.secret 
               legal.retired k (length before) next entry tree leaf below (stands ∙ ap Some retire) (slice_get_new before entry) is names
         ]
 
--- no earlier record has its I
 new_identifier : (before : List Record) (entry : Record) (identifier : List ℕ) → IsLegal (before ++ entry ∷ []) → identifier_of entry ≡ Some identifier
     → has_identifier before identifier ≡ false
 new_identifier before entry identifier legal own = false_from_ne_true (has_identifier before identifier) (λ has.
@@ -356,7 +351,6 @@ last_follows before Moved legal some =
     let fits : Fits legal.key (before ++ Moved ∷ []) (length before) Moved = legal.fits (length before) Moved (slice_get_new before Moved) in
     ap can_move fits.0
 
--- and no Moved stands before it
 pub last_stays : (before : List Record) (entry : Record) → IsLegal (before ++ entry ∷ []) → has_moved before ≡ false
 last_stays before entry legal = false_from_ne_true (has_moved before) (λ moved.
     let at : slice_get before (length before - 1) ≡ Some Moved = moved_means (slice_get before (length before - 1)) moved in

@@ -73,7 +73,6 @@ abbrev pub IsFine : Key → (name message : List ℕ) → Chance → (below : �
 IsFine key name message chance below draws records outcome =
     (outcome.answer ≡ Err RandomRepeated) ⊎ IsDone key name message chance below draws records outcome
 
--- the binding alone
 bound_done : (key : Key) (name message drawn : List ℕ) (chance : Chance) (records : List Record) → chance.given ≡ Some message
     → randomizer_from key.secret chance.bound.fields ≡ Some drawn → chance.bound.fate ≡ acked
     → IsDone key name message chance 0 [] records (fulfilled key name chance 0 [] records)
@@ -196,7 +195,6 @@ fine_fulfilled key name message drawn chance (suc below) (draw ∷ draws) record
     cases_eq_bool true = inl refl
     cases_eq_bool false = inr refl
 
--- C is drawn without a failure
 pub randomizer_drawn : (secret : Secret) (fields : List (List ℕ)) → length fields ≡ length (randomizer_sizes secret)
     → (drawn : List ℕ) × (randomizer_from secret fields ≡ Some drawn)
 randomizer_drawn (Lms secret) [] count = absurd (omega (arith, count))

@@ -38,7 +38,6 @@ abbrev pub ComesTo : Key → (name : List ℕ) → (below : ℕ) → (records : 
 ComesTo key name below records done drawn below' records' = (chance : Chance) (rest : List Draw)
     → fulfilled key name chance below (done ++ rest) records ≡ drawing drawn (fulfilled key name chance below' rest records')
 
--- at the beginning
 pub comes_at_first : (key : Key) (name : List ℕ) (below : ℕ) (records : List Record) → ComesTo key name below records [] [] below records
 comes_at_first key name below records chance rest = refl
 
@@ -46,7 +45,6 @@ comes_at_first key name below records chance rest = refl
 abbrev pub whole_draw : (identifier seed randomizer : List ℕ) → Fate → Draw
 whole_draw identifier seed randomizer fate = record { fields = identifier ∷ seed ∷ randomizer ∷ []; fate = fate }
 
--- the record of a new tree of this level
 abbrev pub next_extend : Key → Trees → List Record → (level : ℕ) → (identifier seed randomizer : List ℕ) → Record
 next_extend key trees records level identifier seed randomizer =
     extend_record trees records level (lms_secret (slice_index_or trees.pairs level trees.top.pair) identifier seed) randomizer

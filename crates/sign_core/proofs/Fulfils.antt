@@ -40,7 +40,6 @@ pub data Draws (records : List Record) (comes : (List Record → Outcome (List �
   ended : (fault : SignFault) (outcome : Outcome (List ℕ)) → outcome.answer ≡ Err fault → outcome.acknowledged ≡ records → outcome.is_read ≡ false
       → ((next : List Record → Outcome (List ℕ)) → comes next ≡ outcome) → Draws records comes
 
--- the append of an Extend, after some draws
 by_fate : (records : List Record) (extend : Extend) (bytes : List ℕ) (fate : Fate)
     → Draws records (λ next. drawing bytes (appended (open_on records) (ExtendRecord extend) fate next))
 by_fate records extend bytes acked = recorded extend bytes (λ next. refl)
@@ -114,7 +113,6 @@ counts_on : {A : Type 0} (is_counted : SignFault → Bool) (before mid after : �
     → Counts is_counted mid after answer → Counts is_counted before after answer
 counts_on is_counted before mid after answer same counts = subst (λ (n : ℕ). Counts is_counted n after answer) same counts
 
--- the outcome of a recorded Extend
 abbrev after_extend : List Record → Extend → (bytes : List ℕ) → Outcome (List ℕ)
 after_extend records extend bytes = drawing bytes (answered (open_on (records ++ ExtendRecord extend ∷ [])) [])
 
@@ -200,7 +198,6 @@ once g old mid (inr (is, same)) = same
 ok≢err : {A : Type 0} (a : A) (fault : SignFault) → Ok a ≡ Err fault → ⊥
 ok≢err a fault same = cc
 
--- a message that isn't read is as it was
 message_kept : {M : Type 0} (m : message.Ghosts M) (is_read : Bool) (given : Option (List ℕ)) (old : M) → is_read ≡ false → IsRead m is_read given old old
 message_kept m true given old unread = absurd (cc)
 message_kept m false (Some text) old unread = refl
@@ -220,7 +217,6 @@ step_after key name chance below level draw draws records mid_records extend byt
     ∙ ap (λ l. drawing bytes (fulfilled key name chance below draws l)) (sym is)
     ∙ ap (drawing bytes) step
 
--- An Extend, and then all records from there.
 pub fulfils_after : {S R M : Type 0} (g : store.Ghosts S) (r : source.Ghosts R) (m : message.Ghosts M) (name : List ℕ) (key : Key) (below level : ℕ)
     (old mid new : View S R) (before after : M) (answer : Result (List ℕ) SignFault) → level ≡ bottom_of key.secret - below
     → g.stopped mid.store ≡ false → Extends g r level old mid (Ok []) key → Fulfils g r m name below mid new before after answer key
@@ -298,7 +294,6 @@ pub unbound_after : {S R : Type 0} (g : store.Ghosts S) (old mid : View S R) (na
 unbound_after g old mid name after free =
     ap (λ l. binding_in l name) after.records ∙ binding_other old.records (ExtendRecord after.extend) name refl ∙ free
 
--- A refused Extend.
 pub fulfils_refused : {S R M : Type 0} (g : store.Ghosts S) (r : source.Ghosts R) (m : message.Ghosts M) (name : List ℕ) (key : Key) (below level : ℕ)
     (old new : View S R) (unread : M) (fault : SignFault) → level ≡ bottom_of key.secret - below
     → Extends g r level old new (Err fault) key → Fulfils g r m name (suc below) old new unread unread (Err fault) key

@@ -16,7 +16,6 @@ use Rattle.sign_core.proofs.Legal.{grew, grows}
 
 -- ---- the first record that can't follow
 
--- whether a record at place k can follow those before it
 abbrev Follows : List Record → ℕ → Record → Bool
 Follows all k entry = can_follow (key_in (take k all)) (take k all) entry
 
@@ -93,7 +92,6 @@ legal_alone key = record {
     none_later j zero entry under at = omega (arith, under)
     none_later j (suc k) entry under at = none-some entry at
 
--- what can begin a list is a Key
 begins : (entry : Record) → can_follow None [] entry ≡ true → IsLegal (entry ∷ [])
 begins (KeyRecord key) is = legal_alone key
 begins (ExtendRecord extend) is = absurd (true≢false (sym is))
@@ -214,7 +212,6 @@ first_illegal_appended records entry =
 
 -- ---- more records
 
--- the first illegal record of a longer list
 pub first_illegal_after : (records more : List Record)
     → first_illegal (records ++ more) ≡ option_or (first_illegal records) (illegal_from (records ++ more) (length records) more)
 first_illegal_after records more =
@@ -223,7 +220,7 @@ first_illegal_after records more =
     ∙ ap (λ n. option_or (illegal_from (records ++ more) 0 records) (illegal_from (records ++ more) n more)) here
     ∙ ap (λ o. option_or o (illegal_from (records ++ more) (length records) more)) (illegal_front records more 0 records (omega arith))
 
--- it stands no earlier than the search begins
+-- the first illegal record is no earlier than the search begins
 illegal_least : (all : List Record) (k : ℕ) (rest : List Record) (j : ℕ) → illegal_from all k rest ≡ Some j → k ≤ j
 illegal_least all k [] j is = absurd (none-some j is)
 illegal_least all k (first ∷ rest) j is = by (Follows all k first) is (illegal_least all (k + 1) rest j)

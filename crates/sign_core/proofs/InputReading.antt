@@ -55,7 +55,6 @@ reads_failure m kind old new one kept = record {
   none = tt;
 }
 
--- reads that gave this text
 so_far : {M : Type 0} (m : message.Ghosts M) (text : List ℕ) (old new : M) → GivesText m.transition text old new
     → Consumes (m.remaining old) (m.remaining new) text → ReadsInput m text going old new
 so_far m text old new (outcomes, reads, gave) bytes = record {
@@ -70,14 +69,12 @@ so_far m text old new (outcomes, reads, gave) bytes = record {
 
 -- ---- reads until a buffer is full
 
--- it is full
 pub filled : {M : Type 0} (m : message.Ghosts M) (n : ℕ) (buffer : List ℕ) (old new : M) → ReadsFull m.transition m.remaining (Ok n) buffer old new
     → length buffer ≤ n → ReadsInput m buffer going old new
 filled m n buffer old new (inl (full, gave), bytes, end) all =
     so_far m buffer old new gave (subst (Consumes (m.remaining old) (m.remaining new)) (take_all n buffer all) bytes)
 filled m n buffer old new (inr (less, gave), bytes, end) all = absurd (omega (arith, less, all))
 
--- the input ends before
 pub filling_ends : {M : Type 0} (m : message.Ghosts M) (n : ℕ) (buffer : List ℕ) (old new : M) → ReadsFull m.transition m.remaining (Ok n) buffer old new
     → n < length buffer → (part : List ℕ) × (length part < length buffer) × ReadsInput m part ended old new
 filling_ends m n buffer old new (inl (full, gave), bytes, end) less = absurd (omega (arith, full, less))
@@ -88,7 +85,6 @@ filling_ends m n buffer old new (inr (fewer, (outcomes, reads, gave)), bytes, en
       record { earlier = outcomes; last = Ok [] ∷ []; reads = reads; gave = gave; ends = refl; bytes = bytes; none = end less },
     )
 
--- a read fails before
 pub filling_fails : {M : Type 0} (m : message.Ghosts M) (error : Error) (buffer : List ℕ) (old new : M)
     → ReadsFull m.transition m.remaining (Err error) buffer old new
     → (part : List ℕ) × (length part < length buffer) × ReadsInput m part broken old new
@@ -115,7 +111,6 @@ reads_split transition [] ys old new reads = (old, refl, reads)
 reads_split transition (x ∷ xs) ys old new (next, first, later) =
     let (middle, more, rest) = reads_split transition xs ys next new later in (middle, (next, first, more), rest)
 
--- A message is a part of an input.
 pub record IsPart {P M : Type 0} (p : message.Ghosts P) (m : message.Ghosts M) (input_of : P → M) (left_of : P → ℕ) : Type 0 where
   pub part : (old : P) (outcome : ReadOutcome) (new : P) → p.transition old outcome new
       → ReadsPart m (left_of old) (input_of old) outcome (left_of new) (input_of new)
@@ -141,7 +136,6 @@ module _ {P M : Type 0} (p : message.Ghosts P) (m : message.Ghosts M) (input_of 
       ]
   part_reads (Err kind ∷ later) text old new (next, first, reads) never = absurd never
 
-  -- all of it
   pub part_done : (text : List ℕ) (old new : P) → ReadWhole p.transition p.remaining text old new
       → (length text ≡ left_of old) × (left_of new ≡ 0) × ReadsInput m text going (input_of old) (input_of new)
   part_done text old new whole =

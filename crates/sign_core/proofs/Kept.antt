@@ -19,7 +19,6 @@ use Rattle.sign_core.proofs.Leaves.{number_other}
 use Rattle.sign_core.proofs.Append.{current_above, current_cut, current_new, next_kept, next_new, next_raised}
 use Rattle.sign_core.proofs.Next.{current_bound, current_moved, current_retire, extend_reaches, trees_apart}
 
--- one more level above
 pub above_more : (old new : List (Option Tree)) (i : ℕ) → i < length new → AreAbove old i new → AreAbove old (i + 1) (set new i (kept_at old i))
 above_more old new i within above k = elim (cases_eq k i) [
   | inl same ↦
@@ -135,7 +134,6 @@ follows_retire old new bottom upto raise = λ secret records key tree first last
     has_raised secret records key (Retire upto) bottom tree upto old new first at (ap (λ o. in_tree o upto) here) k within
     (current_retire k records upto) has raise
 
--- kept trees stay right after a Moved
 pub follows_moved : (secret : Secret) (records : List Record) (levels : List (Option Tree)) → HasTrees secret records levels
     → HasTrees secret (records ++ Moved ∷ []) levels
 follows_moved secret records levels has k within =
@@ -160,7 +158,6 @@ pub kept_tree : (secret : Secret) (records : List Record) (levels : List (Option
 kept_tree secret records levels level tree has within is =
     with_next_means secret records (current level records) tree (sym (has level within) ∙ is)
 
--- where none is kept none is current
 pub kept_none : (secret : Secret) (records : List Record) (levels : List (Option Tree)) (level : ℕ) → HasTrees secret records levels
     → level < 8 → kept_at levels level ≡ None → current level records ≡ None
 kept_none secret records levels level has within is = by (current level records) (sym (has level within) ∙ is)

@@ -16,7 +16,6 @@ use Rattle.sign_core.proofs.KeySizes.{size-hss_key, size-xmss_key}
 apart : {A : Type 0} (m n k : ℕ) → k ≡ m → k ≡ n → (m ≡ n → ⊥) → A
 apart m n k is_m is_n differs = absurd (differs (sym is_m ∙ is_n))
 
--- bytes spell one key
 pub one_key : (key other : AnyPublic) (bytes : List ℕ) → SpellsKey key bytes → SpellsKey other bytes → key ≡ other
 one_key (Lms a) (Lms b) bytes first second = ap Lms (one_value lms_public_key a b bytes first second)
 one_key (Lms a) (Hss b) bytes first second = apart 56 60 (length bytes) (size-lms_key a bytes first) (size-hss_key b bytes second) (λ e. omega (arith, e))
@@ -28,7 +27,6 @@ one_key (Xmss a) (Lms b) bytes first second = apart 68 56 (length bytes) (size-x
 one_key (Xmss a) (Hss b) bytes first second = apart 68 60 (length bytes) (size-xmss_key a bytes first) (size-hss_key b bytes second) (λ e. omega (arith, e))
 one_key (Xmss a) (Xmss b) bytes first second = ap Xmss (one_value xmss_public_key a b bytes first second)
 
--- the bytes of a key have no fault
 pub no_key : (key : AnyPublic) (bytes : List ℕ) (fault : KeyFault) → SpellsKey key bytes → KeyHasFault bytes fault → ⊥
 no_key (Lms key) bytes (Length n) spelled (is, not_lms, _, _) = not_lms (is ∙ size-lms_key key bytes spelled)
 no_key (Hss key) bytes (Length n) spelled (is, _, not_hss, _) = not_hss (is ∙ size-hss_key key bytes spelled)
@@ -43,7 +41,7 @@ no_key (Xmss key) bytes (Unreadable fault) spelled (inl (len, faulty)) = apart 6
 no_key (Xmss key) bytes (Unreadable fault) spelled (inr (inl (len, faulty))) = apart 68 60 (length bytes) (size-xmss_key key bytes spelled) len (λ e. omega (arith, e))
 no_key (Xmss key) bytes (Unreadable fault) spelled (inr (inr (len, faulty))) = no_value xmss_public_key key bytes 0 fault spelled faulty
 
--- so a right answer is this key
+-- a right answer is the key of these bytes
 pub spelled_read : (bytes : List ℕ) (answer : Result AnyPublic KeyFault) → IfOk answer (λ key. SpellsKey key bytes) → IfErr answer (KeyHasFault bytes)
     → (key : AnyPublic) → SpellsKey key bytes → answer ≡ Ok key
 spelled_read bytes (Ok read) ok err key spelled = ap Ok (one_key read key bytes ok spelled)

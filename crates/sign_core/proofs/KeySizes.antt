@@ -18,7 +18,6 @@ size-xmss_type : HasSize xmss_type 4
 unfolding xmss_type
 size-xmss_type = size-typed xmss_code xmss_types
 
--- a number of levels
 tested : ℕ → ℕ → ℕ → Layout ℕ
 tested low high n = cond (nat_le low n && nat_le n high) (done n) (refuse 4 LevelCount)
 

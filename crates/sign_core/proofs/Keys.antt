@@ -8,7 +8,6 @@ use Rattle.state_file.specs.declared.record.Record.{Record}
 use Rattle.state_file.specs.declared.record.Record.TheVariants.{Key as KeyRecord, Extend as ExtendRecord, Bound as BoundRecord, Retire, Moved}
 use Rattle.sign_core.specs.Records.{key_in}
 
--- the key is record 0
 pub key_stands : (records : List Record) (key : Key) → key_in records ≡ Some key → slice_get records 0 ≡ Some (KeyRecord key)
 key_stands [] key is = absurd (cc)
 key_stands (KeyRecord first ∷ rest) key is = ap (λ k. Some (KeyRecord k)) (same_Some first key is)

@@ -42,11 +42,9 @@ Grown records outcome = (more : List Record) × (outcome.state.records ≡ recor
 unchanged : (records : List Record) → (more : List Record) × (records ≡ records ++ more)
 unchanged records = ([], sym (append-nil records))
 
--- what grew by one record and then by more
 grown_more : {A : Type 0} (records : List Record) (entry : Record) (outcome : Outcome A) → Grown (records ++ entry ∷ []) outcome → Grown records outcome
 grown_more records entry outcome (more, are) = (entry ∷ more, are ∙ append_assoc records (entry ∷ []) more)
 
--- an append, and what comes after it
 grown_append : {A : Type 0} (state : State) (entry : Record) (fate : Fate) (next : List Record → Outcome A)
     → ((records : List Record) → Grown records (next records)) → Grown state.records (appended state entry fate next)
 grown_append state entry acked next later = grown_more state.records entry (next (state.records ++ entry ∷ [])) (later (state.records ++ entry ∷ []))
@@ -170,7 +168,6 @@ grown_retired limit state upto fate (Some key) = grown_choice state.records (not
 
 -- ---- runs
 
--- where nothing is handed out
 only_grown : {A : Type 0} (world : World) (outcome : Outcome A) → Grown world.state.records outcome
     → LastsInto world (record { state = outcome.state; handed = world.handed })
 only_grown world outcome (more, are) = record { records = more; handed = []; records_are = are; handed_are = sym (append-nil world.handed) }
@@ -189,7 +186,6 @@ extends_after limit world (migrate fate) none = absurd none
 extends_after limit world stop none =
     record { records = []; handed = []; records_are = sym (append-nil world.state.records); handed_are = sym (append-nil world.handed) }
 
--- one after the other
 extends_on : (first second third : World) → LastsInto first second → LastsInto second third → LastsInto first third
 extends_on first second third a b = record {
   records = a.records ++ b.records;
@@ -219,7 +215,6 @@ lasting_append (BoundRecord bound ∷ xs) ys = ap (λ l. BoundRecord bound ∷ l
 lasting_append (Retire upto ∷ xs) ys = ap (λ l. Retire upto ∷ l) (lasting_append xs ys)
 lasting_append (MovedRecord ∷ xs) ys = lasting_append xs ys
 
--- `lasting` ignores the version
 lasting_in : (version : Version) (records : List Record) → lasting (map (in_version version) records) ≡ lasting records
 lasting_in version [] = refl
 lasting_in version (KeyRecord key ∷ rest) = ap (λ l. in_version One (KeyRecord key) ∷ l) (lasting_in version rest)
@@ -228,7 +223,6 @@ lasting_in version (BoundRecord bound ∷ rest) = ap (λ l. BoundRecord bound �
 lasting_in version (Retire upto ∷ rest) = ap (λ l. Retire upto ∷ l) (lasting_in version rest)
 lasting_in version (MovedRecord ∷ rest) = lasting_in version rest
 
--- and a Moved
 lasting_moved : (records : List Record) → lasting (records ++ MovedRecord ∷ []) ≡ lasting records
 lasting_moved records = lasting_append records (MovedRecord ∷ []) ∙ append-nil (lasting records)
 

@@ -170,7 +170,6 @@ found_there test (suc n) level (within, good, others) = find_down test n ∙ eli
 has_none : (n : ℕ) → nat_lt 0 n ≡ false → n ≡ 0
 has_none n is = omega (arith, ltb-false 0 n is)
 
--- the level that `deepest` finds has a free leaf, and none below it has
 pub deepest_is : (secret : Secret) (records : List Record) (level : ℕ) → deepest secret records ≡ Some level
     → (level < levels_of secret) × (0 < free_at secret records level)
     × ((below : ℕ) → level < below → below < levels_of secret → free_at secret records below ≡ 0)
@@ -181,7 +180,6 @@ deepest_is secret records level is =
       λ below after under. has_none (free_at secret records below) (others below after under),
     )
 
--- and such a level is what it finds
 pub is_deepest : (secret : Secret) (records : List Record) (level : ℕ) → level < levels_of secret → 0 < free_at secret records level
     → ((below : ℕ) → level < below → below < levels_of secret → free_at secret records below ≡ 0) → deepest secret records ≡ Some level
 is_deepest secret records level within free others =
@@ -189,7 +187,6 @@ is_deepest secret records level within free others =
     λ below after under. ap (nat_lt 0) (others below after under) in
     found_there (λ l. nat_lt 0 (free_at secret records l)) (levels_of secret) level (within, lt-ltb 0 (free_at secret records level) free, none)
 
--- where it finds none, no leaf is free
 pub none_free : (secret : Secret) (records : List Record) → deepest secret records ≡ None
     → (level : ℕ) → level < levels_of secret → free_at secret records level ≡ 0
 none_free secret records is level within =

@@ -53,7 +53,6 @@ leaves_in_few [] level = omega arith
 leaves_in_few (pair ∷ rest) zero = height_inside (height_of pair.tree) (lms_most pair.tree)
 leaves_in_few (pair ∷ rest) (suc level) = leaves_in_few rest level
 
--- no tree has more than 2 ^ 25 leaves
 leaves_few : (secret : Secret) (level : ℕ) → leaves_at secret level ≤ 2 ^ 25
 leaves_few (Lms secret) level = height_inside (height_of secret.pair.tree) (lms_most secret.pair.tree)
 leaves_few (Hss levels identifier seed) level = leaves_in_few levels level
@@ -76,7 +75,6 @@ bound_free records key bound follows =
     (has_randomizer key.secret bound.randomizer) rest in
     (and_parts (is_free key.secret records (bottom_of key.secret) bound.leaf) (not (is_some (binding_in records bound.name))) two).0
 
--- a Bound that can follow names a leaf below 2 ^ 25
 pub bound_leaf : (records : List Record) (key : Key) (bound : Bound) → can_follow (Some key) records (BoundRecord bound) ≡ true
     → bound.leaf < 2 ^ 25
 bound_leaf records key bound follows =
@@ -108,7 +106,6 @@ extend_inside records key extend follows =
 
 -- ---- the tree that is current before a new record
 
--- the place of a kept tree, 0 where there is none
 abbrev pub place_of : Option Tree → ℕ
 place_of None = 0
 place_of (Some tree) = tree.place
@@ -183,7 +180,6 @@ made_grown records extend place = elim (cases_eq (length records) place) [
       | inr beyond ↦ made_after records (ExtendRecord extend) place (omega (arith, beyond, apart))
     ]
 
--- and its I with its place
 some_or : (b : Bool) (place : ℕ) (found : Option ℕ) → is_some (cond b (Some place) found) ≡ (is_some found || b)
 some_or true place None = refl
 some_or true place (Some other) = refl

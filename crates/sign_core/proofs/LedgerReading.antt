@@ -80,7 +80,6 @@ module _ (records : List Record) (key : Key) (level tree n : ℕ) (first : slice
       omega (arith, low, number)
   reach_inside Moved fits reached = absurd (none-some (tree, n) reached)
 
--- no next leaf passes the end of its tree
 pub next_inside : (records : List Record) (legal : IsLegal records) (level tree : ℕ) → current level records ≡ Some tree
     → next_in legal.key.secret records tree ≤ leaves_at legal.key.secret level
 next_inside records legal level tree is = elim ((is_next legal.key.secret records tree).least) [
@@ -91,7 +90,7 @@ next_inside records legal level tree is = elim ((is_next legal.key.secret record
       (legal.fits k entry at) reached
 ]
 
--- the same for a tree in memory
+-- in memory no next leaf passes the end of its tree
 pub tree_inside : (records : List Record) (key : Key) (level : ℕ) (tree : Tree) → IsLegal records → key_in records ≡ Some key
     → tree_at key.secret records level ≡ Some tree → tree.next ≤ leaves_at key.secret level
 tree_inside records key level tree legal keyed is =

@@ -50,7 +50,6 @@ made_same records entry place (Some (Retire upto)) within = refl
 made_same records entry place (Some Moved) within = refl
 made_same records entry place None within = refl
 
--- earlier places stay as they are
 pub made_before : (records : List Record) (entry : Record) (place : ℕ) → place < length records
     → made_at (records ++ entry ∷ []) place ≡ made_at records place
 made_before records entry place below =
@@ -63,13 +62,11 @@ made_after records entry place beyond =
     ap (made_by (records ++ entry ∷ []) place) (slice_get_after records entry place beyond)
     ∙ sym (ap (made_by records place) (slice_get_past records place (omega (arith, beyond))))
 
--- its own place has what is kept of it
 pub made_here : (records : List Record) (entry : Record) → made_at (records ++ entry ∷ []) (length records) ≡ made_by records (length records) (Some entry)
 made_here records entry =
     ap (made_by (records ++ entry ∷ []) (length records)) (slice_get_new records entry)
     ∙ made_same records entry (length records) (Some entry) (omega arith)
 
--- a record that makes no tree changes nothing
 pub made_other : (records : List Record) (entry : Record) (place : ℕ) → ((k : ℕ) → made_by records k (Some entry) ≡ None)
     → made_at (records ++ entry ∷ []) place ≡ made_at records place
 made_other records entry place none = elim (cases_lt place (length records)) [
@@ -104,7 +101,6 @@ kept_longer secret records more name (Some (k, bound)) is =
     let within : k < length records = slice_get_within records k (BoundRecord bound) at in
     ap Some (kept_stays secret records more k bound (omega (arith, within)))
 
--- a record that doesn't bind a name leaves the name's binding
 pub kept_other : (secret : Secret) (records : List Record) (entry : Record) (name : List ℕ) → binds name entry ≡ None
     → binding_kept secret (records ++ entry ∷ []) name ≡ binding_kept secret records name
 kept_other secret records entry name none =
@@ -192,7 +188,6 @@ some_means : (found : Option ℕ) → is_some found ≡ true → (place : ℕ) �
 some_means None is = absurd (true≢false (sym is))
 some_means (Some place) is = (place, refl)
 
--- a Retire of leaves of the current bottom tree
 pub grown_retire : (records : List Record) (key : Key) (made : ByPlace Made) (bindings : ByText Binding) (identifiers : ByText ℕ)
     (levels : List (Option Tree)) (count : ℕ) (moved : Bool) → IsTableOf records key made bindings identifiers levels count moved
     → (upto bottom : ℕ) → can_follow (Some key) records (Retire upto) ≡ true → bottom ≡ bottom_of key.secret

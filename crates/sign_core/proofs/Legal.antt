@@ -139,13 +139,11 @@ not_means : (b : Bool) → not b ≡ true → b ≡ false
 not_means true is = sym is
 not_means false is = refl
 
--- a legal list with one more record that can follow is legal
 pub grows : (before : List Record) (entry : Record) → IsLegal before → can_follow (key_in before) before entry ≡ true → IsLegal (before ++ entry ∷ [])
 grows before entry legal follows =
     let (stays, rest) = parts_of (key_in before) legal.key before entry (key_first before legal.key legal.first) follows in
     grown before entry legal (not_means (has_moved before) stays) rest
 
--- the last record of a legal list can follow the ones before it
 pub grew : (before : List Record) (entry : Record) → 0 < length before → IsLegal (before ++ entry ∷ [])
     → can_follow (key_in before) before entry ≡ true
 grew before entry some legal =

@@ -42,7 +42,6 @@ one_extend : (a b : Extend) → Some (ExtendRecord a) ≡ Some (ExtendRecord b) 
 unfolding extend_in
 one_extend a b same = same_Some a b (ap extend_in same)
 
--- a kept Extend
 pub made_extend : (records : List Record) (place : ℕ) (entry : Option Record) (made : Made) → made_by records place entry ≡ Some made
     → (entry ≡ Some (ExtendRecord made.extend)) × (made.parent ≡ tree_before (made.extend.level - 1) records place)
 made_extend records place (Some (ExtendRecord extend)) made is =
@@ -58,7 +57,6 @@ made_extend records place None made is = absurd (cc)
 key_or_extend : (key : Key) (extend : Extend) → Some (KeyRecord key) ≡ Some (ExtendRecord extend) → ⊥
 key_or_extend key extend same = cc
 
--- an Extend's tree has its level
 pub level_made : (records : List Record) (key : Key) (level place : ℕ) (extend : Extend) → slice_get records 0 ≡ Some (KeyRecord key)
     → IsTreeAt records level place → slice_get records place ≡ Some (ExtendRecord extend) → (extend.level ≡ level) × (1 ≤ level)
 level_made records key zero place extend first at stands =
@@ -97,7 +95,6 @@ top_pair (Hss (pair ∷ rest) identifier seed) trees these =
     subst (λ (t : Trees). t.top.pair ≡ slice_index_or t.pairs 0 t.top.pair) (same_Some _ trees these) refl
 top_pair (Xmss secret) trees these = absurd (cc)
 
--- a tree's types are its level's
 pub pair_at : (key : Key) (trees : Trees) (records : List Record) (level place : ℕ) → slice_get records 0 ≡ Some (KeyRecord key)
     → trees_of key.secret ≡ Some trees → IsTreeAt records level place
     → (secret_at trees records place).pair ≡ slice_index_or trees.pairs level trees.top.pair

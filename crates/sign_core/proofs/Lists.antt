@@ -8,7 +8,6 @@ slice_get_front [] ys k below = absurd (omega (arith, below))
 slice_get_front (x ∷ xs) ys zero below = refl
 slice_get_front (x ∷ xs) ys (suc k) below = slice_get_front xs ys k (omega (arith, below))
 
--- an item of the front stays in the whole list
 pub slice_get_stays : {A : Type 0} (xs ys : List A) (k : ℕ) (x : A) → slice_get xs k ≡ Some x → slice_get (xs ++ ys) k ≡ Some x
 slice_get_stays xs ys k x is = slice_get_front xs ys k (slice_get_within xs k x is) ∙ is
 
@@ -16,7 +15,6 @@ pub slice_get_new : {A : Type 0} (xs : List A) (new : A) → slice_get (xs ++ ne
 slice_get_new [] new = refl
 slice_get_new (x ∷ xs) new = slice_get_new xs new
 
--- an item of the longer list stands in the front, or was added
 pub front_or_new : {A : Type 0} (xs : List A) (new : A) (k : ℕ) (x : A) → slice_get (xs ++ new ∷ []) k ≡ Some x
     → ((k < length xs) × (slice_get xs k ≡ Some x)) ⊎ ((k ≡ length xs) × (new ≡ x))
 front_or_new [] new zero x is = inr (refl, same_Some new x is)

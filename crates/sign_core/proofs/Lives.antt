@@ -141,7 +141,6 @@ module _ {D : Type 0} (d : disk.Ghosts D) (g : store.Ghosts (FileStore D d)) (ti
   LeavesRuns first now store = (content : List ℕ) → d.left_since (disk_of store) (d.moment (disk_of store)) content
       → IsLeftByRun limit first now.handed content
 
-  -- a crash in a call
   in_call : (first now : World) (old : FileStore D d) (call : Call (FileStore D d)) (content : List ℕ) → IsRun limit first now
       → LeavesRuns first now old → IsCall g.moment g.left_since limit now old call
       → d.left_since (disk_of call.store) (d.moment (disk_of old)) content → IsLeftByRun limit first now.handed content
@@ -269,7 +268,6 @@ module _ {D : Type 0} (d : disk.Ghosts D) (g : store.Ghosts (FileStore D d)) (ti
   after_service before handed on store calls last begins is =
       all_calls (world_on store handed) (world_on store handed) store calls (served_first on store handed begins.honest is.is_store) is.each
 
-  -- there was no store
   failed : (before : List ℕ → Type 0) (handed : List Handed) (old new : D) (content : List ℕ) → LeavesByRuns before handed → IsAtStart d before old
       → IsTriedOn d old new → d.left_since new (d.moment old) content → IsLeftByRun limit beginning handed content
   failed before handed old new content known begins (inl leaves) since = known content (begins.holds content (leaves.each content since))
@@ -304,7 +302,6 @@ module _ {D : Type 0} (d : disk.Ghosts D) (g : store.Ghosts (FileStore D d)) (ti
   all_lives before handed (life ∷ lives) known are =
       all_lives (left_by d life) (handed_by limit handed life) lives (one_life before handed life known are.0) are.1
 
--- a place without a key
 none_led : (limit : ℕ) (content : List ℕ) → HasNoKey content → LedTo limit [] content
 none_led limit content none = record { records = []; stands = none; runs = no_run limit beginning }
 
@@ -322,7 +319,6 @@ left_without_key : {D : Type 0} (d : disk.Ghosts D) (limit : ℕ) (lives : List 
 left_without_key d limit [] content left = none_led limit content left
 left_without_key d limit (life ∷ lives) content left = left
 
--- what a migration leads to
 migrated_run : (limit : ℕ) (handed : List Handed) (records : List Record) (fate : Migration) → IsRun limit beginning (world_of (closed_on records) handed)
     → CanMigrate records → IsRun limit beginning (world_of (closed_on (migrated_to records fate)) handed)
 migrated_run limit handed records fate is (key, keyed, one) =

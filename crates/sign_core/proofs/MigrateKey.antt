@@ -234,7 +234,6 @@ module _ {D E : Type 0} (d : disk.Ghosts D) (e : disk.Ghosts E) (old_time : Keep
 
   -- ---- a place was found
 
-  -- a crash leaves no key at the new place
   place_leaves : (new : E) (place : Place E e) → ChecksPlace {bound = e} e new (Ok place) → IsTrue (e.honest new) → (c : List ℕ) → MayLeave (e.state (place_disk place)) c
       → HasNoKey c
   place_leaves new place checks honest c may =
@@ -242,7 +241,6 @@ module _ {D E : Type 0} (d : disk.Ghosts D) (e : disk.Ghosts E) (old_time : Keep
       let same : c ≡ (e.state new).content = synced_left (e.state new).content c (subst (λ s. MayLeave s c) found.1 may) in
       subst HasNoKey (sym same) found.0
 
-  -- the old content's records are the store's
   same_records : (old : D) (store : FileStore D d) (records : List Record) → OpensOld d old (Ok store) → IsTrue (d.honest old)
       → ((c : List ℕ) → MayLeave (d.state old) c → StandsFor records c) → records ≡ records_of store
   same_records old store records opens honest stands =
@@ -285,7 +283,6 @@ module _ {D E : Type 0} (d : disk.Ghosts D) (e : disk.Ghosts E) (old_time : Keep
   unsealed old new old_stopped new_stopped content after before now OutOfMemory running seals = absurd seals
   unsealed old new old_stopped new_stopped content after before now KeyThere running seals = absurd seals
 
-  -- what a crash leaves has both properties
   both_leave : {T : Type 0} (g : disk.Ghosts T) (before after : T) (P Q : List ℕ → Type 0) → LeavesOnly g.moment g.left_since before after P
       → LeavesOnly g.moment g.left_since before after Q → LeavesOnly g.moment g.left_since before after (λ c. P c × Q c)
   both_leave g before after P Q first second = record {
@@ -468,7 +465,6 @@ module _ {D E : Type 0} (d : disk.Ghosts D) (e : disk.Ghosts E) (old_time : Keep
   number_then (Ok n) a b same is = is ∙ same
   number_then (Err fault) a b same is = tt
 
-  -- the sealed file is synced
   sealed_synced : (old : D) (store : FileStore D d) (file : Sealed D d) → OpensOld d old (Ok store) → SealsStore {bound = d} d store (Ok file)
       → IsTrue (d.honest old) → IsSynced (d.state (disk_of (store_of file)))
   sealed_synced old store file opens seals honest = elim (cases_Bool (has_moved (records_of store))) [

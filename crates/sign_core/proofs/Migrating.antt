@@ -290,7 +290,6 @@ module _ (version : Version) (key : Key) where
 
 -- ---- a Moved at the end
 
--- records that end with a Moved
 pub front_of : (records : List Record) → has_moved records ≡ true → (front : List Record) × (records ≡ front ++ Moved ∷ []) × (unmoved records ≡ front)
 front_of records moved =
     let last : slice_get records (length records - 1) ≡ Some Moved = moved_means (slice_get records (length records - 1)) moved in
@@ -396,7 +395,6 @@ carried_front records front key legal keyed none same is =
       carried_is = ap (map (in_version Two)) (same ∙ list) ∙ ap (λ l. KeyRecord (key_in_version Two key) ∷ l) (same_mapped Two rest only);
     }
 
--- every legal list is of this form
 pub is_carried : (records : List Record) (key : Key) → IsLegal records → key_in records ≡ Some key → IsCarried records key
 is_carried records key legal keyed = elim (cases_Bool (has_moved records)) [
   | inl moved ↦ by_front moved (front_of records moved)

@@ -26,7 +26,6 @@ can_migrate content records is =
 
 module _ {D E : Type 0} (d : disk.Ghosts D) (e : disk.Ghosts E) (time : KeepsTime d) (limit : ℕ) (handed : List Handed) (old : D)
     (starts : IsAtStart d (LedTo limit handed) old) where
-  -- the content at the old place
   led : LedTo limit handed (d.state old).content
   led = starts.holds (d.state old).content (time.shows old starts.honest)
 

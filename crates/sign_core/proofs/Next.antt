@@ -117,7 +117,6 @@ next_at_below secret records extend level lower of under =
 
 -- ---- a Bound, a Retire and a Moved
 
--- the current trees stay
 pub current_bound : (level : ℕ) (records : List Record) (bound : Bound) → current level (records ++ BoundRecord bound ∷ []) ≡ current level records
 current_bound level records bound = current_kept level records (BoundRecord bound) (λ l low high. refl)
 
@@ -155,7 +154,6 @@ next_at_retire_other secret records key upto level tree first is apart =
     next_at_kept secret records key (Retire upto) (bottom_of secret) level tree upto first is
     (ap (λ o. in_tree o upto) is) apart (current_retire level records upto)
 
--- a Moved changes none
 pub next_at_moved : (secret : Secret) (records : List Record) (level : ℕ)
     → next_at secret (records ++ Moved ∷ []) level ≡ next_at secret records level
 next_at_moved secret records level = by (current level records) refl

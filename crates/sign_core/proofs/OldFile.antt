@@ -32,7 +32,6 @@ pub record IsRead {D : Type 0} (d : disk.Ghosts D) (old now : FileStore D d) : T
   pub past_ends : IsTrue (d.honest (disk_of old)) → d.past_ends (disk_of now) ≡ d.past_ends (disk_of old)
   pub honest : d.honest (disk_of now) ≡ d.honest (disk_of old)
 
--- The answer is no 45.
 abbrev pub IsUnfailed : {A : Type 0} → Result A MigrateFault → Type 0
 IsUnfailed answer = (n : ℕ) → Counts is_failed_migration n n answer
 
@@ -61,7 +60,6 @@ refuses_next table after entry DeviceFailed takes = absurd takes
 refuses_next table after entry KeyThere takes = absurd takes
 refuses_next table after entry Full takes = absurd takes
 
--- 42 is no failure of a device
 pub version_unfailed : {A : Type 0} (answer : Result A MigrateFault) → IfErr answer (λ fault. fault ≡ VersionFault) → IsUnfailed answer
 version_unfailed (Ok x) is = λ n. refl
 version_unfailed (Err fault) is = λ n. ap (λ f. if is_failed_migration f then n + 1 else n) (sym is)
@@ -85,7 +83,6 @@ module _ {D : Type 0} (d : disk.Ghosts D) where
         (subst (λ s. LeavesOnly d.moment d.left_since mid new (MayLeave s)) first.stays second.leaves);
   }
 
-  -- one call more
   pub reads_after : {A : Type 0} (old mid new : FileStore D d) (answer : Result A MigrateFault) → IsRead d old mid → ReadsRecords d mid new answer
       → ReadsRecords d old new answer
   reads_after old mid new answer kept reads = record {
@@ -99,7 +96,6 @@ module _ {D : Type 0} (d : disk.Ghosts D) where
     running = reads.running;
   }
 
-  -- one that is refused
   pub refused_after : {A B : Type 0} (old mid new : FileStore D d) (fault : MigrateFault) → IsRead d old mid → ReadsRecords {A = A} d mid new (Err fault)
       → ReadsRecords {A = B} d old new (Err fault)
   refused_after old mid new fault kept reads = record {
@@ -140,7 +136,6 @@ module _ {D : Type 0} (d : disk.Ghosts D) where
   list_begins [] first is = absurd (cc)
   list_begins (entry ∷ rest) first is = (rest, ap (λ e. e ∷ rest) (same_Some entry first is))
 
-  -- the key
   pub key_taken : (old now : FileStore D d) (table : Table) → ReadsRecords d old now (Ok table) → table.records ≡ KeyRecord table.key ∷ []
       → (IsTrue (d.honest (disk_of old)) → slice_get (records_of old) 0 ≡ Some (KeyRecord table.key)) → HasTaken old now table 1
   key_taken old now table reads alone first = record {
@@ -161,7 +156,6 @@ module _ {D : Type 0} (d : disk.Ghosts D) where
   stands old now k entry read finds honest =
       ap (λ l. slice_get l k) (sym read.records) ∙ record_at _ _ k entry finds.1 (subst IsTrue (sym read.honest) honest)
 
-  -- one record more
   pub taken : (old now next : FileStore D d) (table after : Table) (k : ℕ) (entry : Record) (found : Option Record) (done : Unit {0}) → HasTaken old now table k
       → ReadsRecords d now next (Ok found) → FindsRecord (d.honest (disk_of now)) (records_of now) k (Ok (Some entry))
       → TakesUpNext table after entry (Ok done) → HasTaken old next after (k + 1)
@@ -206,7 +200,6 @@ module _ {D : Type 0} (d : disk.Ghosts D) where
       by KeyThere takes = absurd takes
       by Full takes = absurd takes
 
-  -- a refusal to take one up is no failure of the device
   pub untaken_is_no_failure : (table after : Table) (entry : Record) (fault : MigrateFault) → TakesUpNext table after entry (Err fault)
       → IsUnfailed {A = Table} (Err fault)
   untaken_is_no_failure table after entry (Illegal n) takes = λ m. refl
@@ -220,7 +213,6 @@ module _ {D : Type 0} (d : disk.Ghosts D) where
   untaken_is_no_failure table after entry KeyThere takes = absurd takes
   untaken_is_no_failure table after entry Full takes = absurd takes
 
-  -- a record that isn't loaded
   pub unloaded : (list : List Record) (k : ℕ) (honest : Bool) (fault : MigrateFault) → FindsRecord honest list k (Err fault) → IsTrue honest
       → RefusesRecords list fault
   unloaded list k honest (Damaged slot) finds is = absurd (true≢false (sym is ∙ finds))
@@ -234,7 +226,6 @@ module _ {D : Type 0} (d : disk.Ghosts D) where
   unloaded list k honest KeyThere finds is = absurd finds
   unloaded list k honest Full finds is = absurd finds
 
-  -- the end
   pub all_taken : (old now : FileStore D d) (table : Table) (k : ℕ) → HasTaken old now table k → length (records_of old) ≤ k → IsTrue (d.honest (disk_of old))
       → table.records ≡ records_of old
   all_taken old now table k is end honest = holds_all (records_of old) k table (is.holds honest) end

@@ -24,7 +24,6 @@ pub record IsKept (records : List Record) (handed : List Handed) : Type 0 where
   pub sizes : AllHaveSizes records
   pub recorded : (x : Handed) → Contains handed x → IsRecorded records x
 
--- at the beginning
 pub kept_empty : IsKept [] []
 kept_empty = record {
   ground = inl refl;
@@ -40,7 +39,6 @@ no_key (first ∷ rest) key empty is = absurd (cc)
 pub sound_with : (records : List Record) (handed : List Handed) (key : Key) → IsKept records handed → key_in records ≡ Some key → AreSound records
 sound_with records handed key kept is = elim kept.ground [ inl empty ↦ absurd (no_key records key empty is) | inr sound ↦ sound ]
 
--- and sound under that key
 pub each_sound : (records : List Record) (key : Key) (k : ℕ) → AreSound records → key_in records ≡ Some key → is_sound_at key records k ≡ true
 each_sound records key k sound is =
     let same : sound.key ≡ key = cc (sound.keyed, is) in
@@ -74,7 +72,6 @@ sound_grown records key entry sound is can new = record {
   sound = λ k. each_grown records key entry k sound is new;
 }
 
--- a recorded signature stays recorded
 pub recorded_stays : (records : List Record) (entry : Record) (x : Handed) → IsRecorded records x → IsRecorded (records ++ entry ∷ []) x
 recorded_stays records entry x is =
     let bound_to = is.is_bound in
@@ -107,7 +104,6 @@ kept_grown records handed key entry kept is can new sized = record {
   recorded = λ x there. recorded_stays records entry x (kept.recorded x there);
 }
 
--- one more signature that is recorded
 pub kept_handed : (records : List Record) (handed : List Handed) (x : Handed) → IsKept records handed → IsRecorded records x → IsKept records (handed ++ x ∷ [])
 kept_handed records handed x kept is = record {
   ground = kept.ground;
@@ -125,7 +121,6 @@ handed_none : (name : List ℕ) (given : Option (List ℕ)) (fault : SignFault) 
 handed_none name (Some message) fault = refl
 handed_none name None fault = refl
 
--- where nothing is handed out
 kept_silent : (records : List Record) (handed : List Handed) (name : List ℕ) (given : Option (List ℕ)) (fault : SignFault) → IsKept records handed
     → IsKept records (handed ++ handed_with name given (Err fault))
 kept_silent records handed name given fault kept =
@@ -135,7 +130,6 @@ pub kept_refused : (state : State) (handed : List Handed) (name : List ℕ) (giv
     → Keeps handed name given (refused state fault)
 kept_refused state handed name given fault kept = kept_silent state.records handed name given fault kept
 
--- an append, and what comes after it
 pub kept_append : (state : State) (handed : List Handed) (name : List ℕ) (given : Option (List ℕ)) (entry : Record) (fate : Fate)
     (next : List Record → Outcome (List ℕ))
     → IsKept state.records handed → IsKept (state.records ++ entry ∷ []) handed → Keeps handed name given (next (state.records ++ entry ∷ []))

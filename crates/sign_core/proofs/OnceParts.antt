@@ -76,14 +76,12 @@ new_request limit state key name chance long open_now stays keyed unbound is =
     open_request limit state key name chance None open_now stays keyed unbound
     ∙ ap (λ test. if test then refused state LongName else bound_anew limit state key name chance (deepest key.secret state.records)) is
 
--- one that is too long is refused
 pub long_request : (limit : ℕ) (state : State) (key : Key) (name : List ℕ) (chance : Chance) → state.is_open ≡ true → has_moved state.records ≡ false
     → key_in state.records ≡ Some key → binding_in state.records name ≡ None → name_most key.version < length name
     → requested limit state name chance ≡ refused state LongName
 long_request limit state key name chance open_now stays keyed unbound above =
     new_request limit state key name chance true open_now stays keyed unbound (lt-ltb (name_most key.version) (length name) above)
 
--- after a Moved every request is refused
 moved_request : (limit : ℕ) (state : State) (key : Key) (name : List ℕ) (chance : Chance) → state.is_open ≡ true → has_moved state.records ≡ true
     → key_in state.records ≡ Some key → requested limit state name chance ≡ refused state MovedAway
 moved_request limit state key name chance open_now moved keyed =
@@ -250,7 +248,6 @@ pub closed_under : (limit : ℕ) (state : State) (name : List ℕ) (chance : Cha
 closed_under limit state name chance (Some key) closed = rw closed refl
 closed_under limit state name chance None closed = refl
 
--- what a request answers is handed out
 pub handed_out : (limit : ℕ) (world : World) (name message signature : List ℕ) (chance : Chance) → chance.given ≡ Some message
     → (requested limit world.state name chance).answer ≡ Ok signature
     → Contains (after limit world (request name chance)).handed (record { name = name; message = message; signature = signature })
@@ -302,7 +299,6 @@ opens_again state handed key kept keyed =
 
 -- ---- retirings
 
--- a 25 closes the signer
 abbrev Shuts : Outcome (Unit {0}) → Type 0
 Shuts outcome = outcome.answer ≡ Err StoreFailed → outcome.state.is_open ≡ false
 

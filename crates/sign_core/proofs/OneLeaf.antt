@@ -27,7 +27,6 @@ use Rattle.sign_core.proofs.Sizes.{key_has_sizes, public_made}
 one_at : {A : Type 0} (xs : List A) (j k : ℕ) (a b : A) → j ≡ k → slice_get xs j ≡ Some a → slice_get xs k ≡ Some b → a ≡ b
 one_at xs j k a b same at_j at_k = let both : Some a ≡ Some b = sym at_j ∙ ap (slice_get xs) same ∙ at_k in cc
 
--- no two trees have one I
 one_tree : (secret : Secret) (records : List Record) (a b : ℕ) (identifier other : List ℕ) → IsLegal records → identifier ≡ other
     → IsTreeOf secret records a identifier → IsTreeOf secret records b other → a ≡ b
 one_tree (Lms own) records a b identifier other legal same (made, at, is) (made_too, at_too, is_too) = elim (cases_order a b) [
@@ -42,7 +41,6 @@ one_tree (Hss levels top seed) records a b identifier other legal same (made, at
 ]
 one_tree (Xmss own) records a b identifier other legal same is is_too = is ∙ sym is_too
 
--- a leaf is named once
 one_place : (key : Key) (records : List Record) (p q : ℕ) (u v : LeafUse) (legal : IsLegal records) → legal.key ≡ key → IsUseOf key records p u
     → IsUseOf key records q v
     → IsOneLeaf u v → p ≡ q
@@ -64,7 +62,6 @@ one_place key records p q u v legal keyed first second one =
           in omega (arith, less, leaf))
     ]
 
--- and a record signs one digest
 one_signed : (entry : Record) (a b : List ℕ) → Signs entry a → Signs entry b → a ≡ b
 one_signed (KeyRecord key) a b first second = absurd first
 one_signed (ExtendRecord extend) a b first second = first ∙ sym second
@@ -146,7 +143,6 @@ one_digest world x y uses others u v kept were in_uses in_others one =
     let entry : of_u.entry ≡ of_v.entry = one_at records p q of_u.entry of_v.entry place of_u.stands of_v.stands in
     one_signed of_v.entry u.digest v.digest (subst (λ r. Signs r u.digest) entry of_u.signs) of_v.signs
 
--- bindings at one place have one name
 one_bound : (records : List Record) (name other : List ℕ) (j k : ℕ) (a b : Bound) → j ≡ k → binding_in records name ≡ Some (j, a)
     → binding_in records other ≡ Some (k, b)
     → name ≡ other
@@ -173,7 +169,6 @@ one_name world x y uses others u v kept were last_u last_v one =
     let place : are.first.k ≡ are.second.k = one_place are.key records are.first.k are.second.k u v are.sound.legal are.own of_u of_v one in
     one_bound records x.name y.name are.first.k are.second.k are.first.bound are.second.bound place are.first.is_bound.named are.second.is_bound.named
 
--- one name has one recorded signature
 pub one_signature : (records : List Record) (x y : Handed) → IsRecorded records x → IsRecorded records y → x.name ≡ y.name → x.signature ≡ y.signature
 one_signature records x y is_x is_y name =
     let first = recorded_under records is_x.key x is_x.is_bound.keyed is_x in
@@ -183,7 +178,6 @@ one_signature records x y is_x is_y name =
     let pair : ◌≡◌ {A = ℕ × Bound} (first.k, first.bound) (second.k, second.bound) = cc in
     first.signature ∙ ap₂ (λ k b. signature_at is_x.key records k b) (ap (λ p. p.0) pair) (ap (λ p. p.1) pair) ∙ sym second.signature
 
--- a signature that was handed out is valid
 pub handed_valid : (world : World) (x : Handed) → IsKept world.state.records world.handed → Contains world.handed x
     → (public : AnyPublic) × (public_in_world world ≡ Some public) × IsValidUnder public x.message x.signature
 handed_valid world x kept there =

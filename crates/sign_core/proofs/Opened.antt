@@ -51,7 +51,6 @@ use Rattle.sign_core.proofs.SoundChains.{AreOf, IsStanding, bound_stands, extend
 use Rattle.sign_core.proofs.Stays.{some_keyed}
 use Rattle.sign_core.proofs.Valid.{checked}
 
--- legal records have a key
 pub of_key : (records : List Record) → AreWellFormed records → (key : Key) × AreOf key records
 of_key records are =
     (are.legal.key, record { legal = are.legal; sizes = are.sizes; keyed = key_first records are.legal.key are.legal.first })
@@ -224,7 +223,6 @@ created_there None state spec chance some =
     ap (λ test. (if test then refused state KeyThere else drawing (concat chance.fields) (begun state chance (secret_from spec chance.fields))).state)
     (le-leb 1 (length state.records) some)
 
--- an opening keeps the records
 published_same : (records : List Record) (public : Option AnyPublic) → (published records public).state.records ≡ records
 published_same records (Some public) = refl
 published_same records None = refl

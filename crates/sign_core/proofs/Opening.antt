@@ -70,7 +70,6 @@ pub record IsLoadedTo {S : Type 0} (g : store.Ghosts S) (old now : S) (table : T
   pub keyed : key_in table.records ≡ Some table.key
   pub sizes : SecretHasSizes table.key.secret
 
--- before the first load
 pub none_loaded : {S : Type 0} (g : store.Ghosts S) (old : S)
     → LeavesItsList g old
     → HasLoaded g old old [] 0 0
@@ -105,7 +104,6 @@ gave_more : {S : Type 0} (g : store.Ghosts S) (old now next : S) (records : List
 gave_more g old now next records entry before more =
     more ∙ ap (λ l. l ++ entry ∷ []) before ∙ append_assoc (g.given old) records (entry ∷ [])
 
--- the given records are the first of the whole list
 gave_whole : {S : Type 0} (g : store.Ghosts S) (old next : S) (records more : List Record) (k : ℕ) → length records ≡ k → g.given next ≡ g.given old ++ records
     → g.given next ≡ g.given old ++ take k (records ++ more)
 gave_whole g old next records more k long gave = gave ∙ ap (λ l. g.given old ++ l) (sym (take_at records more k long))
@@ -237,7 +235,6 @@ first_place : {S : Type 0} (g : store.Ghosts S) (old now : S) (records : List Re
 first_place g old now records zero has stopped = refl
 first_place g old now records (suc k) has stopped = absurd (true≢false (sym stopped ∙ has.kept.stopped ∙ has.running (omega arith)))
 
--- a load that fails
 pub unloaded : {S : Type 0} (g : store.Ghosts S) (old now next : S) (records : List Record) (k : ℕ) (fault : SignFault) → HasLoaded g old now records k k
     → LoadsRecord g now next k (Err fault) → LoadsAll g old next (IsTakenUp (Err fault))
 unloaded g old now next records k Stopped has loads =
@@ -428,7 +425,6 @@ taken g old now next table after k entry is loads takes =
       sizes = subst (λ key. SecretHasSizes key.secret) (sym takes.1) is.sizes;
     }
 
--- the key
 pub key_taken : {S : Type 0} (g : store.Ghosts S) (old next : S) (table : Table) (key : Key)
     → LeavesItsList g old
     → LoadsRecord g old next 0 (Ok (Some (KeyRecord key))) → HasSizes (KeyRecord key) → table.key ≡ key → table.records ≡ KeyRecord key ∷ []
@@ -495,7 +491,6 @@ all_tied g old now table k loads is end =
       same = λ honest. kept.list ∙ sym (begins.same (subst IsTrue kept.honest honest) ∙ take_all k (g.list old) end);
     }
 
--- the end of the list was found
 pub end_found : {S : Type 0} (g : store.Ghosts S) (old now next : S) (table : Table) (k : ℕ) → IsLoadedTo g old now table k k
     → LoadsRecord g now next k (Ok None) → IsLoadedTo g old next table k (k + 1) × (length (g.list old) ≤ k)
 end_found g old now next table k is loads = (
@@ -517,7 +512,6 @@ end_found g old now next table k is loads = (
 
 -- ---- record 0
 
--- what isn't a Key can't come first
 not_first : (entry : Record) → is_key entry ≡ false → can_follow (key_in []) [] entry ≡ false
 not_first (KeyRecord key) not = absurd (true≢false not)
 not_first (ExtendRecord extend) not = refl

@@ -73,7 +73,6 @@ by_test : {A : Type 0} (named : SignFault) {Cause : Type 0} {Rest : Result A Sig
 by_test named true state rest there back more = is_there named (there refl) refl
 by_test named false state rest there back more = is_absent named (λ cause. absurd (true≢false (sym (back cause)))) (more refl)
 
--- a negated test
 by_not : {A : Type 0} (named : SignFault) {Rest : Result A SignFault → Type 0} (test : Bool) (state : State) (rest : Outcome A)
     → (test ≡ true → Rest rest.answer) → Unless (Of named (test ≡ false)) Rest (if not test then refused state named else rest).answer
 by_not named true state rest more = is_absent named (λ is. absurd (true≢false is)) (more refl)
@@ -98,14 +97,12 @@ by_append state entry cut_old next more = is_there StoreFailed (inl refl) refl
 by_append state entry cut_new next more = is_there StoreFailed (inr refl) refl
 by_append state entry no_memory next more = is_absent StoreFailed refused_uncut (is_there OutOfMemory refl refl)
 
--- a signer that is closed, or whose records go on elsewhere
 by_open : {A : Type 0} {Rest : Result A SignFault → Type 0} (state : State) (rest : Outcome A) → Rest rest.answer
     → WhereOpen state Rest (if not state.is_open then refused state Stopped else (if has_moved state.records then refused state Moved else rest)).answer
 by_open state rest more =
     by_not Stopped state.is_open state (if has_moved state.records then refused state Moved else rest)
     (λ open_now. by_test Moved (has_moved state.records) state rest (λ is. is) (λ is. is) (λ stays. more))
 
--- a chain of trees with a damaged record
 by_damage : {Rest : Result (List ℕ) SignFault → Type 0} (damaged : Option ℕ) (outcome : Option ℕ → Outcome (List ℕ))
     → ((slot : ℕ) → (outcome (Some slot)).answer ≡ Err (Damaged slot)) → Rest (outcome None).answer
     → Unless (IsUnsound damaged) Rest (outcome damaged).answer
@@ -227,7 +224,6 @@ by_given state key name randomizer (Some message) fate =
     (by_append state (BoundRecord bound) fate
     (λ records. answered (open_on records) (signature_at key records (length state.records) bound)) refl)
 
--- C is drawn, where the key's scheme draws one
 by_randomizer : (state : State) (key : Key) (name : List ℕ) (secret : Secret) (fields : List (List ℕ)) (given : Option (List ℕ)) (fate : Fate)
     → AreFields (randomizer_sizes secret) fields
     → Unless (Of RandomFailed (length fields < length (randomizer_sizes secret)))

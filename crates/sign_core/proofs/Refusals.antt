@@ -96,7 +96,6 @@ keeps_at_all g has_room wanted old new answer keeps caches other = record {
 pub same_view : {S R : Type 0} (v : View S R) → KeepsAll v v
 same_view v = record { store = refl; random = refl; records = refl; is_open = refl }
 
--- A call that has drawn.
 pub keeps_after_draws : {S R M A : Type 0} (g : store.Ghosts S) (r : source.Ghosts R) (m : message.Ghosts M) (wanted : ℕ) (old new : View S R) (before after : M)
     (given : Option (List ℕ)) (outcome : Outcome A) (answer : Result A SignFault) → is_fault is_before_draws answer ≡ false
     → LacksTree g wanted old new answer → Does g r m old new before after given outcome answer → KeepsAtRefusal g true wanted old new answer

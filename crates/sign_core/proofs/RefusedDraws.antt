@@ -39,7 +39,6 @@ Refuses before below chance outcome =
 
 -- ---- the binding
 
--- It draws nothing more.
 drawn_bound : (records : List Record) (key : Key) (name : List ℕ) (randomizer given : Option (List ℕ)) (fate : Fate)
     → IsRefusal (bound_with (open_on records) key name randomizer given fate)
     → ((bound_with (open_on records) key name randomizer given fate).acknowledged ≡ records)
@@ -85,7 +84,6 @@ module _ (below : ℕ) (records : List Record) (chance : Chance) (draw : Draw) (
   some_drawn identifier fields are =
       sym (append_assoc identifier (concat fields) []) ∙ ap (λ fields. concat fields ++ []) (sym are)
 
-  -- It is begun.
   begun_more : (entry : Record) (identifier seed randomizer : List ℕ) (outcome : Outcome (List ℕ))
       → draw.fields ≡ identifier ∷ seed ∷ randomizer ∷ []
       → DrawsWanted (records ++ entry ∷ []) below (chance_with chance draws) outcome
@@ -176,7 +174,6 @@ undrawn_refuses below records chance key level (Some trees) next refusal other =
 
 -- ---- all new records
 
--- a key with levels below the top has trees
 has_trees : (secret : Secret) → 0 < bottom_of secret → trees_of secret ≡ None → ⊥
 has_trees (Lms secret) some none = absurd (omega (arith, some))
 has_trees (Hss [] identifier seed) some none = absurd (omega (arith, some))

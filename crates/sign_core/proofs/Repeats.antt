@@ -67,7 +67,6 @@ judged state key k bound same has_room damaged =
 
 module _ {S R M : Type 0} (m : message.Ghosts M) (view : View S R) (before after : M) (capacity : ℕ) (key : Key) (name : List ℕ) (binding : Binding)
     (found : IsFound key view.records name binding) where
-  -- the message can't be read
   pub unread : {cached : Cached} → CantBeRead m.transition before after → Repeats m (state_of view) cached before after capacity (Err MessageRead) key name
   unread fails = record {
     has_room = true;
@@ -99,7 +98,6 @@ module _ {S R M : Type 0} (m : message.Ghosts M) (view : View S R) (before after
   is_same true is = refl
   is_same false is = absurd (true≢false is)
 
-  -- it has another digest than the recorded one
   pub changed : {cached : Cached} (text digest : List ℕ) → ReadWhole m.transition m.remaining text before after → IsDigest text digest
       → not (are_same digest binding.digest) ≡ true → Repeats m (state_of view) cached before after capacity (Err Changed) key name
   changed text digest whole is differs = record {
@@ -110,7 +108,6 @@ module _ {S R M : Type 0} (m : message.Ghosts M) (view : View S R) (before after
     room = λ k bound at lacking. absurd (true≢false lacking);
   }
 
-  -- there is no memory for the signature
   pub lacks_room : {cached : Cached} (text digest : List ℕ) → ReadWhole m.transition m.remaining text before after → IsDigest text digest
       → not (are_same digest binding.digest) ≡ false → capacity < signature_size key.secret
       → Repeats m (state_of view) cached before after capacity (Err OutOfMemory) key name
@@ -138,7 +135,6 @@ module _ {S R M : Type 0} (m : message.Ghosts M) (view : View S R) (before after
         (sym (ap (λ (kept : Binding). kept.place) found.is) ∙ here) lacking);
   }
 
-  -- a record of the chain isn't sound
   pub damaged : {cached : Cached} (text digest : List ℕ) (slot : ℕ) → ReadWhole m.transition m.remaining text before after → IsDigest text digest
       → not (are_same digest binding.digest) ≡ false
       → damaged_in key (bottom_of key.secret) view.records (tree_before (bottom_of key.secret) view.records found.place) ≡ Some slot
@@ -151,7 +147,6 @@ module _ {S R M : Type 0} (m : message.Ghosts M) (view : View S R) (before after
     room = λ k bound at lacking. absurd (true≢false lacking);
   }
 
-  -- the recorded signature
   pub signed : {cached : Cached} (text digest bytes : List ℕ) → ReadWhole m.transition m.remaining text before after → IsDigest text digest
       → not (are_same digest binding.digest) ≡ false
       → damaged_in key (bottom_of key.secret) view.records (tree_before (bottom_of key.secret) view.records found.place) ≡ None
@@ -204,7 +199,6 @@ linked_ok (Err k) mapped x P cases was is = absurd (subst (λ r. IsErrAnd r (λ 
 
 -- ---- XMSS
 
--- what was read is what the leaf signs
 pub xmss_read : (key own : Key) (records : List Record) (name : List ℕ) (binding : Binding) (found : IsFound key records name binding) (secret : XmssSecret)
     (text digest : List ℕ) → IsXmssKey secret key → own ≡ key → digest ≡ xmss_digest_in secret own.root binding.leaf text
     → digest_at key records found.place found.bound.leaf found.bound.randomizer text ≡ digest
@@ -229,7 +223,6 @@ xmss_chain records key secret k P keyed of_key each =
 
 module _ {S R M : Type 0} (m : message.Ghosts M) (view : View S R) (before after : M) (capacity : ℕ) (key : Key) (name : List ℕ) (binding : Binding)
     (found : IsFound key view.records name binding) (secret : XmssSecret) where
-  -- the key's record isn't sound
   pub damaged_xmss : {A : Type 0} {cached : Cached} (text digest : List ℕ) (linked : Result A ℕ) (mapped : Result A SignFault) (fault : SignFault)
       → ReadWhole m.transition m.remaining text before after → key_in view.records ≡ Some key → IsXmssKey secret key
       → digest_at key view.records found.place found.bound.leaf found.bound.randomizer text ≡ digest
@@ -244,7 +237,6 @@ module _ {S R M : Type 0} (m : message.Ghosts M) (view : View S R) (before after
       subst (λ f. Repeats m (state_of view) cached before after capacity (Err f) key name) (sym of_place)
       (damaged m view before after capacity key name binding found text digest k whole is same at)
 
-  -- the recorded signature, in its room
   pub signed_xmss : {A : Type 0} {cached : Cached} (text digest bytes into : List ℕ) (linked : Result A ℕ) (mapped : Result A SignFault) (x : A)
       → ReadWhole m.transition m.remaining text before after → key_in view.records ≡ Some key → IsXmssKey secret key
       → digest_at key view.records found.place found.bound.leaf found.bound.randomizer text ≡ digest
@@ -275,7 +267,6 @@ bound_chain key trees records name binding legal keyed these kept =
       subst (λ (b : Binding). b.leaf < 2 ^ height_of (secret_at trees records b.tree).pair.tree) found.is inside,
     )
 
--- what was read is what the leaf signs
 pub chain_read : (key : Key) (records ledger : List Record) (name : List ℕ) (binding : Binding) (found : IsFound key records name binding) (trees : Trees)
     (text digest : List ℕ) → key_in records ≡ Some key → trees_of key.secret ≡ Some trees → ledger ≡ records
     → digest ≡ message_digest_of (secret_at trees ledger binding.tree).identifier binding.leaf binding.randomizer text
@@ -285,7 +276,6 @@ chain_read key records ledger name binding found trees text digest keyed these s
     ∙ ap (λ (b : Binding). message_digest_of (secret_at trees records b.tree).identifier b.leaf b.randomizer text) found.is
     ∙ ap (λ l. message_digest_of (secret_at trees l binding.tree).identifier binding.leaf binding.randomizer text) (sym same) ∙ sym is
 
--- the signings of new links
 pub links_signs : {A : Type 0} (linked : Result A ℕ) (mapped : Result A SignFault) (x : A) (links above old : List Link) (link : Link) (rest : List Signing)
     → MatchResult linked (λ y. mapped ≡ Ok y) (λ k. IsErrAnd mapped (λ e. e ≡ Damaged k)) → mapped ≡ Ok x
     → OnOk linked (signings_of above ≡ signings_of old ++ rest) → links ≡ above ++ link ∷ [] → old ≡ []
@@ -308,7 +298,6 @@ module _ {S R M : Type 0} (m : message.Ghosts M) (view : View S R) (before after
       ∙ ap₂ (λ (k : Key) records. damaged_in k (bottom_of k.secret) records binding.tree) own_is same_records
       ∙ ap (damaged_in key (bottom_of key.secret) view.records) (sym (ap (λ (kept : Binding). kept.tree) found.is))
 
-  -- a record of the chain isn't sound
   pub damaged_chain : {A : Type 0} {cached : Cached} (text digest : List ℕ) (linked : Result A ℕ) (mapped : Result A SignFault) (fault : SignFault)
       → ReadWhole m.transition m.remaining text before after
       → digest_at key view.records found.place found.bound.leaf found.bound.randomizer text ≡ digest
@@ -321,7 +310,6 @@ module _ {S R M : Type 0} (m : message.Ghosts M) (view : View S R) (before after
       subst (λ f. Repeats m (state_of view) cached before after capacity (Err f) key name) (sym of_place)
       (damaged m view before after capacity key name binding found text digest k whole is same (sym chain_same ∙ at))
 
-  -- the recorded signature, in its room
   pub signed_chain : {A : Type 0} {cached : Cached} (trees : Trees) (text digest bytes into : List ℕ) (linked : Result A ℕ) (mapped : Result A SignFault) (x : A) (links : List Link)
       → ReadWhole m.transition m.remaining text before after
       → digest_at key view.records found.place found.bound.leaf found.bound.randomizer text ≡ digest

@@ -61,7 +61,6 @@ legal_with : (all : List Record) (n : ℕ) (old : Table) (entry : Record) → Ho
     → IsLegal (old.records ++ entry ∷ [])
 legal_with all n old entry so_far follows = grows old.records entry so_far.legal (ap (λ o. can_follow o old.records entry) so_far.keyed ∙ follows)
 
--- one more record of the list
 pub holds_more : (all : List Record) (n : ℕ) (old new : Table) (entry : Record) (done : Unit {0}) → Holds all n old → slice_get all n ≡ Some entry
     → TakesUp old new entry (Ok done) → Holds all (n + 1) new
 holds_more all n old new entry done so_far stands (follows, grown) =
@@ -72,11 +71,9 @@ holds_more all n old new entry done so_far stands (follows, grown) =
       legal = subst IsLegal (sym grown.records) (legal_with all n old entry so_far follows);
     }
 
--- the whole list
 pub holds_all : (all : List Record) (n : ℕ) (table : Table) → Holds all n table → length all ≤ n → table.records ≡ all
 holds_all all n table so_far end = so_far.taken ∙ take_all n all end
 
--- and a record that isn't taken up
 pub holds_refused : (all : List Record) (n : ℕ) (old new : Table) (entry : Record) (fault : LedgerFault) → Holds all n old → 0 < n
     → slice_get all n ≡ Some entry → TakesUp old new entry (Err fault) → IsRefused all fault
 holds_refused all n old new entry Empty so_far some stands none = absurd none

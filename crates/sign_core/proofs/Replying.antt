@@ -45,7 +45,6 @@ whole_part bytes old middle new written kept = (bytes, [], sym (append-nil bytes
 pub none_part : (bytes : List ℕ) (old : Option (List ℕ)) → WritesReply bytes old old (Err WriteFailed)
 none_part bytes old = ([], bytes, refl, Appends-nil old)
 
--- the parts of a reply
 pub frame_written : (number : ℕ) (four body : List ℕ) (a b c d : Option (List ℕ)) → Appends a b (number ∷ []) → Appends b c four → Appends c d body
     → Appends a d ((number ∷ []) ++ four ++ body)
 frame_written number four body a b c d first second third =

@@ -41,7 +41,6 @@ use Rattle.sign_core.proofs.Stays.{digest_stays, key_stays, last_is, some_keyed}
 
 -- ---- the next leaf
 
--- a free leaf can be named
 free_test : (test : Bool) (leaves next : ℕ) → 0 < (if test then leaves - next else 0) → (test ≡ true) × (next < leaves)
 free_test true leaves next free = (refl, omega (arith, free))
 free_test false leaves next free = absurd (omega (arith, free))
@@ -106,7 +105,6 @@ extend_can key records extend stays low inside free new =
 same_bytes : (bytes : List ℕ) → are_same bytes bytes ≡ true
 same_bytes bytes = (bytes_decides bytes bytes).1 refl
 
--- the new Extend is sound
 pub extend_sound : (trees : Trees) (records : List Record) (level leaf : ℕ) (identifier seed randomizer : List ℕ)
     → (let secret = lms_secret (slice_index_or trees.pairs level trees.top.pair) identifier seed in
     is_sound_extend (Some trees) records (length records) (extend_of trees records level secret randomizer leaf) ≡ true)
@@ -122,7 +120,6 @@ pub extend_sizes : (trees : Trees) (records : List Record) (level leaf : ℕ) (s
 unfolding extend_of
 extend_sizes trees records level leaf secret randomizer identifier seed drawn = (identifier, seed, drawn, length-sha256 _, lms_root_size secret)
 
--- the level below is ready
 extend_ready : (key : Key) (name : List ℕ) (below : ℕ) (records : List Record) (handed : List Handed) (trees : Trees) (identifier seed randomizer : List ℕ)
     → IsReady key name (suc below) records handed → trees_of key.secret ≡ Some trees
     → AreFields tree_sizes (identifier ∷ seed ∷ randomizer ∷ []) → has_identifier records identifier ≡ false

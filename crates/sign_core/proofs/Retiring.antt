@@ -83,7 +83,6 @@ tied_running : {S R : Type 0} (g : store.Ghosts S) (v : View S R) → IsSigner g
 tied_running g v signer running true is = signer.tied is
 tied_running g v signer running false is = absurd (true≢false (sym (signer.shut is) ∙ running))
 
--- a call that leaves all as it was
 pub left_retires : {S R : Type 0} (g : store.Ghosts S) (v : View S R) (upto : ℕ) (answer : Result (Unit {0}) SignFault) → IsSigner g v
     → LeavesItsList g v.store
     → ((fate : Fate) → retired (g.most v.store) (state_of v) upto fate
@@ -114,7 +113,6 @@ left_retires g v upto answer signer only step failures refusals = record {
   stays = λ _ _. refl;
 }
 
--- a call that is refused at once
 pub hindered_retires : {S R : Type 0} (g : store.Ghosts S) (v : View S R) (upto : ℕ) (key : Key) (fault : SignFault) → IsSigner g v
     → LeavesItsList g v.store
     → key_in v.records ≡ Some key → Hinders v.is_open (has_moved v.records) fault → Retires g v v upto (Err fault)

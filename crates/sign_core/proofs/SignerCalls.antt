@@ -61,7 +61,6 @@ is_after new left mine outcome same state all records is_open =
 
 -- ---- what is handed out
 
--- the text that was read
 text_read : {M : Type 0} (m : message.Ghosts M) (is_read : Bool) (given : Option (List ℕ)) (before later : M) → IsSome given → is_read ≡ true
     → IsRead m is_read given before later → (text : List ℕ) × (given ≡ Some text) × ReadWhole m.transition m.remaining text before later
 text_read m true (Some text) before later some is read = (text, refl, read)
@@ -236,7 +235,6 @@ open_opened records None (Some k) = open_refused records (Illegal k)
 open_opened records (Some (slot, fault)) None = open_refused records fault
 open_opened records (Some (slot, fault)) (Some k) = open_refused records (if nat_lt k slot then Illegal k else fault)
 
--- an opening leaves the records
 opened_keeps : (records : List Record) (chance : Opening) (illegal : Option ℕ) → (opened_by (closed_on records) chance illegal).state.records ≡ records
 opened_keeps records None None = key_keeps (key_in records)
   where
@@ -263,7 +261,6 @@ opens_in g (Err refused) left mine outcome same state opens all listed answer =
     ap (λ (s : State). s.is_open) state ∙ opens.1 refused.fault (ap (λ (o : Outcome AnyPublic). o.answer) same ∙ answer) in
     λ i. record { records = listed i; is_open = closed i }
 
--- what a load can fail with
 can_fail : (failed : Option SignFault) (list : List Record) (stopped honest : Bool) → LoadFails failed list stopped honest → CanFailLoad failed
 can_fail None list stopped honest fails = tt
 can_fail (Some Stopped) list stopped honest fails = inl refl

@@ -72,7 +72,6 @@ anew_is limit state key name chance level full lacking keyed opened stays unboun
 
 -- ---- calls that leave all as it was
 
--- an outcome that leaves the state
 abbrev pub kept : State → Result (List ℕ) SignFault → (is_read : Bool) → Outcome (List ℕ)
 kept state answer is_read =
     record { state = state; answer = answer; acknowledged = state.records; failed = None; drawn = []; is_read = is_read }
@@ -207,7 +206,6 @@ module _ {S R M : Type 0} (g : store.Ghosts S) (r : source.Ghosts R) (m : messag
     message = read;
   }
 
-  -- a call that is refused at once
   pub hindered_signs : (v : View S R) (name : List ℕ) (before : M) (capacity : ℕ) (key : Key) (fault : SignFault) → IsSigner g v → LeavesItsList g v.store
       → key_in v.records ≡ Some key → Hinders v.is_open (has_moved v.records) fault → Signs g r m v v name before before capacity (Err fault)
   unfolding request_by
@@ -237,7 +235,6 @@ module _ {S R M : Type 0} (g : store.Ghosts S) (r : source.Ghosts R) (m : messag
   hindered_signs v name before capacity key (Unreadable k) signer only keyed why = absurd why
   hindered_signs v name before capacity key (Illegal k) signer only keyed why = absurd why
 
-  -- the name is too long
   pub long_signs : (v : View S R) (name : List ℕ) (before : M) (capacity : ℕ) (key : Key) → IsSigner g v → LeavesItsList g v.store
       → key_in v.records ≡ Some key → v.is_open ≡ true → has_moved v.records ≡ false → binding_in v.records name ≡ None → is_long key name ≡ true
       → Signs g r m v v name before before capacity (Err LongName)
@@ -249,7 +246,6 @@ module _ {S R M : Type 0} (g : store.Ghosts S) (r : source.Ghosts R) (m : messag
       else bound_anew (g.most v.store) (state_of v) key name (repeat_chance true None) (deepest key.secret v.records)) long)
       refl (λ lacking. absurd (true≢false lacking)) (record { store = λ n. refl; random = λ n. refl; memory = λ n. refl })
 
-  -- no leaf is free
   pub exhausted_signs : (v : View S R) (name : List ℕ) (before : M) (capacity : ℕ) (key : Key) → IsSigner g v → LeavesItsList g v.store
       → key_in v.records ≡ Some key → v.is_open ≡ true → has_moved v.records ≡ false → binding_in v.records name ≡ None → is_long key name ≡ false
       → deepest key.secret v.records ≡ None
@@ -395,7 +391,6 @@ module _ {S R M : Type 0} (g : store.Ghosts S) (r : source.Ghosts R) (m : messag
         message = b.does.message;
       }
 
-  -- the standing chain isn't sound
   pub damaged_binds : (v : View S R) (name : List ℕ) (before : M) (level : ℕ) (key : Key) (slot : ℕ) → IsSigner g v → LeavesItsList g v.store
       → damaged_in key level v.records (tree_before level v.records (length v.records)) ≡ Some slot
       → Binds g r m name level v v before before (Err (Damaged slot)) key

@@ -61,21 +61,18 @@ digest_size (Xmss secret) root records k leaf randomizer message sizes = length-
 
 -- ---- keys
 
--- a key of these sizes has a public one
 pub public_made : (secret : Secret) (root : List ℕ) → SecretHasSizes secret → (public : AnyPublic) × (public_by secret root ≡ Some public)
 public_made (Lms secret) root sizes = (_, refl)
 public_made (Hss [] identifier seed) root sizes = absurd (let some = sizes.2.0 in omega (arith, some))
 public_made (Hss (pair ∷ rest) identifier seed) root sizes = (_, refl)
 public_made (Xmss secret) root sizes = (_, refl)
 
--- where there is a level below the top, there are LMS trees
 pub trees_made : (secret : Secret) → SecretHasSizes secret → 1 < levels_of secret → (trees : Trees) × (trees_of secret ≡ Some trees)
 trees_made (Lms secret) sizes more = absurd (omega (arith, more))
 trees_made (Hss [] identifier seed) sizes more = absurd (let some = sizes.2.0 in omega (arith, some))
 trees_made (Hss (pair ∷ rest) identifier seed) sizes more = (_, refl)
 trees_made (Xmss secret) sizes more = absurd (omega (arith, more))
 
--- what is drawn for a key has its sizes
 pub secret_sizes : (spec : Spec) (fields : List (List ℕ)) (secret : Secret) → IsSpec spec → AreFields (key_sizes spec) fields
     → secret_from spec fields ≡ Some secret → SecretHasSizes secret
 secret_sizes (LmsSpec pair) [] secret can are is = absurd (cc)
@@ -93,11 +90,9 @@ secret_sizes (XmssSpec tree) (a ∷ b ∷ c ∷ []) secret can are is = let same
     (are.0, are.2.0, are.2.2.0)
 secret_sizes (XmssSpec tree) (a ∷ b ∷ c ∷ d ∷ rest) secret can are is = absurd (cc)
 
--- a new key has a public one
 abbrev HasPublic : Secret → Type 0
 HasPublic secret = (public : AnyPublic) × (public_by secret (root_by secret) ≡ Some public)
 
--- a secret from a spec has a public key
 pub spec_public : (spec : Spec) (fields : List (List ℕ)) (secret : Secret) → IsSpec spec → secret_from spec fields ≡ Some secret
     → (public : AnyPublic) × (public_by secret (root_by secret) ≡ Some public)
 spec_public (LmsSpec pair) [] secret can is = absurd (cc)
@@ -115,7 +110,6 @@ spec_public (XmssSpec tree) (a ∷ b ∷ []) secret can is = absurd (cc)
 spec_public (XmssSpec tree) (a ∷ b ∷ c ∷ []) secret can is = let same : Xmss (record { tree = tree; secret_seed = a; prf_key = b; public_seed = c }) ≡ secret = cc in subst HasPublic same (_, refl)
 spec_public (XmssSpec tree) (a ∷ b ∷ c ∷ d ∷ rest) secret can is = absurd (cc)
 
--- C is drawn with its size
 pub randomizer_size : (secret : Secret) (fields : List (List ℕ)) (randomizer : List ℕ) → AreFields (32 ∷ []) fields
     → randomizer_from secret fields ≡ Some randomizer → (length randomizer ≡ 32) × (has_randomizer secret randomizer ≡ true)
 randomizer_size (Lms secret) [] randomizer are is = absurd (cc)

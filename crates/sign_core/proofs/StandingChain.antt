@@ -32,7 +32,6 @@ use Rattle.sign_core.proofs.Stays.{before_stays, secret_stays, signings_stay}
 
 -- ---- levels
 
--- the trees of a key have a type for each level
 levels_of_trees : (secret : Secret) (trees : Trees) → trees_of secret ≡ Some trees → length trees.pairs ≡ levels_of secret
 levels_of_trees (Lms secret) trees is = sym (ap (λ t. length t.pairs) (same_Some _ _ is))
 levels_of_trees (Hss [] identifier seed) trees is = absurd (cc)
@@ -87,7 +86,6 @@ entry_is key trees records above last secret public extend stands level leaf ide
       root = from i;
     })
 
--- It can follow the records.
 pub can_extend : (key : Key) (trees : Trees) (records : List Record) (above : List Link) (last : SigningTree) (extend : Extend) → key_in records ≡ Some key
     → has_moved records ≡ false → Stands key trees records (length above) above last → extend.level ≡ length above + 1
     → extend.level < levels_of key.secret → extend.parent_leaf ≡ last.leaf → has_identifier records extend.identifier ≡ false
@@ -143,7 +141,6 @@ pairs_grown key trees above last made signing same own inside pairs =
     ∙ ap (λ p. take (length above + 1) trees.pairs ++ p ∷ []) own
     ∙ sym (take_more trees.pairs (length above + 1) trees.top.pair inside)
 
--- The chain with the new tree stands.
 pub stands_grown : (key : Key) (trees : Trees) (records : List Record) (above : List Link) (last made : SigningTree) (signing : Link) (extend : Extend)
     → trees_of key.secret ≡ Some trees → 0 < length records → Stands key trees records (length above) above last
     → extend.level ≡ length above + 1 → length above + 1 < levels_of key.secret → extend.parent_leaf ≡ last.leaf

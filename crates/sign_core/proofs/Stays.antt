@@ -25,7 +25,6 @@ use Rattle.sign_core.specs.Textbook.{signature_at, signature_by, signing_by, sig
 
 -- ---- places
 
--- an item of a list with one more is an old one, or the last
 pub old_or_new : {A : Type 0} (xs : List A) (new : A) (k : ℕ) (x : A) → slice_get (xs ++ new ∷ []) k ≡ Some x → (slice_get xs k ≡ Some x) ⊎ (new ≡ x)
 old_or_new [] new zero x is = inr (cc)
 old_or_new [] new (suc k) x is = absurd (cc)
@@ -197,7 +196,6 @@ pub some_keyed : (records : List Record) (key : Key) → key_in records ≡ Some
 some_keyed [] key is = absurd (cc)
 some_keyed (first ∷ rest) key is = omega arith
 
--- the last record
 pub last_is : (xs : List Record) (entry : Record) → has_moved (xs ++ entry ∷ []) ≡ is_moved (Some entry)
 last_is xs entry =
     let place : length (xs ++ entry ∷ []) - 1 ≡ length xs = omega (arith, length_push xs entry) in

@@ -47,12 +47,10 @@ nothing_first : (first rest : List Record) → [] ≡ first ++ rest → first �
 nothing_first [] rest is = refl
 nothing_first (entry ∷ first) rest is = absurd (cc)
 
--- nothing was appended
 stops_none : {A : Type 0} (records : List Record) (outcome : Outcome A) (ways : List Record → Type 0) → reached outcome ≡ records ++ []
     → Stops records outcome ways
 stops_none records outcome ways is = record { more = []; reaches = is; each = λ first rest none. inl (nothing_first first rest none) }
 
--- an answer, or a refusal
 refuses : {A : Type 0} (state : State) (fault : SignFault) (ways : List Record → Type 0) → Stops {A = A} state.records (refused state fault) ways
 refuses state fault ways = stops_none state.records (refused state fault) ways refl
 
@@ -117,7 +115,6 @@ stops_append i state entry cut_new next nexts later = record {
 }
 stops_append i state entry no_memory next nexts later = refuses state _ _
 
--- what is drawn before doesn't matter
 drawn_stops : {A : Type 0} {records : List Record} {ways : List Record → Type 0} (bytes : List ℕ) (outcome : Outcome A)
     → Stops records outcome ways → Stops records (drawing bytes outcome) ways
 drawn_stops bytes outcome stops = record { more = stops.more; reaches = stops.reaches; each = stops.each }
@@ -309,7 +306,6 @@ stops_under limit state name chance all (Some key) = stops_choice {I = Others} s
 
 -- ---- the law
 
--- a beginning of a list, and its rest
 halves : (count : ℕ) (more : List Record) → (first : List Record) × (rest : List Record) × (take count more ≡ first) × (more ≡ first ++ rest)
 halves zero more = ([], more, refl, refl)
 halves (suc count) [] = ([], [], refl, refl)

@@ -76,7 +76,6 @@ module _ (key : Key) (trees : Trees) (records : List Record) (has : HasTrees key
       let made = (current_made level k records tree is).1 in
       ap (λ r. (secret_by trees r).pair) made.stands ∙ ap (λ n. slice_index_or trees.pairs n trees.top.pair) (omega (arith, made.of_level))
 
-  -- and its I has 16 bytes
   tree_identifier : (level k tree : ℕ) → current level (take k records) ≡ Some tree → length (secret_at trees records tree).identifier ≡ 16
   tree_identifier zero k tree is =
       ap (λ n. length (secret_at trees records n).identifier) (sym (same_Some 0 tree is)) ∙ ap (λ r. length (secret_by trees r).identifier) has.first

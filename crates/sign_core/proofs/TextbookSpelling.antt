@@ -11,7 +11,6 @@ use Rattle.lms.specs.Secret.{joins_of, leaves_of, path_in}
 use Rattle.lms.specs.Writing.{signature_bytes, textbook}
 use Rattle.lms.proofs.SigningBytes.{signed_spelled}
 
--- each node of a tree has 32 bytes
 node_size : (secret : LmsSecret) (k j : ℕ) → length (node (leaves_of secret) (joins_of secret) k j) ≡ 32
 unfolding node
 node_size secret zero j = length-sha256 _

@@ -14,7 +14,6 @@ use Rattle.sign_core.specs.Records.{current, last_from, makes, same_tree, under}
 
 -- ---- the last Extend of a level
 
--- a record that makes a tree of a level is an Extend
 made_by : (level : ℕ) (entry : Record) → makes level entry ≡ true → (extend : Extend) × (entry ≡ ExtendRecord extend) × (extend.level ≡ level)
 made_by level (KeyRecord key) is = absurd (true≢false (sym is))
 made_by level (ExtendRecord extend) is = (extend, refl, eqb-true extend.level level is)
@@ -160,13 +159,11 @@ current_below level above_is records tree (Some j) found is =
     from_front records j level above (omega (arith, last.before)) (above_is (take j records) above there) in
     subst (λ t. IsCurrent records (length records) (suc level) t) at (last, (above, above_is records above here, back))
 
--- what `current` finds is the current tree
 pub current_is : (level : ℕ) (records : List Record) (tree : ℕ) → current level records ≡ Some tree → IsCurrent records (length records) level tree
 current_is zero records tree is = sym (same_Some 0 tree is)
 current_is (suc level) records tree is =
     current_below level (λ before t at. current_is level before t at) records tree (last_from (suc level) 0 None records) refl is
 
--- and `current` finds each current tree
 pub is_current : (level : ℕ) (records : List Record) (tree : ℕ) → IsCurrent records (length records) level tree → current level records ≡ Some tree
 is_current zero records tree is = ap Some (sym is)
 is_current (suc level) records tree (last, (above, here, there)) =
@@ -177,7 +174,7 @@ is_current (suc level) records tree (last, (above, here, there)) =
     (is_current level (take tree records) above inside) (is_current level records above here) in
     ap (under (current level) records) (is_last (suc level) records tree last) ∙ ap (λ b. cond b (Some tree) None) same
 
--- the same before a place
+-- `current` finds the current tree before a place
 pub current_before : (records : List Record) (k level tree : ℕ) → k ≤ length records → current level (take k records) ≡ Some tree
     → IsCurrent records k level tree
 current_before records k level tree within is = from_front records k level tree within (current_is level (take k records) tree is)

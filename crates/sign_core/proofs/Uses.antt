@@ -85,7 +85,6 @@ record AreUsesOf (key : Key) (records : List Record) (k : ℕ) (uses : List Leaf
 use_at : (f : ℕ → LeafUse) (n i : ℕ) (other : LeafUse) → i < n → get_or (map f (range_with_len 0 n)) i other ≡ f i
 use_at f n i other inside = get_or-map-range_with_len f 0 n i i other inside (omega arith)
 
--- the uses of levels 0 to n
 of_levels : (key : Key) (records : List Record) (k n : ℕ) (f : ℕ → LeafUse) (uses : List LeafUse) → uses ≡ map f (range_with_len 0 (n + 1))
     → ((i : ℕ) → i < n → (place : ℕ) × IsUseOf key records place (f i)) → IsUseOf key records k (f n) → AreUsesOf key records k uses
 of_levels key records k n f uses are above bottom =
@@ -104,7 +103,6 @@ of_levels key records k n f uses are above bottom =
           subst (IsUseOf key records k) same bottom;
     }
 
--- one alone
 of_one : (key : Key) (records : List Record) (k : ℕ) (x : LeafUse) (uses : List LeafUse) → uses ≡ x ∷ [] → IsUseOf key records k x
     → AreUsesOf key records k uses
 of_one key records k x uses are is =
@@ -134,7 +132,6 @@ lms_uses records version secret root message k bound uses is (s, spelled, are) =
 
 -- ---- XMSS
 
--- the use that an XMSS signature makes
 xmss_use : XmssPublic → (message : List ℕ) → XmssSignature → LeafUse
 xmss_use key message s = record { identifier = xmss_public_bytes key; leaf = s.index; digest = m_of s.randomizer key.root s.index message }
 
@@ -178,11 +175,9 @@ signature_of level = lms_textbook level.secret level.leaf level.randomizer level
 key_of : Signing → LmsPublic
 key_of level = lms_public_of level.secret
 
--- the use that a level makes
 use_by : Signing → LeafUse
 use_by level = record { identifier = level.secret.identifier; leaf = level.leaf; digest = level.digest }
 
--- a level's signature
 signature_here : (above : List Signing) (bottom : Signing) (i : ℕ) → i < length above + 1
     → hss_signature_at (hss_textbook above bottom) i ≡ signature_of (level_in above bottom i)
 unfolding signature_of key_of
@@ -202,7 +197,7 @@ signature_here above bottom i inside =
       | inr (inr beyond) ↦ absurd (omega (arith, inside, beyond))
     ]
 
--- and the I of its key
+-- the I of a level's key, below the top
 below_top : (above : List Signing) (bottom : Signing) (top : LmsPublic) (i : ℕ) → i < length above
     → (key_at top (hss_textbook above bottom) (suc i)).identifier ≡ (level_in above bottom (i + 1)).secret.identifier
 unfolding signature_of key_of

@@ -246,7 +246,6 @@ undamaged records key level tree sound keyed =
     none_passes (λ k. not (is_sound_at key records k)) (chain level records tree)
     (λ k. ap not (subst (λ own. is_sound_at own records k ≡ true) same (sound.sound k)))
 
--- all textbook signatures of sound records are valid
 pub all_valid : (records : List Record) (key : Key) (name message : List ℕ) (k : ℕ) (bound : Bound) (public : AnyPublic) → AreSound records
     → AllHaveSizes records
     → IsBoundTo records key name message k bound → public_in key ≡ Some public → IsValidUnder public message (signature_at key records k bound)

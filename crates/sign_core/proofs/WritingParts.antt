@@ -66,7 +66,6 @@ got_some [] i inside = absurd (omega (arith, inside))
 got_some (x ∷ xs) zero inside = (x, refl)
 got_some (x ∷ xs) (suc i) inside = got_some xs i (omega (arith, inside))
 
--- the levels' signings
 level_signings : (links : List Link) (levels : List Level) → AreLevelsOf links levels → length links ≤ length levels
     → map signing_of (take (length links) levels) ≡ signings_of links
 level_signings [] levels are few = refl
@@ -233,7 +232,6 @@ some_pairs (Hss [] identifier seed) trees these = absurd (cc)
 some_pairs (Hss (pair ∷ rest) identifier seed) trees these = subst (λ (t : Trees). 0 < length t.pairs) (same_Some _ trees these) (omega arith)
 some_pairs (Xmss secret) trees these = absurd (cc)
 
--- a chain of the key's types has a link
 pub some_links : (secret : Secret) (trees : Trees) (links : List Link) → trees_of secret ≡ Some trees → link_pairs links ≡ trees.pairs → 0 < length links
 some_links secret trees links these pairs =
     let some = some_pairs secret trees these in

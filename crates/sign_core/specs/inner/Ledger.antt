@@ -31,7 +31,7 @@ pub record CanPush (entry : Record) (table : Table) : Type 0 where
   pub sizes : HasSizes entry
   pub room : HasRoomForOne entry table
 
--- It takes memory and there was none, or there are as many records as can be counted.
+-- The record takes memory and there was none, or there are as many records as can be counted.
 abbrev pub LacksRoom : (entry : Record) → Table → Type 0
 LacksRoom entry table = (TakesMemory entry × (table.spare ≡ 0)) ⊎ (length table.records ≡ 2 ^ 32 - 1)
 
