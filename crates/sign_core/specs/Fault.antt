@@ -1,4 +1,4 @@
--- What the faults of a signer and of a serving say.
+-- The numbers that report a signer's faults and a serving's.
 use Rattle.std.specs.Prelude.{ℕ}
 use Rattle.sign_core.specs.declared.fault.ServeFault.{ServeFault}
 use Rattle.sign_core.specs.declared.fault.ServeFault.TheVariants as serving
