@@ -1,5 +1,5 @@
-//! The signer: public keys of every scheme, a key's records in memory, and signing over a store of records and a source
-//! of random bytes. And the law that no leaf signs twice.
+//! The signer: keys of every scheme, a key's records in memory, signing over a store and a source of random bytes, and
+//! the law that no leaf signs twice.
 //!
 //! ```rust
 //! use sign_core::{AnyPublic, Signer, TapeSource, verify_any};

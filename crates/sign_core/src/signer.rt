@@ -318,8 +318,8 @@ impl<S: Store, R: Source> Signer<S, R> {
     /// source.
     ///
     /// Each slot is loaded once, from 0 on, and none after the first that is refused: the earliest record's refusal is
-    /// answered. 46 comes only where the store counts a refusal, or where a loaded record takes memory. That memory was
-    /// indeed refused for an Extend or a Bound is tested.
+    /// answered. 46 comes only where the store counts a refusal, or where a loaded record takes memory or is the
+    /// 2^32nd. That memory was indeed refused for an Extend or a Bound is tested.
     pub fn open(alloc: Global, store: S, random: R) -> Result<Self, Refused<(S, R), SignFault>>
         ensures { Opens S.Store store random result }
     {
