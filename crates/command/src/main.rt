@@ -16,7 +16,8 @@
 //! (`answer`, `refusal`; `listing_text` has the texts of a listing).
 //! `files` has the traits by which it meets files, `machine` those of a machine (which they are: `file_id`; how one is
 //! written in place of what it has: `target`; how one with a key is known: `key_start`), `standard` its standard
-//! streams and what is said there of a call that failed, `progress` the line that a terminal shows of long work,
+//! streams and what is said there of a call that failed, `progress` the line that a terminal shows of long work (in the
+//! `foreground` alone),
 //! `output` is where the program writes, and `trace` is what contracts see of what it does to files. `key_file` is what
 //! the commands do with a signer on the disk of a state file, `signing` what they write once it has answered Ok,
 //! `state` a state file of the machine, `file_disk` the disk over it, and `random_file` random bytes of a file. The
@@ -32,6 +33,7 @@ mod audit_given;
 mod file_disk;
 mod file_id;
 mod files;
+mod foreground;
 mod key_file;
 mod key_start;
 mod line;

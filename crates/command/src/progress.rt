@@ -29,6 +29,10 @@ const MOST_COLUMNS: u32 = 10_000;
 // So long, in milliseconds, after a tree's last leaf the tree of a lower level belongs to the same work.
 const LONGEST_PAUSE: u64 = 1_000;
 
+// Between two calls that take longer than this, in milliseconds, the process was stopped, as by ^Z: eight leaves of W8,
+// the slowest, take 8 of them.
+const LONGEST_STEP: u64 = 2_000;
+
 // The bytes of U+2588 and U+2591.
 const FULL_BLOCK: &[u8; 3] = b"\xe2\x96\x88";
 
@@ -135,6 +139,12 @@ impl<R: Env + Clock> TreeProgress for Bar<'_, R> {
             return;
         };
         let mut tree = self.tree.get();
+        let step = now.saturating_sub(tree.told);
+        if step > LONGEST_STEP {
+            // The time of a stop isn't the work's, and others may have written on the terminal.
+            tree.begun = tree.begun.saturating_add(step);
+            self.standard.forget_line();
+        }
         tree.told = now;
         let made = u32::try_from(made).unwrap_or(u32::MAX);
         if made >= tree.leaves {

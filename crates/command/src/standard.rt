@@ -4,6 +4,7 @@
 ghost use Rattle.std.specs.Prelude.{◌≡◌, IfErr};
 
 use crate::file_id::FileId;
+use crate::foreground::Foreground;
 use crate::key_start::has_key;
 use crate::refusal::Refusal;
 use arrayvec::{ArrayString, ArrayVec};
@@ -14,6 +15,11 @@ use std::io::{ErrorKind, IsTerminal, Read, Stderr, Write};
 use std::os::fd::AsFd;
 use std::os::unix::fs::FileTypeExt;
 use std::{fmt, fs, io};
+
+// What saves where a terminal's cursor is, and what moves it back.
+const SAVE_CURSOR: &[u8; 2] = b"\x1b7";
+
+const RESTORE_CURSOR: &[u8; 2] = b"\x1b8";
 
 /// A standard stream that is written to: which file of the machine it is, where this can be found out.
 #[derive(Drop)]
@@ -107,7 +113,8 @@ pub struct Standard {
     pub errors: Stream,
     /// Whether standard error is a terminal.
     pub is_on_terminal: bool,
-    // whether a line stands on it for a moment, with the cursor at its end
+    foreground: Foreground,
+    // whether a line stands on it for a moment; the terminal has saved where it begins
     has_line: Cell<bool>,
     stderr: Stderr,
     // The null device in place of each stream that was closed, held as long as this is.
@@ -128,6 +135,7 @@ impl Standard {
             output: Stream::of(rt, "/proc/self/fd/1", rt.stdout().is_terminal(), true),
             errors: Stream::of(rt, "/proc/self/fd/2", is_on_terminal, false),
             is_on_terminal,
+            foreground: Foreground::watch(rt, is_on_terminal),
             has_line: Cell::new(false),
             stderr,
             _null_devices: [input, output, errors],
@@ -162,24 +170,39 @@ impl Standard {
         self.has_line.get()
     }
 
-    /// Writes a line on the terminal that stands for a moment, in place of one that stands there. It ends at the
-    /// terminal's last column, whatever the text has behind that.
+    /// Writes a line on the terminal, behind the cursor, in place of the one before. It ends at the terminal's last
+    /// column, whatever the text has behind that. In the background it only forgets the one before.
     pub fn show_line(&self, text: &[u8]) {
-        self.has_line.set(true);
+        if !self.foreground.is_held() {
+            return self.forget_line();
+        }
         let mut line = ArrayVec::<u8, 512>::new();
         // A longer text, of which there is none, is cut.
-        let _ = line.write_all(b"\r\x1b[K\x1b[?7l");
+        let _ = line.write_all(if self.has_line.get() {
+            RESTORE_CURSOR
+        } else {
+            SAVE_CURSOR
+        });
+        let _ = line.write_all(b"\x1b[K\x1b[?7l");
         let _ = line.write_all(text);
         let _ = line.write_all(b" \x1b[?7h");
+        self.has_line.set(true);
         self.write_to_terminal(line.as_slice());
     }
 
-    /// Erases that line, if there is one.
+    /// Erases that line, if there is one, and leaves the cursor where it was before.
     pub fn erase_line(&self) {
         if self.has_line.get() {
-            self.has_line.set(false);
-            self.write_to_terminal(b"\r\x1b[K");
+            self.forget_line();
+            if self.foreground.is_held() {
+                self.write_to_terminal(b"\x1b8\x1b[K");
+            }
         }
+    }
+
+    /// Leaves that line to the terminal's user, who may have moved it: the next one begins at the cursor.
+    pub fn forget_line(&self) {
+        self.has_line.set(false);
     }
 
     // Writes to standard error, in one piece where the system takes it so, unless it is a file with a key.
