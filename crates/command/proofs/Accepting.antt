@@ -26,7 +26,6 @@ use Rattle.command.specs.Number.{number_in}
 use Rattle.command.specs.Retire.{most_leaves}
 use Rattle.command.proofs.Walking.{Enters, IsTaken, TakesValue, at, audit_given_shape, audit_shape, end_fault, enters_audit, enters_audit_given, enters_list, enters_make, enters_migrate, enters_public, enters_retire, enters_serve, enters_sign, enters_verify, entered_faults, entered_rows, finds_list, finds_migrate, finds_public, finds_retire, finds_task, finds_verify, is_no_hyphen, list_1, list_shape, make_shape, migrate_1, migrate_2, migrate_shape, public_1, public_2, public_shape, retire_1, retire_2, retire_shape, serve_shape, sign_shape, takes_either, takes_listed, takes_message, takes_new, takes_old, takes_path, takes_public, takes_published, takes_signature, takes_state, takes_upto, turn_passes, verify_1, verify_2, verify_3, verify_shape, whole, word_is_value, word_walks}
 
--- where nothing is wrong with two parts, nothing is wrong with either
 pub none_of : (a b : Kinds) → or_else a b ≡ [] → (a ≡ []) × (b ≡ [])
 none_of [] b none = (refl, none)
 none_of (k ∷ ks) b none = cc
@@ -37,7 +36,7 @@ else_none : (b : Bool) (x y : Kinds) → b ≡ false → (if b then x else y) �
 else_none true x y isnt none = absurd (false≢true (sym isnt))
 else_none false x y isnt none = none
 
--- a flag that takes no value, and whose use is always an error: it asks for help or the version
+-- a flag without a value, whose use is always an error: help or the version
 abbrev Asks : Bool → Option Rule → Type 0
 Asks again None = ⊤
 Asks again (Some a) = (takes_values a ≡ false) × ((rows : List Row) → use_fault again a [] rows ≢ [])
@@ -54,12 +53,10 @@ short_fails c again None rest h next asks none = cc
 short_fails c again (Some a) rest h next (flag, fails) none =
     fails _ (none_of _ _ (none_of _ _ (else_none _ _ _ flag none)).0).1
 
--- a list that isn't empty has a first item
 first_is : (xs : List ℕ) → xs ≢ [] → (x : ℕ) × (slice_get xs 0 ≡ Some x)
 first_is [] some = absurd (some refl)
 first_is (x ∷ xs) some = (x, refl)
 
--- text that follows a hyphen isn't without characters
 has_characters : (y : ℕ) (ys : Text) → IsUtf8 (45 ∷ y ∷ ys) → chars (y ∷ ys) ≢ []
 has_characters y ys text none =
     let hyphen : encode_utf8 45 ≡ 45 ∷ [] = encode_ascii 45 (lit< tt) in
@@ -80,7 +77,7 @@ flags_fail c again y ys h asks some none =
     let (x, is) = first_is (chars (y ∷ ys)) some in
     bundle_fails c again (slice_get (chars (y ∷ ys)) 0) x (y ∷ ys) h _ is asks none
 
--- each name of a flag is of one that asks
+-- every flag asks for help or the version
 abbrev pub AllAsk : Bool → List Rule → Type 0
 AllAsk again c = ((name : Text) → Asks again (arg_by_long c name)) × ((x : ℕ) → Asks again (arg_by_short c x))
 
@@ -90,7 +87,6 @@ asks_if again b this other first second = elim (cases_Bool b) [
   | inr same ↦ rw same second
 ]
 
--- help and the version do, wherever they stand
 abbrev help_at : ℕ → Rule
 help_at i = with_index i (filled help_rule)
 
@@ -151,7 +147,6 @@ whole_asks = (
 abbrev IsOption : Text → Type 0
 IsOption word = (y : ℕ) × (ys : Text) × (word ≡ 45 ∷ y ∷ ys) × (word ≢ 45 ∷ 45 ∷ [])
 
--- each word is plain, or `--`, or looks like an option
 word_is : (word : Text) → IsPlainWord word ⊎ (word ≡ 45 ∷ 45 ∷ []) ⊎ IsOption word
 word_is [] = inl tt
 word_is (x ∷ []) = inl tt
@@ -167,7 +162,7 @@ word_is (x ∷ y ∷ ys) = elim (cases_eq x 45) [
     word_ends x y [] hyphen second = inr (inl cc)
     word_ends x y (z ∷ zs) hyphen second = inr (inr (y, z ∷ zs, ap (λ b. b ∷ y ∷ z ∷ zs) hyphen, λ same. cc))
 
--- such a word is refused by a command whose flags all ask
+-- A command whose flags all ask refuses such a word.
 long_option_fails : (c : List Rule) (again : Bool) (z : ℕ) (zs : Text) (h : Collected) → AllAsk again c
     → flag_word_fault c again (long_of (45 ∷ 45 ∷ z ∷ zs)) (45 ∷ 45 ∷ z ∷ zs) h ≢ []
 long_option_fails c again z zs h asks none =
@@ -199,11 +194,10 @@ option_fails c again word h asks skip text (y, ys, same, other) none =
 
 -- ---- words that are walked over
 
--- Nothing is wrong with the words from here, nor with what they come to.
+-- no fault in the words from here on, nor at their end
 abbrev Passes : Shape → Walk → List Text → Type 0
 Passes s w words = (walk_fault s [] w words ≡ []) × (end_fault s (fold (walked s.rules []) w words) ≡ [])
 
--- then nothing is with the first word, nor with the others after it
 passes_on : (s : Shape) (w : Walk) (word : Text) (words : List Text) → Passes s w (word ∷ words)
     → (turn_fault s [] w word ≡ []) × (walk_fault s [] (walked s.rules [] w word) words ≡ [])
     × (end_fault s (fold (walked s.rules []) (walked s.rules [] w word) words) ≡ [])
@@ -214,8 +208,7 @@ passes_on s w word words (walks, ends) = (
   ends,
 )
 
--- A command with flags that ask alone waits for as many values, each of which is taken, and for no more; and before the last of them the
--- words don't end.
+-- A command whose flags all ask waits for n values. It takes each, can't end before the last, and takes no more.
 abbrev pub Waits : Shape → ℕ → ℕ → Collected → Type 0
 Waits s zero position h = (h.skip ≡ 0) × ((b : Bool) (word : Text) → IsTaken b word → turn_fault s [] (at b h position) word ≢ [])
 Waits s (suc n) position h = (h.skip ≡ 0) × ((b : Bool) → end_fault s (at b h position) ≢ [])
@@ -225,7 +218,7 @@ skips_none : (s : Shape) (n position : ℕ) (h : Collected) → Waits s n positi
 skips_none s zero position h waits = waits.0
 skips_none s (suc n) position h waits = waits.0
 
--- a word that looks like an option isn't walked over, where no `--` stands before it
+-- Before `--`, a word that looks like an option is refused.
 option_stops : (s : Shape) (position : ℕ) (word : Text) (h : Collected) → AllAsk s.args_override_self s.rules → h.skip ≡ 0 → IsUtf8 word
     → IsOption word → turn_fault s [] (at false h position) word ≢ []
 option_stops s position word h asks skip text option none =
@@ -235,7 +228,6 @@ option_stops s position word h asks skip text option none =
           (else_none _ [] _ differs (none_of _ _ none).0)
     ]
 
--- after `--`, and after a value, the others pass
 after_hyphens : (s : Shape) (h : Collected) (position : ℕ) (words : List Text) → Passes s (at false h position) ((45 ∷ 45 ∷ []) ∷ words)
     → Passes s (at true h position) words
 unfolding walked
@@ -249,7 +241,7 @@ after_value s b position h next word words taken takes passes =
     subst (λ (to : Walk). Passes s to words)
     (word_walks s.rules b position word h taken ∙ takes_either s b position h word next takes) (rest.1, rest.2)
 
--- After `--` the words are the values that are still to come.
+-- After `--` the words are the values that are still missing.
 rest_given : (s : Shape) (n position : ℕ) (h : Collected) (words : List Text) → Waits s n position h → Passes s (at true h position) words
     → length words ≡ n
 rest_given s zero position h [] waits passes = refl
@@ -259,7 +251,6 @@ rest_given s (suc n) position h (word ∷ words) waits passes =
     let (next, takes, more) = waits.2 word in
     ap suc (rest_given s n (position + 1) next words more (after_value s true position h next word words tt takes passes))
 
--- A value stands before what gives the others, and `--` before all of them.
 gives_more : (word : Text) (words values : List Text) → IsPlainWord word → GivesValues words values
     → GivesValues (word ∷ words) (word ∷ values)
 gives_more word words values plain (inl (same, are)) = inl (ap (λ l. word ∷ l) same, (plain, are))
@@ -274,7 +265,7 @@ past : (s : Shape) (h : Collected) (position : ℕ) (word : Text) (words : List 
 past s h position word words hyphens passes =
     after_hyphens s h position words (subst (λ w. Passes s (at false h position) (w ∷ words)) hyphens passes)
 
--- Before it they give the values that are still to come.
+-- Before `--` the words give the values that are still missing.
 all_given : (s : Shape) (n position : ℕ) (h : Collected) (words : List Text) → AllAsk s.args_override_self s.rules → Waits s n position h
     → AreTexts words → Passes s (at false h position) words → (values : List Text) × (length values ≡ n) × GivesValues words values
 all_given s zero position h [] asks waits texts passes = ([], refl, inl (refl, tt))
@@ -298,7 +289,7 @@ all_given s (suc n) position h (word ∷ words) asks waits texts passes = elim (
 
 -- ---- the commands
 
--- where all values were taken no word is one more
+-- After all values, one more word is a fault.
 verify_full : (p m s : Text) (b : Bool) (word : Text) → IsTaken b word → turn_fault verify_shape [] (at b (verify_3 p m s) 4) word ≢ []
 unfolding clap_on_literals
 verify_full p m s b word taken none =
@@ -324,7 +315,7 @@ unfolding clap_on_literals
 public_full state path b word taken none =
     let fault = sym (turn_passes public_shape b 3 word (public_2 state path) taken) ∙ none in cc
 
--- and where one is missing the words don't end
+-- If a value is missing, the end is a fault.
 verify_misses : (b : Bool) → end_fault verify_shape (at b nothing_collected 1) ≢ []
 unfolding clap_on_literals
 verify_misses b none = cc
@@ -420,7 +411,6 @@ public_waits = (
   ),
 )
 
--- where nothing is wrong with a line of a command, nothing is with the words after its name
 command_passes : (name : Text) (s : Shape) (names : List Text) → Enters name s → fault_of hbsign_app (name ∷ names) ≡ []
     → Passes s (at false nothing_collected 1) names
 command_passes name s names enters none =
@@ -447,13 +437,12 @@ one_value (a ∷ more ∷ rest) long = absurd (omega (arith, long))
 
 -- ---- the program's words
 
--- what is wrong with a first word, where it names this subcommand or none
+-- the fault of a first word, which names this subcommand or none
 abbrev first_fault : Option Text → Text → Kinds
 first_fault named word = or_else (other_fault whole.top named word nothing_collected)
     (step_fault whole.top 1 (subcommand_or_other whole.top.rules named idle 1 word nothing_collected).0
     (subcommand_or_other whole.top.rules named idle 1 word nothing_collected).1)
 
--- a word that is no subcommand's name names none
 find_none : {A : Type 0} (test : A → Bool) (p q r s t u v w x y z : A) → test p ≡ false → test q ≡ false → test r ≡ false → test s ≡ false
     → test t ≡ false → test u ≡ false → test v ≡ false → test w ≡ false → test x ≡ false → test y ≡ false → test z ≡ false
     → find test (p ∷ q ∷ r ∷ s ∷ t ∷ u ∷ v ∷ w ∷ x ∷ y ∷ z ∷ []) ≡ None
@@ -473,7 +462,7 @@ names_none word no_make no_sign no_verify no_retire no_audit no_audit_given no_s
     (or_none _ no_retire) (or_none _ no_audit) (or_none _ no_audit_given) (or_none _ no_serve) (or_none _ no_migrate)
     (or_none _ no_list) (or_none _ no_public) (or_none _ no_help))
 
--- such a word isn't accepted first,
+-- A line can't begin with a plain word that is no command's name,
 plain_fails : (word : Text) → IsPlainWord word → first_fault None word ≢ []
 plain_fails word plain none =
     let step = (none_of (other_fault whole.top None word nothing_collected) _ none).1 in
@@ -489,7 +478,7 @@ first_option_fails word text option none =
           (else_none _ [] _ differs (none_of _ _ none).0)
     ]
 
--- nor `help`, nor `--` before any others, nor none
+-- nor with `help` or `--`, and it can't be empty.
 help_fails : first_fault (subcommand_met (names_of whole) idle (codes "help")) (codes "help") ≢ []
 unfolding clap_on_literals
 help_fails none = cc
@@ -503,13 +492,12 @@ pub nothing_fails : fault_of hbsign_app [] ≢ []
 unfolding clap_on_literals
 nothing_fails none = cc
 
--- the fault of a line is that of its first word, if this has one
 first_passes : (word : Text) (words : List Text) → fault_of hbsign_app (word ∷ words) ≡ []
     → first_fault (subcommand_met (names_of whole) idle word) word ≡ []
 unfolding walk_fault
 first_passes word words none = (none_of _ _ (none_of _ _ none).0).0
 
--- the first word of a line that is accepted is a command's name
+-- the names of the commands
 pub data IsCommandName (word : Text) : Type 0 where
   is_make : word ≡ codes "make" → IsCommandName word
   is_sign : word ≡ codes "sign" → IsCommandName word
@@ -522,7 +510,7 @@ pub data IsCommandName (word : Text) : Type 0 where
   is_list : word ≡ codes "list" → IsCommandName word
   is_public : word ≡ codes "public" → IsCommandName word
 
--- for any other name
+-- Any other first word is refused.
 other_fails : (word : Text) (words : List Text) → IsUtf8 word → fault_of hbsign_app (word ∷ words) ≡ []
     → bytes_eq (codes "make") word ≡ false → bytes_eq (codes "sign") word ≡ false → bytes_eq (codes "verify") word ≡ false
     → bytes_eq (codes "retire") word ≡ false → bytes_eq (codes "audit") word ≡ false → bytes_eq (codes "audit-given") word ≡ false
@@ -576,14 +564,13 @@ is_named word words text none = elim (cases_Bool (bytes_eq (codes "make") word))
 pub ok_same : {A E : Type 0} (a b : A) → ◌≡◌ {A = Result A E} (Ok a) (Ok b) → a ≡ b
 ok_same a b same = cc
 
--- the task of a line `retire` is that of its number
+-- For each command, the line is one of the task that was found in it.
 of_retire : (words : List Text) (state text : Text) (task : Task) (number : Option ℕ) → number_in most_leaves text ≡ number
     → IsCommandLine words (codes "retire") (state ∷ text ∷ []) → retire_number state number ≡ Ok task → IsLineOf words task
 of_retire words state text task (Some upto) spells line same =
     subst (IsLineOf words) (ok_same (retire state upto) task same) (text, spells, line)
 of_retire words state text task None spells line same = absurd cc
 
--- that of a line `make` is one
 of_formatted : (words : List Text) (state public spec : Text) (version : Option Version) (random : Text) (task : Task)
     → make_formatted state public spec version random ≡ Ok task → FindsTask words task → IsLineOf words task
 of_formatted words state public spec (Some version) random task same found =
@@ -599,7 +586,6 @@ of_make words (Some s) (Some p) None format random task same found = absurd cc
 of_make words (Some s) (Some p) (Some x) None random task same found = absurd cc
 of_make words (Some s) (Some p) (Some x) (Some f) None task same found = absurd cc
 
--- and so is that of a line `sign`
 of_sign : (words : List Text) (state name message out random : Option Text) (task : Task) → sign_task state name message out random ≡ Ok task
     → FindsTask words task → IsLineOf words task
 of_sign words (Some s) (Some n) (Some m) (Some o) (Some r) task same found =
@@ -610,7 +596,6 @@ of_sign words (Some s) (Some n) None out random task same found = absurd cc
 of_sign words (Some s) (Some n) (Some m) None random task same found = absurd cc
 of_sign words (Some s) (Some n) (Some m) (Some o) None task same found = absurd cc
 
--- .. of a line `serve`,
 of_serve : (words : List Text) (state random : Option Text) (task : Task) → serve_task state random ≡ Ok task
     → FindsTask words task → IsLineOf words task
 of_serve words (Some s) (Some r) task same found =
@@ -618,7 +603,6 @@ of_serve words (Some s) (Some r) task same found =
 of_serve words None random task same found = absurd cc
 of_serve words (Some s) None task same found = absurd cc
 
--- .. of a line `audit`,
 of_anchor : (words : List Text) (state : Text) (anchor : Result (Option Anchor) UsageFault) (task : Task) → audit_anchored state anchor ≡ Ok task
     → FindsTask words task → IsLineOf words task
 of_anchor words state (Ok anchor) task same found =
@@ -630,7 +614,6 @@ of_audit : (words : List Text) (state count tag : Option Text) (task : Task) →
 of_audit words (Some state) count tag task same found = of_anchor words state (anchor_in count tag) task same found
 of_audit words None count tag task same found = absurd cc
 
--- .. and of a line `audit-given`
 of_pairs : (words : List Text) (public : Text) (pairs : Option (List Pair)) (task : Task) → audit_given_pairs public pairs ≡ Ok task
     → FindsTask words task → IsLineOf words task
 of_pairs words public (Some pairs) task same found =
@@ -643,13 +626,12 @@ of_audit_given words (Some public) (Some paths) task same found = of_pairs words
 of_audit_given words None files task same found = absurd cc
 of_audit_given words (Some public) None task same found = absurd cc
 
--- the task that is found in a line of a command is the command's
 pub found_in : (name : Text) (s : Shape) (word : Text) (names : List Text) (task : Task) → Enters name s → word ≡ name
     → task_found (subcommand_of hbsign_app (word ∷ names)) ≡ Ok task → task_named name (rows_after s.rules [] names) ≡ Ok task
 found_in name s word names task enters is found =
     sym (ap task_found (entered_rows name s names enters)) ∙ subst (λ w. task_found (subcommand_of hbsign_app (w ∷ names)) ≡ Ok task) is found
 
--- So where a task is found in a line of texts that has no fault, the line is the task's.
+-- A line of texts without a fault is a line of the task that is found in it.
 pub is_line_of : (words : List Text) (task : Task) → fault_of hbsign_app words ≡ [] → task_found (subcommand_of hbsign_app words) ≡ Ok task
     → AreTexts words → IsLineOf words task
 is_line_of [] task none found texts = absurd (nothing_fails none)
@@ -700,7 +682,6 @@ is_line_of (word ∷ names) task none found texts = elim (is_named word names te
       (sym (finds_retire (word ∷ names) state text line).1 ∙ found)
 ]
 
--- A line in which a task is found has no fault,
 pub no_line_faults : (words : List Text) (task : Task) → fault_of hbsign_app words ≡ [] → task_found (subcommand_of hbsign_app words) ≡ Ok task
     → line_faults words ≡ []
 no_line_faults words task none found =
@@ -709,7 +690,7 @@ no_line_faults words task none found =
 pub task_has_no_faults : (words : List Text) (task : Task) → IsLineOf words task → line_faults words ≡ []
 task_has_no_faults words task line = let (none, found) = finds_task words task line in no_line_faults words task none found
 
--- and it is the line's.
+-- A line has one task.
 pub same_task : (words : List Text) (task other : Task) → task_found (subcommand_of hbsign_app words) ≡ Ok task → IsLineOf words other
     → task ≡ other
 same_task words task other found line = ok_same task other (sym found ∙ (finds_task words other line).1)

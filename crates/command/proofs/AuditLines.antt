@@ -35,7 +35,7 @@ audit_ends state b = refl
 audit_found : (state : Text) → task_found (Some (codes "audit", finished audit_shape.rules (audit_1 state))) ≡ Ok (audit state None)
 audit_found state = refl
 
--- and then the two options
+-- then the two options
 abbrev audit_count : Text → Walk
 audit_count state = after_word audit_shape (at false (audit_1 state) 2) (codes "--count")
 
@@ -84,7 +84,7 @@ finds_audit words state (Some anchor) line =
 
 -- ---- audit-given
 
--- what the parser has after these values: the public key, and then files
+-- the matches after the public key, and then after files
 abbrev given_1 : Text → Collected
 given_1 public = first_collected (codes "PUBLIC") public
 
@@ -122,7 +122,6 @@ file_passes s false (x ∷ []) h plain = elim (cases_eq x 45) [
 ]
 file_passes s false (x ∷ y ∷ xs) h plain = rw ((is_no_hyphen x plain).0, (is_no_hyphen x plain).1) refl
 
--- one value more
 takes_one : (b : Bool) (values : List Text) (word : Text) → IsTaken b word
     → (walked audit_given_shape.rules [] (after_values b values) word ≡ after_values b (values ++ word ∷ []))
     × (turn_fault audit_given_shape [] (after_values b values) word ≡ [])
@@ -142,7 +141,6 @@ takes_one true (public ∷ []) word taken =
     (word_walks audit_given_shape.rules true 2 word (given_1 public) taken, turn_passes audit_given_shape true 2 word (given_1 public) taken)
 takes_one true (public ∷ file ∷ files) word taken = (refl, refl)
 
--- and more
 over_values : (b : Bool) (values words : List Text) → AllTaken b words
     → Goes audit_given_shape (after_values b values) words (after_values b (values ++ words))
 over_values b values [] taken =
@@ -153,7 +151,6 @@ over_values b values (word ∷ words) (first, others) =
     (subst (λ l. Goes audit_given_shape (after_values b (values ++ word ∷ [])) words (after_values b l)) (append_assoc values (word ∷ []) words)
     (over_values b (values ++ word ∷ []) words others))
 
--- after `--` the others follow
 over_hyphens : (values : List Text)
     → (walked audit_given_shape.rules [] (after_values false values) (codes "--") ≡ after_values true values)
     × (turn_fault audit_given_shape [] (after_values false values) (codes "--") ≡ [])
@@ -177,7 +174,6 @@ over_given_values words values (inr (before, after, same, parts, plain)) =
           (subst (λ l. Goes audit_given_shape (at false nothing_collected 1) l (after_values true (before ++ after))) (sym same) all),
     )
 
--- as many files as there can be words are in the range of their number
 is_in_range : (n : ℕ) → 1 ≤ n → n ≤ usize_max → range_kinds 1 usize_max n ≡ []
 is_in_range n some most =
     rw (ne_eqb n 0 (λ none. omega (arith, some, none)), le-ltb n 1 some, le-ltb usize_max n most) refl
@@ -203,19 +199,17 @@ given_found : (b : Bool) (public file : Text) (files : List Text)
 unfolding clap_on_literals
 given_found b public file files = refl
 
--- the paths of pairs are those pairs
 paths_are : (pairs : List Pair) → pairs_in (paths_of pairs) ≡ Some pairs
 unfolding pairs_in paths_of
 paths_are [] = refl
 paths_are (pair ∷ pairs) = rw (paths_are pairs) refl
 
--- the words of values are as many at least
 gives_fewer : (words values : List Text) → GivesValues words values → length values ≤ length words
 gives_fewer words values (inl (same, plain)) = omega (arith, ap length same)
 gives_fewer words values (inr (before, after, same, parts, plain)) =
     omega (arith, ap length same, ap length parts, length-append before (codes "--" ∷ after), length-append before after)
 
--- a public key and a file at least
+-- a line with a public key and at least one file
 finds_files : (words : List Text) (public file : Text) (files : List Text) → length words ≤ usize_max
     → IsCommandLine words (codes "audit-given") (public ∷ file ∷ files)
     → (fault_of hbsign_app words ≡ []) × (task_found (subcommand_of hbsign_app words) ≡ audit_given_task (Some public) (Some (file ∷ files)))
@@ -234,11 +228,10 @@ finds_audit_given words public (pair ∷ pairs) most some line =
     let (none, found) = finds_files words public pair.0 (pair.1 ∷ paths_of pairs) most line in
     (none, found ∙ ap (audit_given_pairs public) (paths_are (pair ∷ pairs)))
 
--- there are no more words than this
 pub length_fits : {X : Type 0} (text : X → Text) (words : List X) → length words < 18446744073709551616 → length (map text words) ≤ usize_max
 length_fits text words less = omega (arith, length-map words text, less)
 
--- a line as help shows it is one of its task
+-- A line as help shows it is a line of its task.
 pub shown_line : (words : List Text) (task : Task) → length words ≤ usize_max → IsShownLineOf words task → IsLineOf words task
 shown_line words (make state public spec version random) most line = finds_make words state public spec version random line
 shown_line words (sign state name message out random) most line = finds_sign words state name message out random line

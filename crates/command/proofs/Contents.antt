@@ -1,4 +1,4 @@
--- What is known of contents, and which answers are right for it.
+-- What is known of the contents of files, and which answers are right for that.
 use Rattle.std.proofs.Common.{◌≡◌, ◌∙◌, ℕ, ◌≤◌, ◌<◌, ◌⊎◌, List, ◌++◌, length, take, Option, Some, None, Result, Ok, Err, IfOk, IfErr, IsErrAnd, inl, inr, refl, sym, subst, ap, append-nil, append_assoc, arith, length-take-le, take_all, take_at}
 use Rattle.std.proofs.lemmas.Bool.{cases_lt}
 use Rattle.std.specs.Io.KnownBytes.{Consumes, IsAtEnd}
@@ -15,7 +15,6 @@ use Rattle.command.specs.Refusal.{refusal_of}
 use Rattle.command.specs.declared.refusal.Refusal.{Refusal}
 use Rattle.command.specs.declared.refusal.Refusal.TheVariants.{OutOfMemory, FileFailed}
 
--- memory that was refused, or a file that failed
 abbrev pub IsFailure : Refusal → Type 0
 IsFailure refusal = (refusal ≡ OutOfMemory) ⊎ (refusal ≡ FileFailed)
 
@@ -27,7 +26,7 @@ failed : (A : Type 0) (p m s : List ℕ) (refusal : Refusal) → IsFailure refus
 failed A p m s refusal (inl is) = subst (λ r. AnswersFiles {A = A} p m s (Err r)) (sym is) tt
 failed A p m s refusal (inr is) = subst (λ r. AnswersFiles {A = A} p m s (Err r)) (sym is) tt
 
--- a failure is an answer whatever the files hold
+-- A failure is a right answer, whatever the files hold.
 pub failed_answer : (A : Type 0) (public message signature : Option (List ℕ)) (refusal : Refusal) → IsFailure refusal
     → AnswersOf {A = A} public message signature (Err refusal)
 failed_answer A public message signature refusal failure =
@@ -36,7 +35,6 @@ failed_answer A public message signature refusal failure =
     let (s, s_is) = some_content signature in
     (p, m, s, p_is, m_is, s_is, failed A p m s refusal failure)
 
--- so is an error of a reader
 pub failed_read : {A : Type 0} (public message signature : Option (List ℕ)) (k : ErrorKind) (answer : Result A Refusal)
     → IsErrAnd answer (λ refusal. refusal ≡ refusal_of k) → AnswersOf public message signature answer
 failed_read public message signature k (Ok a) is = absurd is
@@ -47,18 +45,17 @@ pub same_content : (content left : Option (List ℕ)) (bytes : List ℕ) → Sho
 same_content None left bytes shows fits = tt
 same_content (Some content) left bytes shows fits = subst (λ l. IsContent l bytes) shows fits
 
--- an answer that is right for what readers have left is right for what is known of their files
+-- An answer that is right for what readers have left is right for what is known of the files.
 pub answers_of_files : {A : Type 0} (p m s p_left m_left s_left : Option (List ℕ)) (answer : Result A Refusal)
     → ShowsContent p p_left → ShowsContent m m_left → ShowsContent s s_left → AnswersOf p_left m_left s_left answer → AnswersOf p m s answer
 answers_of_files p m s p_left m_left s_left answer p_shows m_shows s_shows (a, b, d, a_fits, b_fits, d_fits, right) =
     (a, b, d, same_content p p_left a p_shows a_fits, same_content m m_left b m_shows b_fits, same_content s s_left d s_shows d_fits, right)
 
--- what reading a key known
 pub reads_key : (bytes : List ℕ) (key : Result AnyPublic KeyFault) → IfOk key (λ k. SpellsKey k bytes) → IfErr key (KeyHasFault bytes) → ReadsKey bytes key
 reads_key bytes (Ok key) spelled fault = spelled
 reads_key bytes (Err fault) spelled is = is
 
--- the first bytes that were read are those of the content
+-- the bytes that were read are the first of the content
 pub first_bytes : (count : ℕ) (old new : Option (List ℕ)) (bytes : List ℕ) → length bytes ≤ count → Consumes old new bytes
     → (length bytes < count → IsAtEnd new) → (whole : List ℕ) × IsContent old whole × (bytes ≡ take count whole)
 first_bytes count None new bytes within read end = (bytes, tt, sym (take_all count bytes within))
@@ -72,7 +69,7 @@ first_bytes count (Some xs) (Some ys) bytes within read end = elim (cases_lt (le
       (xs, refl, sym (take_at bytes ys count long) ∙ ap (take count) (sym read))
 ]
 
--- .. where they stand in a buffer
+-- .. in a buffer
 pub first_of : (count n : ℕ) (old new : Option (List ℕ)) (buffer : List ℕ) → length buffer ≡ count → n ≤ length buffer
     → Consumes old new (take n buffer) → (n < length buffer → IsAtEnd new)
     → (whole : List ℕ) × IsContent old whole × (take n buffer ≡ take count whole)
@@ -80,7 +77,6 @@ first_of count n old new buffer size within read end =
     let long : length (take n buffer) ≡ n = length-take-le n buffer within in
     first_bytes count old new (take n buffer) (omega (arith, size, long, within)) read (λ less. end (omega (arith, size, long, less)))
 
--- some bytes and then others were read
 pub consumes_both : (old mid new : Option (List ℕ)) (a b : List ℕ) → Consumes old mid a → Consumes mid new b → Consumes old new (a ++ b)
 consumes_both None mid new a b one more = tt
 consumes_both (Some xs) None new a b one more = absurd one

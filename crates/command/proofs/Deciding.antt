@@ -1,4 +1,4 @@
--- The first bytes of a signature decide, one more than the greatest has.
+-- The first bytes of a signature decide: one more than the largest has.
 use Rattle.std.proofs.Common.{◌≡◌, ℕ, ◌+◌, ◌*◌, ◌^◌, ◌<◌, ◌≤◌, zero, suc, Bool, true, false, cond, nat_lt, nat_le, List, [], ◌∷◌, length, take, Result, Ok, Err, refl, subst, arith, leb-true, inl, inr}
 use Rattle.std.specs.Prelude.{◌&&◌}
 use Rattle.std.specs.Prelude.{⊤}
@@ -59,7 +59,7 @@ most-lms_type : TakesAtMost lms_type 4 Any
 unfolding lms_type
 most-lms_type = most-typed lms_code lms_types
 
--- what a signature goes on with, field by field
+-- the rest of a signature's layout, field by field
 abbrev with_path : ℕ → OtsType → List ℕ → List (List ℕ) → LmsType → List (List ℕ) → Layout LmsSignature
 with_path q ots randomizer chains tree path =
     done (signature_with (record { tree = tree; ots = ots }) q randomizer chains path)
@@ -213,7 +213,6 @@ verdict_decided count (Lms key) message bytes r less = lms_decided count key mes
 verdict_decided count (Hss key) message bytes r less = hss_decided count key message bytes r less
 verdict_decided count (Xmss key) message bytes r less = xmss_decided count key message bytes r (omega (arith, less))
 
--- a valid signature has no more bytes than the greatest
 pub verified_short : (key : AnyPublic) (message bytes : List ℕ) → KeyVerdict {A = ⊤} key message bytes (Ok tt) → length bytes ≤ 74988
 verified_short (Lms key) message bytes (s, spelled, valid) =
     omega (arith, spells-at_most lms_signature 9324 Any s bytes most-lms_signature spelled)
@@ -248,7 +247,7 @@ pub more_than_the_greatest : 74988 < decisive
 unfolding decisive
 more_than_the_greatest = omega arith
 
--- The judgement of the first bytes of a signature is that of all.
+-- The judgement of a signature's first bytes is the judgement of all.
 decided : {A : Type 0} (public message signature : List ℕ) (r : Result A Refusal) → Judgement public message (take decisive signature) r → Judgement public message signature r
 decided public message signature r judged = decided_by decisive public message signature r more_than_the_greatest judged
 

@@ -5,7 +5,6 @@ use Rattle.std.proofs.lemmas.List.{take_more}
 use Rattle.key_audit.specs.declared.listing.Entry.{Entry}
 use Rattle.command.specs.Output.{entry_line, entry_lines}
 
--- the lines of records with one more after them
 lines_more : (first : ℕ) (entries : List Entry) (entry : Entry) → entry_lines first (entries ++ entry ∷ []) ≡ entry_lines first entries ++ entry_line (first + length entries) entry
 unfolding entry_lines
 lines_more first [] entry =
@@ -16,13 +15,11 @@ lines_more first (l ∷ entries) entry =
     ∙ (let on : first + 1 + length entries ≡ first + length (l ∷ entries) = omega arith in
     ap (λ k. (entry_line first l ++ entry_lines (first + 1) entries) ++ entry_line k entry) on)
 
--- nothing was written, which is the lines of no records
 pub entries_begin : (contents : Option (List ℕ)) → Appends contents contents (entry_lines 0 [])
 unfolding entry_lines
 entries_begin None = tt
 entries_begin (Some bytes) = sym (append-nil bytes)
 
--- the lines of records were written, and now that of the next one
 pub entry_writes : (old before after : Option (List ℕ)) (entries : List Entry) (place : ℕ) (entry : Entry) → length entries ≡ place
     → Appends old before (entry_lines 0 entries) → Appends before after (entry_line place entry)
     → Appends old after (entry_lines 0 (entries ++ entry ∷ []))
@@ -34,7 +31,6 @@ entry_writes (Some o) (Some b) (Some a) entries place entry size first next =
     ∙ (let on : place ≡ 0 + length entries = omega (arith, size) in ap (λ k. o ++ (entry_lines 0 entries ++ entry_line k entry)) on)
     ∙ ap (λ l. o ++ l) (sym (lines_more 0 entries entry))
 
--- the records up to one and with it
 pub entries_so_far : (entries : List Entry) (place : ℕ) (entry : Entry) → place < length entries → entry ≡ get_or entries place entry
     → take (place + 1) entries ≡ take place entries ++ entry ∷ []
 entries_so_far entries place entry within is = take_more entries place entry within ∙ ap (λ e. take place entries ++ e ∷ []) (sym is)

@@ -12,11 +12,9 @@ use Rattle.command.specs.declared.refusal.Refusal.{Refusal}
 use Rattle.command.specs.declared.trace.Role.{Role}
 use Rattle.command.proofs.Contents.{same_content}
 
--- what a file that was opened has left is its content
 begins_file : (content left : Option (List ℕ)) (first : List ℕ) → ShowsContent content left → BeginsContent left first → BeginsContent content first
 begins_file content left first shows (whole, fits, is) = (whole, same_content content left whole shows fits, is)
 
--- the file that was opened by a path was read and kept, or not
 pub file_read : {A : Type 0} (items : A → List ℕ) (content : List ℕ → Option (List ℕ)) (left : Option (List ℕ)) (role of : Role) (path : List ℕ)
     (result : Result A Refusal) (old mid new : List Happening) → ShowsContent (content path) left → of ≡ role → mid ≡ old ++ opened role path ∷ []
     → MatchResult result (λ x. IsContent left (items x) × ReadsToEnd of (items x) mid new) (λ r. CantKeep of r mid new)
@@ -26,7 +24,6 @@ file_read items content left role of path (Ok x) old mid new shows same begins (
 file_read items content left role of path (Err refusal) old mid new shows same begins fails =
     inr (subst (λ t. CantKeep role refusal t new) begins (subst (λ r. CantKeep r refusal mid new) same fails))
 
--- .. or its first bytes
 pub start_read : {A : Type 0} (items : A → List ℕ) (content : List ℕ → Option (List ℕ)) (left : Option (List ℕ)) (role of : Role) (path : List ℕ)
     (result : Result A Refusal) (old mid new : List Happening) → ShowsContent (content path) left → of ≡ role → mid ≡ old ++ opened role path ∷ []
     → MatchResult result (λ x. BeginsContent left (items x) × FillsRoom of decisive (items x) mid new) (λ r. CantKeep of r mid new)
@@ -36,7 +33,6 @@ start_read items content left role of path (Ok x) old mid new shows same begins 
 start_read items content left role of path (Err refusal) old mid new shows same begins fails =
     inr (subst (λ t. CantKeep role refusal t new) begins (subst (λ r. CantKeep r refusal mid new) same fails))
 
--- it was read as a key
 pub key_read : (content : List ℕ → Option (List ℕ)) (left : Option (List ℕ)) (role of : Role) (path : List ℕ) (key : Result AnyPublic KeyFault)
     (old mid new : List Happening) → ShowsContent (content path) left → of ≡ role → mid ≡ old ++ opened role path ∷ []
     → ((bytes : List ℕ) × IsContent left bytes × ReadsKey bytes key × ReadsToEnd of bytes mid new)
@@ -47,7 +43,6 @@ key_read content left role of path key old mid new shows same begins (bytes, fit
   reads,
 )
 
--- .. or couldn't be
 pub key_not_read : {A : Type 0} (Good : A → Type 0) (role of : Role) (path : List ℕ) (kind : ErrorKind) (result : Result A Refusal)
     (old mid new : List Happening) → of ≡ role → mid ≡ old ++ opened role path ∷ [] → IsErrAnd result (λ refusal. refusal ≡ refusal_of kind)
     → FailsToRead of kind mid new → MatchResult result Good (λ r. FailsFile role path r old new)

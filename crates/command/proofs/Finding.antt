@@ -1,4 +1,4 @@
--- From what a parse says to what is requested.
+-- From what `clap` matched to the task that is requested.
 use Rattle.std.proofs.Common.{◌≡◌, ◌≢◌, ◌∙◌, List, [], ◌∷◌, Option, Some, None, Result, Ok, Err, IfErr, IsErrAnd, IsSome, inl, inr, ap₂, codes, refl, sym, subst, option_map, unwrap_or}
 use Rattle.std.specs.Prelude.{Box}
 use Rattle.std.specs.Box.{box_value}
@@ -36,7 +36,6 @@ use Rattle.command.specs.declared.retire.Retire.{Retire}
 use Rattle.command.specs.declared.serve.Serve.{Serve}
 use Rattle.command.specs.declared.sign.Sign.{Sign}
 
--- the name and the rows of the subcommand that was met
 met_is : (met : Option (Text × List Row)) (name : Text) (rows : List Row) → Some name ≡ option_map (λ p. p.0) met
     → Some rows ≡ option_map (λ p. p.1) met → met ≡ Some (name, rows)
 met_is None name rows named has = cc
@@ -53,12 +52,11 @@ pub subcommand_is : (matches : ArgMatches) (name : Text) (rows : List Row) → S
 subcommand_is matches name rows is has =
     met_is (subcommand_rows_of matches) name rows (is ∙ named (out-ArgMatches matches).subcommand) has
 
--- the task of `verify`, where all three files are given
+-- The task of each command: with all its words, and with one that is missing or wrong.
 pub all_files : (public message signature : Option Text) (p m s : Text) → public ≡ Some p → message ≡ Some m → signature ≡ Some s
     → Ok (verify p m s) ≡ verify_task public message signature
 all_files public message signature p m s p_is m_is s_is = rw (p_is, m_is, s_is) refl
 
--- .. and where one isn't
 pub not_all_files : (public message signature : Option Text) → (IsSome public × IsSome message × IsSome signature → ⊥)
     → Err Command ≡ verify_task public message signature
 not_all_files (Some p) (Some m) (Some s) none = absurd (none (refl, refl, refl))
@@ -66,13 +64,11 @@ not_all_files (Some p) (Some m) None none = refl
 not_all_files (Some p) None signature none = refl
 not_all_files None message signature none = refl
 
--- the task of `make`, where all its words are given
 pub is_make_task : (state public spec format random : Option Text) (words : Make) → IsMake state public spec format random (Ok words)
     → Ok (make words.state.now words.public.now words.spec.now words.version words.random.now) ≡ make_task state public spec format random
 is_make_task state public spec format random words (state_is, public_is, spec_is, (text, format_is, names), random_is) =
     rw (state_is, public_is, spec_is, format_is, random_is, names) refl
 
--- .. and where not
 no_version : (state public spec format random : Option Text) (text : Text) → state ≢ None → public ≢ None → spec ≢ None → format ≡ Some text
     → format_in text ≡ None → random ≢ None → Err Format ≡ make_task state public spec format random
 no_version (Some s) (Some p) (Some x) format (Some r) text state public spec is names random = rw (is, names) refl
@@ -105,13 +101,11 @@ no_make_task state public spec format random Tag never = absurd never
 no_make_task state public spec format random NoAnchor never = absurd never
 no_make_task state public spec format random Pairs never = absurd never
 
--- the task of `sign`, where all its words are given
 pub is_sign_task : (state name message out random : Option Text) (words : Sign) → IsSign state name message out random (Some words)
     → Ok (sign words.state.now words.name.now words.message.now words.out.now words.random.now) ≡ sign_task state name message out random
 is_sign_task state name message out random words (state_is, name_is, message_is, out_is, random_is) =
     rw (state_is, name_is, message_is, out_is, random_is) refl
 
--- .. and where not
 pub no_sign_task : (state name message out random : Option Text) → IsSign state name message out random None
     → Err Command ≡ sign_task state name message out random
 no_sign_task None name message out random missing = refl
@@ -125,7 +119,6 @@ no_sign_task (Some s) (Some n) (Some m) (Some o) (Some r) (inr (inr (inl none)))
 no_sign_task (Some s) (Some n) (Some m) (Some o) (Some r) (inr (inr (inr (inl none)))) = absurd cc
 no_sign_task (Some s) (Some n) (Some m) (Some o) (Some r) (inr (inr (inr (inr none)))) = absurd cc
 
--- values that are the same say the same
 pub same_make : {s t p q x y f g r u : Option Text} (words : Result Make UsageFault) → s ≡ t → p ≡ q → x ≡ y → f ≡ g → r ≡ u → IsMake s p x f r words
     → IsMake t q y g u words
 same_make {s = s} {t = t} {p = p} {q = q} {x = x} {y = y} {f = f} {g = g} {r = r} {u = u} words state public spec format random is =
@@ -138,12 +131,10 @@ same_sign {s = s} {t = t} {n = n} {o = o} {m = m} {l = l} {p = p} {q = q} {r = r
     subst (λ a. IsSign a o l q u words) state (subst (λ a. IsSign s a l q u words) name (subst (λ a. IsSign s n a q u words) message
     (subst (λ a. IsSign s n m a u words) out (subst (λ a. IsSign s n m p a words) random is))))
 
--- the task of `serve`, where all its words are given
 pub is_serve_task : (state random : Option Text) (words : Serve) → IsServe state random (Some words)
     → Ok (serve words.state.now words.random.now) ≡ serve_task state random
 is_serve_task state random words (state_is, random_is) = rw (state_is, random_is) refl
 
--- .. and where not
 pub no_serve_task : (state random : Option Text) → IsServe state random None → Err Command ≡ serve_task state random
 no_serve_task None random missing = refl
 no_serve_task (Some s) None missing = refl
@@ -154,12 +145,10 @@ pub same_serve : {s t r u : Option Text} (words : Option Serve) → s ≡ t → 
 same_serve {s = s} {t = t} {r = r} {u = u} words state random is =
     subst (λ a. IsServe a u words) state (subst (λ a. IsServe s a words) random is)
 
--- the task of `migrate`, where both its words are given
 pub is_migrate_task : (old new : Option Text) (words : Migrate) → IsMigrate old new (Some words)
     → Ok (migrate words.old.now words.new.now) ≡ migrate_task old new
 is_migrate_task old new words (old_is, new_is) = rw (old_is, new_is) refl
 
--- .. and where not
 pub no_migrate_task : (old new : Option Text) → IsMigrate old new None → Err Command ≡ migrate_task old new
 no_migrate_task None new missing = refl
 no_migrate_task (Some o) None missing = refl
@@ -170,12 +159,10 @@ pub same_migrate : {o p n m : Option Text} (words : Option Migrate) → o ≡ p 
 same_migrate {o = o} {p = p} {n = n} {m = m} words old new is =
     subst (λ a. IsMigrate a m words) old (subst (λ a. IsMigrate o a words) new is)
 
--- the task of `list`, where its word is given
 pub is_list_task : (state : Option Text) (words : ListState) → IsListState state (Some words)
     → Ok (list words.state.now) ≡ list_task state
 is_list_task state words state_is = rw state_is refl
 
--- .. and where not
 pub no_list_task : (state : Option Text) → IsListState state None → Err Command ≡ list_task state
 no_list_task None missing = refl
 no_list_task (Some s) missing = absurd cc
@@ -183,12 +170,10 @@ no_list_task (Some s) missing = absurd cc
 pub same_list : {s t : Option Text} (words : Option ListState) → s ≡ t → IsListState s words → IsListState t words
 same_list {s = s} {t = t} words state is = subst (λ a. IsListState a words) state is
 
--- the task of `public`, where both its words are given
 pub is_publish_task : (state public : Option Text) (words : Public) → IsPublic state public (Some words)
     → Ok (publish words.state.now words.public.now) ≡ publish_task state public
 is_publish_task state public words (state_is, public_is) = rw (state_is, public_is) refl
 
--- .. and where not
 pub no_publish_task : (state public : Option Text) → IsPublic state public None → Err Command ≡ publish_task state public
 no_publish_task None public missing = refl
 no_publish_task (Some s) None missing = refl
@@ -199,12 +184,10 @@ pub same_publish : {s t p q : Option Text} (words : Option Public) → s ≡ t �
 same_publish {s = s} {t = t} {p = p} {q = q} words state public is =
     subst (λ a. IsPublic a q words) state (subst (λ a. IsPublic s a words) public is)
 
--- the task of `retire`, where its words say what they have to
 pub is_retire_task : (state upto : Option Text) (words : Retire) → IsRetire state upto (Ok words)
     → Ok (retire words.state.now words.upto) ≡ retire_task state upto
 is_retire_task state upto words (state_is, (text, upto_is, spells)) = rw (state_is, upto_is, spells) refl
 
--- .. and where not
 pub no_retire_task : (state upto : Option Text) (fault : UsageFault) → IsRetire state upto (Err fault) → Err fault ≡ retire_task state upto
 no_retire_task state upto Number (text, path, state_is, upto_is, spells) = rw (state_is, upto_is, spells) refl
 no_retire_task None upto Command missing = refl
@@ -217,12 +200,10 @@ no_retire_task state upto Tag never = absurd never
 no_retire_task state upto NoAnchor never = absurd never
 no_retire_task state upto Pairs never = absurd never
 
--- the task of `audit`, where its words say what they have to
 pub is_audit_task : (state count tag : Option Text) (words : Audit) → IsAudit state count tag (Ok words)
     → Ok (audit words.state.now words.anchor) ≡ audit_task state count tag
 is_audit_task state count tag words (state_is, anchor_is) = rw (state_is, anchor_is) refl
 
--- .. and where not
 pub no_audit_task : (state count tag : Option Text) (fault : UsageFault) → IsAudit state count tag (Err fault) → Err fault ≡ audit_task state count tag
 no_audit_task state count tag fault (inl (state_is, fault_is)) = rw (state_is, fault_is) refl
 no_audit_task state count tag fault (inr (path, state_is, anchor_is)) = rw (state_is, anchor_is) refl
@@ -231,12 +212,10 @@ pub same_audit : {s t n m g h : Option Text} (words : Result Audit UsageFault) �
 same_audit {s = s} {t = t} {n = n} {m = m} {g = g} {h = h} words state count tag is =
     subst (λ a. IsAudit a m h words) state (subst (λ a. IsAudit s a h words) count (subst (λ a. IsAudit s n a words) tag is))
 
--- the task of `audit-given`, where its words say what they have to
 pub is_audit_given_task : (public : Option Text) (files : Option (List Text)) (words : AuditGiven) → IsAuditGiven public files (Ok words)
     → Ok (audit_given words.public.now (pairs_of words)) ≡ audit_given_task public files
 is_audit_given_task public files words (public_is, (paths, files_are, pairs_are)) = rw (public_is, files_are, pairs_are) refl
 
--- .. and where not
 pub no_audit_given_task : (public : Option Text) (files : Option (List Text)) (fault : UsageFault) → IsAuditGiven public files (Err fault)
     → Err fault ≡ audit_given_task public files
 no_audit_given_task public files fault (inl (inl none, fault_is)) = rw (none, fault_is) refl
@@ -249,31 +228,29 @@ pub same_audit_given : {p q : Option Text} {f g : Option (List Text)} (words : R
 same_audit_given {p = p} {q = q} {f = f} {g = g} words public files is =
     subst (λ a. IsAuditGiven a g words) public (subst (λ a. IsAuditGiven p a words) files is)
 
--- a command of another name than `audit-given` has as many values on each line
+-- Every command but `audit-given` has a fixed number of values.
 pub fixed_task : (name : Text) (rows : List Row) → name ≢ codes "audit-given" → fixed_task_named name rows ≡ task_named name rows
 fixed_task name rows isnt = elim (cases_Bool (bytes_eq name (codes "audit-given"))) [
   | inl same ↦ absurd (isnt ((bytes_eq-Decides name (codes "audit-given")).0 same))
   | inr differs ↦ rw differs refl
 ]
 
--- an error that is handed on keeps what holds of it
 pub handed_err : {T : Type 0} (r : Result T Error) (e : Error) (Q : Error → Type 0) → IsErrAnd r (λ x. x ≡ e) → Q e → IfErr r Q
 handed_err (Ok x) e Q same holds = absurd same
 handed_err (Err x) e Q same holds = subst Q (sym same) holds
 
--- where no kind may come, there is no memory
+-- an error that may be of no kind is refused memory
 pub only_memory : (kinds : Kinds) (e : Error) → kinds ≡ [] → HasKind kinds e → kind_of e ≡ OutOfMemory
 only_memory [] e none (inl memory) = memory
 only_memory [] e none (inr among) = absurd among
 only_memory (k ∷ ks) e none has = cc
 
--- others may come where none of these does
 pub or_others : (kinds others : Kinds) (e : Error) → HasKind kinds e → HasKind (or_else kinds others) e
 or_others [] others e (inl memory) = inl memory
 or_others [] others e (inr among) = absurd among
 or_others (k ∷ ks) others e has = has
 
--- a usage fault gives the kind of a line in which `clap` finds nothing wrong
+-- Where `clap` finds no fault, the usage fault gives the error's kind.
 pub usage_kind_is : (faults : Kinds) (found : Result Task UsageFault) (fault : UsageFault) (e : Error) → faults ≡ [] → found ≡ Err fault → kind_of e ≡ usage_kind fault
     → HasKind (or_else faults (usage_faults found)) e
 usage_kind_is faults found fault e none is same = rw (none, is) (inr (inl same))

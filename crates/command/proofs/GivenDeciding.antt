@@ -1,4 +1,4 @@
--- The first bytes of signatures that were given decide what a check of all their bytes answers.
+-- The first bytes of given signatures decide what a check of the whole ones answers.
 use Rattle.std.proofs.Common.{◌≡◌, ◌∙◌, ℕ, zero, suc, ◌<◌, ◌^◌, List, [], ◌∷◌, length, take, Option, Some, Result, Ok, Err, refl, sym, ap, subst, arith, take_all}
 use Rattle.std.specs.Prelude.{⊤, slice_get}
 use Rattle.key_audit.specs.declared.given.Given.{Given}
@@ -17,12 +17,11 @@ use Rattle.command.proofs.Deciding.{more_than_the_greatest, verdict_decided, ver
 
 -- ---- one signature
 
--- the first bytes of a valid signature are all of it
 all_of_valid : (key : AnyPublic) (message bytes : List ℕ) → IsValidUnder key message bytes → take decisive bytes ≡ bytes
 all_of_valid key message bytes valid =
     take_all decisive bytes (omega (arith, verified_short key message bytes valid, more_than_the_greatest))
 
--- where one of the two is valid, both are, and they are the same bytes
+-- If one of the two is valid, both are, and have the same bytes.
 valid_whole : (key : AnyPublic) (whole first : Given) → BeginsGiven whole first → IsValidGiven key first → IsValidGiven key whole
 valid_whole key whole first (message, signature) valid = record {
   verifies = verdict_decided {A = ⊤} decisive key whole.message.items whole.signature.items (Ok tt) more_than_the_greatest
@@ -125,7 +124,7 @@ twice_whole key wholes firsts i j begin valid twice =
           (same_bytes key b twice.b b_begins (valid_all j b at_j)) twice.twice;
     }
 
--- so what the check answers for the first bytes it answers for all
+-- The check answers for the first bytes what it answers for all.
 checks_whole : {A : Type 0} (key : AnyPublic) (wholes firsts : List Given) (r : Result A GivenFault) → BeginAll wholes firsts → Checks key firsts r
     → Checks key wholes r
 checks_whole key wholes firsts (Ok a) begin (valid, none) = (

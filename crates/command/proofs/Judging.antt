@@ -9,20 +9,17 @@ use Rattle.command.specs.declared.refusal.Refusal.{Refusal}
 use Rattle.command.specs.declared.refusal.Refusal.TheVariants.{Key, Signature, OutOfMemory, FileFailed}
 use Rattle.command.specs.declared.refusal.Refusal.TheVariants.{Signer, Opening, Preparing, Audit, Given, Migration, Serving, Locked, BadName, BadSpec}
 
--- the key that was read is the one that the bytes spell
 pub read_key : (bytes : List ℕ) (key : AnyPublic) (read : Result AnyPublic KeyFault) (r : Result AnyPublic Refusal)
     → ReadsKey bytes read → MatchResult read (λ k. r ≡ Ok k) (λ fault. IsErrAnd r (λ e. e ≡ Key fault)) → r ≡ Ok key
     → SpellsKey key bytes
 read_key bytes key (Ok k) r spelled mapped was = let same : k ≡ key = cc (mapped, was) in subst (λ k. SpellsKey k bytes) same spelled
 read_key bytes key (Err fault) r _ mapped was = absurd (subst (λ r. IsErrAnd r (λ e. e ≡ Key fault)) was mapped)
 
--- where a key was read, there is no fault
 pub has_key : (key : AnyPublic) (read : Result AnyPublic KeyFault) (r : Result AnyPublic Refusal) (Q : KeyFault → Type 0)
     → MatchResult read (λ k. r ≡ Ok k) (λ fault. IsErrAnd r (λ e. e ≡ Key fault)) → r ≡ Ok key → IfErr read Q
 has_key key (Ok k) r Q mapped was = tt
 has_key key (Err fault) r Q mapped was = absurd (subst (λ r. IsErrAnd r (λ e. e ≡ Key fault)) was mapped)
 
--- the fault of bytes that spell no key is the judgement
 pub no_key : {A : Type 0} (bytes message signature : List ℕ) (read : Result AnyPublic KeyFault) (r : Result AnyPublic Refusal) (e : Refusal) (answer : Result A Refusal)
     → ReadsKey bytes read → MatchResult read (λ k. r ≡ Ok k) (λ fault. IsErrAnd r (λ e. e ≡ Key fault)) → r ≡ Err e → IsErrAnd answer (λ x. x ≡ e)
     → Judgement bytes message signature answer
@@ -33,7 +30,6 @@ no_key {A = A} bytes message signature (Err fault) r e (Err x) reads mapped was 
     let same : x ≡ Key fault = is ∙ of_fault in
     subst (λ y. Judgement {A = A} bytes message signature (Err y)) (sym same) reads
 
--- a judgement is an answer
 pub judgement_answers : {A : Type 0} (p m s : List ℕ) (answer : Result A Refusal) → Judgement p m s answer → AnswersFiles p m s answer
 judgement_answers p m s (Ok a) judged = judged
 judgement_answers p m s (Err (Key fault)) judged = judged

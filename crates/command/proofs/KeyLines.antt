@@ -1,4 +1,4 @@
--- From the step on the disk of a state file to the whole command.
+-- From a step on the disk of a state file to the whole command.
 use Rattle.std.proofs.Common.{◌≡◌, ℕ, List, [], ◌∷◌, ◌++◌, Option, Result, Ok, Err, inr, refl, subst, sym}
 use Rattle.typecodes.specs.declared.message.Message as message
 use Rattle.typecodes.specs.declared.spec.Spec.{Spec}
@@ -19,7 +19,6 @@ use Rattle.command.specs.Sign.{DeliversSigned, SignsAndDelivers, SignsFile, Sign
 use Rattle.command.specs.Signing.{Delivers, PublicBytes}
 use Rattle.command.specs.Trace.{Happening, made, opened}
 
--- the file of random bytes was opened before
 pub makes_opened : {K R : Type 0} {bound : _} (d : disk.Ghosts K) (g : store.Ghosts (FileStore K bound)) (r : source.Ghosts R)
     (content : List ℕ → Option (List ℕ)) (before after : K) (version : Version) (spec : Spec) (public random : List ℕ) (source : R)
     (answer : Result PublicBytes Refusal) (old ready new : List Happening) → ShowsContent (content random) (r.upcoming source)
@@ -29,7 +28,6 @@ pub makes_opened : {K R : Type 0} {bound : _} (d : disk.Ghosts K) (g : store.Gho
 makes_opened {bound = bound} d g r content before after version spec public random source answer old ready new drawn begins makes =
     inr (source, drawn, subst (λ t. MakesAndPublishes {bound = bound} d g r before after version spec source public answer t new) begins makes)
 
--- a key was made on the disk of a state file that was opened and closed
 pub makes_in : {K R : Type 0} {bound : _} (d : disk.Ghosts K) (g : store.Ghosts (FileStore K bound)) (r : source.Ghosts R) (files : FilesSeen K)
     (version : Version) (spec : Spec) (state public text random : List ℕ) (before after : K) (content : List ℕ → Option (List ℕ)) (published : Result PublicBytes Refusal)
     (answer : Result Done Refusal) (old first last new : List Happening) → IsSpec spec → text ≡ spec_text spec
@@ -43,7 +41,6 @@ makes_in {bound = bound} d g r files version spec state public text random befor
 
 -- ---- signing
 
--- a signature was delivered, or a refusal
 pub delivered_ok : (signed : Result Unit Refusal) (value : Unit) (signature slice path : List ℕ) (old new : List Happening) (answer : Result ℕ Refusal)
     → signed ≡ Ok value → slice ≡ signature → Delivers (Ok slice) path old new answer → DeliversSigned signed signature path old new answer
 delivered_ok signed value signature slice path old new answer is same delivers =
@@ -53,7 +50,7 @@ pub delivered_err : (signed : Result Unit Refusal) (refusal : Refusal) (signatur
     → DeliversSigned signed signature path old old (Err refusal)
 delivered_err signed refusal signature path old is = subst (λ s. DeliversSigned s signature path old old (Err refusal)) (sym is) (refl, refl)
 
--- a message was signed into an output that had no room yet
+-- into an output without memory yet
 pub signs_and_delivers : {K R : Type 0} {bound : _} (d : disk.Ghosts K) (g : store.Ghosts (FileStore K bound)) (r : source.Ghosts R) (before after : K)
     (random : R) (name : List ℕ) (left : Option (List ℕ)) (out : List ℕ) (answer : Result ℕ Refusal) (old new : List Happening) (capacity : ℕ)
     (signature : List ℕ) (signed : Result Unit Refusal) (read : List Happening) → capacity ≡ 0
@@ -63,7 +60,6 @@ pub signs_and_delivers : {K R : Type 0} {bound : _} (d : disk.Ghosts K) (g : sto
 signs_and_delivers {bound = bound} d g r before after random name left out answer old new capacity signature signed read none signs delivers =
     (signature, signed, read, subst (λ n. SignsFile {bound = bound} d g r before after random name left n signature signed old read) none signs, delivers)
 
--- the other files were opened before
 pub signs_opened : {K R : Type 0} {bound : _} (d : disk.Ghosts K) (g : store.Ghosts (FileStore K bound)) (r : source.Ghosts R)
     (content : List ℕ → Option (List ℕ)) (before after : K) (name message out random : List ℕ) (source : R) (left : Option (List ℕ))
     (answer : Result ℕ Refusal) (old ready new : List Happening) → ShowsContent (content random) (r.upcoming source) → ShowsContent (content message) left
@@ -73,7 +69,6 @@ pub signs_opened : {K R : Type 0} {bound : _} (d : disk.Ghosts K) (g : store.Gho
 signs_opened {bound = bound} d g r content before after name message out random source left answer old ready new drawn shown begins signs =
     inr (source, left, drawn, shown, subst (λ t. SignsAndDelivers {bound = bound} d g r before after source name left out answer t new) begins signs)
 
--- a message was signed on the disk of a state file that was opened and closed
 pub signs_in : {K R : Type 0} {bound : _} (d : disk.Ghosts K) (g : store.Ghosts (FileStore K bound)) (r : source.Ghosts R) (files : FilesSeen K)
     (state given name message out random : List ℕ) (before after : K) (content : List ℕ → Option (List ℕ)) (signed : Result ℕ Refusal)
     (answer : Result Done Refusal) (old first last new : List Happening) → given ≡ name → IsName name
@@ -89,7 +84,6 @@ signs_in {bound = bound} d g r files state given name message out random before 
 
 -- ---- serving
 
--- requests were served on the disk of a state file that was opened and closed
 pub serves_in : {K R I W : Type 0} {bound : _} (d : disk.Ghosts K) (g : store.Ghosts (FileStore K bound)) (r : source.Ghosts R) (m : message.Ghosts I)
     (contents : W → Option (List ℕ)) (files : FilesSeen K) (state random : List ℕ) (before after : K) (content : List ℕ → Option (List ℕ))
     (from to : I × W) (served : Result ℕ Refusal) (old first last new : List Happening)

@@ -3,7 +3,6 @@ use Rattle.std.proofs.Common.{◌≡◌, ◌∙◌, ◌+◌, ℕ, List, [], ◌�
 use Rattle.std.specs.Io.KnownBytes.{Appends}
 use Rattle.command.specs.Output.{level_line, level_lines}
 
--- the lines of levels with one more below them
 lines_more : (first : ℕ) (left : List ℕ) (n : ℕ) → level_lines first (left ++ n ∷ []) ≡ level_lines first left ++ level_line (first + length left) n
 unfolding level_lines
 lines_more first [] n =
@@ -14,13 +13,11 @@ lines_more first (l ∷ left) n =
     ∙ (let on : first + 1 + length left ≡ first + length (l ∷ left) = omega arith in
     ap (λ k. (level_line first l ++ level_lines (first + 1) left) ++ level_line k n) on)
 
--- nothing was written, which is the lines of no levels
 pub levels_begin : (contents : Option (List ℕ)) → Appends contents contents (level_lines 0 [])
 unfolding level_lines
 levels_begin None = tt
 levels_begin (Some bytes) = sym (append-nil bytes)
 
--- the lines of levels were written, and now that of the next one
 pub level_writes : (old before after : Option (List ℕ)) (left : List ℕ) (level n : ℕ) → length left ≡ level
     → Appends old before (level_lines 0 left) → Appends before after (level_line level n)
     → Appends old after (level_lines 0 (left ++ n ∷ []))

@@ -1,4 +1,4 @@
--- What becomes of a message that verification reads, and of the file that it reads.
+-- What verification does with a message, and with the file that it reads.
 use Rattle.std.proofs.Common.{◌≡◌, ◌∙◌, ℕ, List, [], ◌∷◌, ◌++◌, Option, Result, Ok, Err, MatchResult, IsErrAnd, ◌⊎◌, inl, inr, refl, sym, ap, subst}
 use Rattle.std.specs.Prelude.{⊤}
 use Rattle.typecodes.specs.Message.{CantBeRead, ReadOutcome, ReadWhole, Transition}
@@ -16,7 +16,6 @@ use Rattle.command.specs.declared.refusal.Refusal.TheVariants.{Key, Signature, O
 use Rattle.command.specs.declared.refusal.Refusal.TheVariants.{Signer, Opening, Preparing, Audit, Given, Migration, Serving, Locked, BadName, BadSpec}
 use Rattle.command.specs.declared.trace.Role.{Role}
 
--- a key that can't be read leaves the message
 pub no-key-leaves : {M A : Type 0} (step : Transition M) (remaining : M → Option (List ℕ)) (public text : List ℕ) (old : M) (read : Result AnyPublic KeyFault)
     (r : Result AnyPublic Refusal) (e : Refusal) (answer : Result A Refusal)
     → MatchResult read (λ k. r ≡ Ok k) (λ fault. IsErrAnd r (λ e. e ≡ Key fault)) → r ≡ Err e → IsErrAnd answer (λ x. x ≡ e)
@@ -28,11 +27,11 @@ no-key-leaves {A = A} step remaining public text old (Err fault) r e (Err x) map
     let of_fault : e ≡ Key fault = subst (λ r. IsErrAnd r (λ e. e ≡ Key fault)) was mapped in
     subst (λ y. AnswerLeaves {A = A} step remaining public text old old (Err y)) (sym (is ∙ of_fault)) refl
 
--- What verification may do to a message: nothing, or it reads it whole, or it can't be read.
+-- What verification may do with a message: nothing, read it whole, or fail to read it.
 unfoldable Ends : {M : Type 0} → Transition M → (M → Option (List ℕ)) → List ℕ → M → M → Type 0
 Ends step remaining text old new = (new ≡ old) ⊎ ReadWhole step remaining text old new ⊎ CantBeRead step old new
 
--- Of two messages the same becomes, if each of these becomes of both.
+-- Each of the three carries over from one message to another.
 pub record Carries {M N : Type 0} (step : Transition M) (remaining : M → Option (List ℕ)) (other : Transition N) (left : N → Option (List ℕ)) (text : List ℕ)
     (old new : M) (before after : N) : Type 0 where
   pub same : new ≡ old → after ≡ before
@@ -104,7 +103,6 @@ noted-failure step role_of trace_of notes old new (inl (kind, text, (outcomes, r
 noted-failure step role_of trace_of notes old new (inr (text, (outcomes, reads, gave), endless)) =
     inr (text, (outcomes, noted step role_of trace_of (role_of old) notes outcomes old new refl reads, gave), endless)
 
--- what an answer leaves of the message is what it does to the file
 pub noted-message : {M A : Type 0} (step : Transition M) (remaining : M → Option (List ℕ)) (role_of : M → Role) (trace_of : M → List Happening)
     → Notes step role_of trace_of → (public text : List ℕ) (old new : M) (answer : Result A Refusal)
     → AnswerLeaves step remaining public text old new answer

@@ -1,11 +1,10 @@
--- The number that a text spells, digit by digit.
+-- The number of a text, digit by digit.
 use Rattle.std.proofs.Common.{◌≡◌, ◌<◌, ◌≤◌, ◌∙◌, ◌+◌, ℕ, List, [], ◌∷◌, Some, None, true, false, drop, length, refl, slice_index_or, ap, sym, if◌then◌else◌, nat_lt}
 use Rattle.std.specs.Char.{is_ascii_digit}
 use Rattle.std.proofs.lemmas.Bool.{le-ltb, lt-ltb}
 use Rattle.std.proofs.lemmas.List.{drop_all, drop_more}
 use Rattle.command.specs.Number.{number_after, number_in, with_digit}
 
--- the next byte decides
 next_digit : (most number : ℕ) (text : List ℕ) (i : ℕ) → i < length text
     → number_after most number (drop i text)
     ≡ (if is_ascii_digit (slice_index_or text i 0)
@@ -15,19 +14,16 @@ next_digit : (most number : ℕ) (text : List ℕ) (i : ℕ) → i < length text
 unfolding number_after
 next_digit most number text i within = ap (number_after most number) (drop_more text i 0 within)
 
--- it is no digit,
 pub no_digit : (most number : ℕ) (text : List ℕ) (i : ℕ) → i < length text → is_ascii_digit (slice_index_or text i 0) ≡ false
     → number_after most number (drop i text) ≡ None
 no_digit most number text i within other = next_digit most number text i within ∙ rw other refl
 
--- or the number passes the greatest,
 pub too_great : (most number longer : ℕ) (text : List ℕ) (i : ℕ) → i < length text → is_ascii_digit (slice_index_or text i 0) ≡ true
     → longer ≡ with_digit number (slice_index_or text i 0) → most < longer → number_after most number (drop i text) ≡ None
 too_great most number longer text i within digit is above =
     next_digit most number text i within
     ∙ rw (digit, ap (nat_lt most) (sym is) ∙ lt-ltb most longer above) refl
 
--- or it has one digit more
 pub one_digit : (most number longer : ℕ) (text : List ℕ) (i : ℕ) → i < length text → is_ascii_digit (slice_index_or text i 0) ≡ true
     → longer ≡ with_digit number (slice_index_or text i 0) → longer ≤ most
     → number_after most number (drop i text) ≡ number_after most longer (drop (i + 1) text)
@@ -35,12 +31,10 @@ one_digit most number longer text i within digit is below =
     next_digit most number text i within
     ∙ rw (digit, ap (nat_lt most) (sym is) ∙ le-ltb most longer below) (ap (λ n. number_after most n (drop (i + 1) text)) (sym is))
 
--- after the last byte it is done
 pub all_digits : (most number : ℕ) (text : List ℕ) (i : ℕ) → length text ≤ i → number_after most number (drop i text) ≡ Some number
 unfolding number_after
 all_digits most number text i past = ap (number_after most number) (drop_all i text past)
 
--- a text that isn't empty spells what its digits do after 0
 pub some_text : (most : ℕ) (text : List ℕ) → (length text ≡ 0 → ⊥) → number_in most text ≡ number_after most 0 text
 some_text most [] some = absurd (some refl)
 some_text most (byte ∷ bytes) some = refl

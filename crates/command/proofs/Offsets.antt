@@ -30,7 +30,6 @@ module _ {F : Type 0} (trace_of : F → List Happening) (at all : ℕ) (ends : a
         stays ∙ kept,
       )
 
--- it stays the same file
 pub same_file_read : {F : Type 0} (trace_of : F → List Happening) (at : ℕ) (result : Result ℕ Error) (buffer : List ℕ) (old new : AtOffset F)
     → RequestsFull (ReadsNext trace_of) result buffer old new → at + length buffer < 2 ^ 64 → old.at ≡ at + 0
     → new.file.ghost_name ≡ old.file.ghost_name
@@ -41,7 +40,6 @@ same_file_read trace_of at (Ok n) buffer old new (inr (less, (outcomes, asks, ga
 same_file_read trace_of at (Err error) buffer old new (n, (outcomes, asks, gave)) ends here =
     (asked trace_of at (length buffer) ends (outcomes ++ Err (error_kind error) ∷ []) 0 old n new here (omega arith) asks).1
 
--- the buffer was filled
 filled : {F A : Type 0} (trace_of : F → List Happening) (at n : ℕ) (buffer : List ℕ) (value : A) (old new : AtOffset F)
     → RequestsFull (ReadsNext trace_of) (Ok n) buffer old new → at + length buffer < 2 ^ 64 → old.at ≡ at + 0 → length buffer ≤ n
     → ReadsAt at buffer (Ok value) (trace_of old.file.now) (trace_of new.file.now)
@@ -50,7 +48,6 @@ filled trace_of at n buffer value old new (inl (full, (outcomes, asks, gave))) e
     (outcomes, subst (λ m. Transitions (ReadsRest at (length buffer)) outcomes (0, trace_of old.file.now) (m, trace_of new.file.now)) full goes, gave)
 filled trace_of at n buffer value old new (inr (less, asks)) ends here enough = absurd (omega (arith, less, enough))
 
--- the file ended before
 ended : {F : Type 0} (A : Type 0) (trace_of : F → List Happening) (at n : ℕ) (buffer : List ℕ) (old new : AtOffset F)
     → RequestsFull (ReadsNext trace_of) (Ok n) buffer old new → at + length buffer < 2 ^ 64 → old.at ≡ at + 0 → n < length buffer
     → ReadsAt {A = A} at buffer (Err fault.PastEnd) (trace_of old.file.now) (trace_of new.file.now)
@@ -59,7 +56,6 @@ ended A trace_of at n buffer old new (inr (less, (outcomes, asks, gave))) ends h
     let (goes, stays) = asked trace_of at (length buffer) ends (outcomes ++ Ok [] ∷ []) 0 old n new here (omega arith) asks in
     inr (n, take n buffer, (outcomes, goes, gave))
 
--- a read failed
 broke : {F : Type 0} (A : Type 0) (trace_of : F → List Happening) (at : ℕ) (error : Error) (buffer : List ℕ) (old new : AtOffset F)
     → RequestsFull (ReadsNext trace_of) (Err error) buffer old new → at + length buffer < 2 ^ 64 → old.at ≡ at + 0
     → ReadsAt {A = A} at buffer (Err fault.Failed) (trace_of old.file.now) (trace_of new.file.now)
@@ -67,7 +63,7 @@ broke A trace_of at error buffer old new (n, (outcomes, asks, gave)) ends here =
     let (goes, stays) = asked trace_of at (length buffer) ends (outcomes ++ Err (error_kind error) ∷ []) 0 old n new here (omega arith) asks in
     (n, (error_kind error, take n buffer, (outcomes, goes, gave)))
 
--- the same of an answer that is known
+-- the same for a known answer
 module _ {F : Type 0} (trace_of : F → List Happening) (at : ℕ) (result : Result ℕ Error) (buffer : List ℕ) (old new : AtOffset F)
     (asks : RequestsFull (ReadsNext trace_of) result buffer old new) (ends : at + length buffer < 2 ^ 64) (here : old.at ≡ at + 0) where
   pub filled_there : {A : Type 0} (value : A) (n : ℕ) → result ≡ Ok n → length buffer ≤ n
@@ -105,7 +101,6 @@ module _ {F : Type 0} (trace_of : F → List Happening) (at : ℕ) (bytes : List
         stays ∙ kept,
       )
 
--- it stays the same file
 pub same_file_written : {F A : Type 0} (trace_of : F → List Happening) (at : ℕ) (result : Result A Error) (bytes : List ℕ)
     (old new : AtOffset F) → WritesAll (WritesNext trace_of) (λ sink. None) result bytes old new → at + length bytes < 2 ^ 64 → old.at ≡ at + 0
     → new.file.ghost_name ≡ old.file.ghost_name
@@ -116,7 +111,6 @@ same_file_written trace_of at (Err error) bytes old new (n, less, more, inl (kin
 same_file_written trace_of at (Err error) bytes old new (n, less, more, inr (outcomes, offers, gave)) ends here =
     (offered trace_of at bytes ends (outcomes ++ Err (error_kind error) ∷ []) 0 old n new here (omega arith) offers).1
 
--- all bytes were written
 written : {F A : Type 0} (trace_of : F → List Happening) (at : ℕ) (value : A) (bytes : List ℕ) (old new : AtOffset F)
     → WritesAll (WritesNext trace_of) (λ sink. None) (Ok value) bytes old new → at + length bytes < 2 ^ 64 → old.at ≡ at + 0
     → WritesAt at bytes (Ok value) (trace_of old.file.now) (trace_of new.file.now)
@@ -124,7 +118,6 @@ written trace_of at value bytes old new ((outcomes, offers, gave), more) ends he
     let (goes, stays) = offered trace_of at bytes ends outcomes 0 old (length bytes) new here (omega arith) offers in
     (outcomes, goes, gave)
 
--- a write took nothing, or failed
 not_written : {F : Type 0} (A : Type 0) (trace_of : F → List Happening) (at : ℕ) (error : Error) (bytes : List ℕ)
     (old new : AtOffset F) → WritesAll {A = A} (WritesNext trace_of) (λ sink. None) (Err error) bytes old new → at + length bytes < 2 ^ 64
     → old.at ≡ at + 0 → WritesAt {A = A} at bytes (Err fault.Failed) (trace_of old.file.now) (trace_of new.file.now)
@@ -135,7 +128,7 @@ not_written A trace_of at error bytes old new (n, less, more, inr (outcomes, off
     let (goes, stays) = offered trace_of at bytes ends (outcomes ++ Err (error_kind error) ∷ []) 0 old n new here (omega arith) offers in
     inr (inr (n, (error_kind error, take n bytes, (outcomes, goes, gave))))
 
--- the same of an answer that is known
+-- the same for a known answer
 module _ {F V : Type 0} (trace_of : F → List Happening) (at : ℕ) (result : Result V Error) (bytes : List ℕ)
     (old new : AtOffset F) (offers : WritesAll (WritesNext trace_of) (λ sink. None) result bytes old new) (ends : at + length bytes < 2 ^ 64)
     (here : old.at ≡ at + 0) where

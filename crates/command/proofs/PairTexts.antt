@@ -7,7 +7,6 @@ use Rattle.typecodes.specs.declared.types.LmsPair.{LmsPair}
 use Rattle.typecodes.specs.Spec.{comma, levels_text, pair_text}
 use Rattle.command.specs.ListingText.{after_comma}
 
--- the text of parts with one more
 join_more : (parts : List (List ℕ)) (x : List ℕ)
     → join_with_byte comma (parts ++ x ∷ []) ≡ join_with_byte comma parts ++ after_comma (length parts) x
 join_more [] x = refl
@@ -22,12 +21,10 @@ pairs_more pairs pair =
     ap (join_with_byte comma) (map-append pair_text pairs (pair ∷ [])) ∙ join_more (map pair_text pairs) (pair_text pair)
     ∙ ap (λ n. levels_text pairs ++ after_comma n (pair_text pair)) (length-map pairs pair_text)
 
--- nothing was written, which is the text of no pair
 pub pairs_begin : (contents : Option (List ℕ)) → Appends contents contents (levels_text [])
 pairs_begin None = tt
 pairs_begin (Some bytes) = sym (append-nil bytes)
 
--- the texts of pairs were written, and now that of the next one
 pub pair_writes : (old before after : Option (List ℕ)) (pairs : List LmsPair) (level : ℕ) (pair : LmsPair) → length pairs ≡ level
     → Appends old before (levels_text pairs) → Appends before after (after_comma level (pair_text pair))
     → Appends old after (levels_text (pairs ++ pair ∷ []))

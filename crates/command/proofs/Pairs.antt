@@ -4,7 +4,6 @@ use Rattle.std.proofs.lemmas.List.{map-append, take_more}
 use Rattle.clap.specs.Words.{Text}
 use Rattle.command.specs.AuditGiven.{Pair, pairs_in}
 
--- an odd number of paths is none of pairs
 pub odd_has_none : (paths : List Text) (half : ℕ) → length paths ≡ 2 * half + 1 → pairs_in paths ≡ None
 unfolding pairs_in
 odd_has_none [] half odd = absurd (omega (arith, odd))
@@ -13,13 +12,11 @@ odd_has_none (message ∷ signature ∷ paths) zero odd = absurd (omega (arith, 
 odd_has_none (message ∷ signature ∷ paths) (suc half) odd =
     ap (option_map (λ pairs. (message, signature) ∷ pairs)) (odd_has_none paths half (omega (arith, odd)))
 
--- what one pair more in front gives
 in_front : (pair : Pair) (found : Option (List Pair)) (pairs : List Pair) → option_map (λ l. pair ∷ l) found ≡ Some pairs
     → (later : List Pair) × (found ≡ Some later) × (pair ∷ later ≡ pairs)
 in_front pair None pairs same = absurd cc
 in_front pair (Some later) pairs same = (later, refl, cc)
 
--- pairs and one more
 pub pairs_more : (paths : List Text) (pairs : List Pair) (message signature : Text) → pairs_in paths ≡ Some pairs
     → pairs_in (paths ++ message ∷ signature ∷ []) ≡ Some (pairs ++ (message, signature) ∷ [])
 unfolding pairs_in
@@ -31,7 +28,6 @@ pairs_more (m ∷ s ∷ paths) pairs message signature same =
     ap (option_map (λ l. (m, s) ∷ l)) (pairs_more paths later message signature found)
     ∙ ap (λ (l : List Pair). Some (l ++ (message, signature) ∷ [])) front
 
--- the first paths, with the next two
 pub next_pair : {X : Type 0} (paths : List X) (i : ℕ) (d : X) → 2 * i + 1 < length paths
     → take (2 * (i + 1)) paths ≡ take (2 * i) paths ++ get_or paths (2 * i) d ∷ get_or paths (2 * i + 1) d ∷ []
 next_pair paths i d within =
@@ -40,12 +36,11 @@ next_pair paths i d within =
     ∙ ap (λ l. l ++ get_or paths (2 * i + 1) d ∷ []) (take_more paths (2 * i) d (omega (arith, within)))
     ∙ append_assoc (take (2 * i) paths) (get_or paths (2 * i) d ∷ []) (get_or paths (2 * i + 1) d ∷ [])
 
--- no pairs
 pub pairs_none : {Y : Type 0} (pairing : Y → Pair) (files : List Y) → files ≡ [] → pairs_in [] ≡ Some (map pairing files)
 unfolding pairs_in
 pairs_none pairing files none = ap (λ l. Some (map pairing l)) (sym none)
 
--- the first paths in pairs, and the next two in one
+-- One more turn of the loop: the first 2i paths are in `files`, the next two are `last`.
 pub pairs_taken : {X Y : Type 0} (view : X → Text) (pairing : Y → Pair) (paths : List X) (files all : List Y) (i : ℕ) (d : X) (last : Y)
     → 2 * i + 1 < length paths → pairing last ≡ (view (get_or paths (2 * i) d), view (get_or paths (2 * i + 1) d)) → all ≡ files ++ last ∷ []
     → pairs_in (map view (take (2 * i) paths)) ≡ Some (map pairing files)

@@ -55,7 +55,6 @@ pub reads_none : (content : List ℕ → Option (List ℕ)) (given : List Given)
 unfolding ReadsPairs
 reads_none content given old none = (none, refl)
 
--- the first items with the next one, as pairs
 next_of : {X Y : Type 0} (view : X → Y) (items : List X) (k : ℕ) (d : X) → k < length items
     → map view (take (k + 1) items) ≡ map view (take k items) ++ view (get_or items k d) ∷ []
 next_of view items k d within = ap (map view) (take_more items k d within) ∙ map-append view (take k items) (get_or items k d ∷ [])
@@ -68,7 +67,6 @@ one_more_of content view items k d given all old new within same reads =
     subst (λ l. ReadsPairs content l all old new) (sym (next_of view items k d within))
     (subst (λ l. ReadsPairs content (map view (take k items) ++ view (get_or items k d) ∷ []) l old new) (sym same) reads)
 
--- and that one
 pub stands_at : {X Y : Type 0} (view : X → Y) (items : List X) (k : ℕ) (d : X) → k < length items
     → slice_get (map view items) k ≡ Some (view (get_or items k d))
 stands_at view items k d within = slice_get-map view items k ∙ ap (option_map view) (slice_get-get_or items k d within)
@@ -87,7 +85,6 @@ pub no_room : {X : Type 0} (content : List ℕ → Option (List ℕ)) (view : X 
 no_room content view items k given refusal old new reads some memory =
     (k, given, new, subst (λ l. ReadsPairs content l given old new) (sym (take-map view k items)) reads, inl (some, memory, refl))
 
--- a refusal that is handed on
 pub handed_on : {A : Type 0} (Good : A → Type 0) (Bad : Refusal → Type 0) (result : Result A Refusal) (refusal : Refusal)
     → IsErrAnd result (λ r. r ≡ refusal) → Bad refusal → MatchResult result Good Bad
 handed_on Good Bad (Ok x) refusal is bad = absurd is
@@ -118,7 +115,6 @@ same_judgement content other view key items all answer old new is same judges =
       | inr (given, reads, answers, whole) ↦ inr (given, same_pairs content other (map view all) given old new same reads, answers, whole)
     ]
 
--- the public key couldn't be read
 pub key_fails : (content : List ℕ → Option (List ℕ)) (public : List ℕ) (pairs : List Pair) (refusal : Refusal) (answer : Result Done Refusal)
     (old new : List Happening) → IsErrAnd answer (λ r. r ≡ refusal) → FailsFile role.Public public refusal old new
     → ChecksIn content public pairs answer old new

@@ -1,4 +1,4 @@
--- Transitions of a file, one after the other.
+-- Reads of a file, one after the other.
 use Rattle.std.proofs.Common.{◌≡◌, ◌∙◌, ◌<◌, ℕ, ◌≤◌, ◌^◌, List, [], ◌∷◌, ◌++◌, ◌+◌, length, take, Result, Ok, Err, IfOk, IsErrAnd, inl, inr, refl, sym, ap, subst, arith, length-append, length-take-le, take_all, Option, Some, None, ◌⊎◌}
 use Rattle.std.specs.Prelude.{MatchResult}
 use Rattle.std.specs.declared.io.ErrorKind.{ErrorKind}
@@ -21,7 +21,7 @@ use Rattle.command.proofs.Contents.{consumes_both, first_bytes}
 
 -- ---- from a reader to its file
 
--- A reader's reads are those of a file, which are noted.
+-- A reader's reads are reads of a file, and are noted.
 pub record Notes {M : Type 0} (step : Transition M) (role_of : M → Role) (trace_of : M → List Happening) : Type 0 where
   pub role : (old : M) (outcome : ReadOutcome) (new : M) → step old outcome new → role_of new ≡ role_of old
   pub trace : (old : M) (outcome : ReadOutcome) (new : M) → step old outcome new → ReadsOnce (role_of old) (trace_of old) outcome (trace_of new)
@@ -36,14 +36,13 @@ noted step role_of trace_of role notes (outcome ∷ later) old new is (next, fir
   noted step role_of trace_of role notes later next new (notes.role old outcome next first ∙ is) reads,
 )
 
--- what none of the reads changes stays
+-- What no read changes stays.
 pub stays : {M X : Type 0} (step : Transition M) (part : M → X) → ((old : M) (outcome : ReadOutcome) (new : M) → step old outcome new → part new ≡ part old)
     → (outcomes : List ReadOutcome) (old new : M) → Transitions step outcomes old new → part new ≡ part old
 stays step part kept [] old new same = ap part same
 stays step part kept (outcome ∷ later) old new (next, first, reads) =
     stays step part kept later next new reads ∙ kept old outcome next first
 
--- .. while a buffer is filled
 pub full_stays : {M X : Type 0} (step : Transition M) (part : M → X) → ((old : M) (outcome : ReadOutcome) (new : M) → step old outcome new → part new ≡ part old)
     → (remaining : M → Option (List ℕ)) (result : Result ℕ Error) (buffer : List ℕ) (old new : M) → ReadsFull step remaining result buffer old new
     → part new ≡ part old
@@ -53,7 +52,6 @@ full_stays step part kept remaining (Ok n) buffer old new (inr (less, (outcomes,
 full_stays step part kept remaining (Err error) buffer old new (count, less, (outcomes, reads, gave), bytes) =
     stays step part kept (outcomes ++ Err (error_kind error) ∷ []) old new reads
 
--- .. or while it is read to its end
 pub end_stays : {M X T A E : Type 0} (step : Transition M) (part : M → X) → ((old : M) (outcome : ReadOutcome) (new : M) → step old outcome new → part new ≡ part old)
     → (remaining : M → Option (List ℕ)) (takes : Takes T) (refuses : Refuses T E) (result : Result A (ReadError E)) (old new : M) (before after : T)
     → EndsOrFails step remaining takes refuses result old new before after → part new ≡ part old
@@ -68,7 +66,6 @@ end_stays step part kept remaining takes refuses (Err (Refused fault)) old new b
 end_stays step part kept remaining takes refuses (Err (Refused fault)) old new before after (taken, piece, middle, took, refuse, inr (outcomes, reads, gave)) =
     stays step part kept (outcomes ++ Ok [] ∷ []) old new reads
 
--- a buffer that a reader filled is one that its file did
 pub full_noted : {M : Type 0} (step : Transition M) (role_of : M → Role) (trace_of : M → List Happening) → Notes step role_of trace_of
     → (remaining : M → Option (List ℕ)) (result : Result ℕ Error) (buffer : List ℕ) (old new : M) → ReadsFull step remaining result buffer old new
     → FillsOrFails (role_of old) result buffer (trace_of old) (trace_of new)
@@ -82,7 +79,7 @@ full_noted step role_of trace_of notes remaining (Ok n) buffer old new (inr (les
 full_noted step role_of trace_of notes remaining (Err error) buffer old new (count, less, (outcomes, reads, gave), bytes) =
     (take count buffer, (outcomes, noted step role_of trace_of (role_of old) notes (outcomes ++ Err (error_kind error) ∷ []) old new refl reads, gave))
 
--- a reader as its file
+-- a reader as the state of its file
 abbrev pub as_state : {M : Type 0} → (M → Option (List ℕ)) → (M → List Happening) → M → FileState
 as_state remaining trace_of reader = (remaining reader, trace_of reader)
 
@@ -96,7 +93,6 @@ noted_state step role_of trace_of remaining role notes (outcome ∷ later) old n
   noted_state step role_of trace_of remaining role notes later next new (notes.role old outcome next first ∙ is) reads,
 )
 
--- a reader that was read to its end is a file that was
 pub end_noted : {M T A E : Type 0} (step : Transition M) (role_of : M → Role) (trace_of : M → List Happening) → Notes step role_of trace_of
     → (remaining : M → Option (List ℕ)) (takes : Takes T) (refuses : Refuses T E) (result : Result A (ReadError E)) (old new : M) (before after : T)
     → EndsOrFails step remaining takes refuses result old new before after
@@ -121,9 +117,8 @@ end_noted step role_of trace_of notes remaining takes refuses (Err (Refused faul
 end_noted step role_of trace_of notes remaining takes refuses (Err (Refused fault)) old new before after (taken, piece, middle, took, refuse, inr (outcomes, reads, gave)) =
     (taken, piece, middle, took, refuse, inr (outcomes, noted_state step role_of trace_of remaining (role_of old) notes (outcomes ++ Ok [] ∷ []) old new refl reads, gave))
 
--- ---- the same of the last value that is known of a file
+-- ---- the same for the last value that is known of a file
 
--- what is so of a value is so of the same value by another name
 pub via : {A : Type 0} (P : A → Type 0) (x y : A) → P x → x ≡ y → P y
 via P x y holds same = subst P same holds
 
@@ -135,7 +130,6 @@ end_moved step takes refuses result old left other trace new before after ends s
     subst (λ t. EndsOrFails step left_of takes refuses result old (other, t) before after) same_trace
     (subst (λ l. EndsOrFails step left_of takes refuses result old (l, trace) before after) same_left ends)
 
--- what a filled buffer says of the content
 pub full_bytes : {M : Type 0} (step : Transition M) (remaining : M → Option (List ℕ)) (result : Result ℕ Error) (buffer : List ℕ) (old new : M)
     → ReadsFull step remaining result buffer old new
     → IfOk result (λ n. Consumes (remaining old) (remaining new) (take n buffer))
@@ -147,14 +141,13 @@ pub full_end : {M : Type 0} (step : Transition M) (remaining : M → Option (Lis
 full_end step remaining (Ok n) buffer old new (fills, bytes, end) = end
 full_end step remaining (Err error) buffer old new fails = tt
 
--- ---- what becomes of a file that is read to its end, by its trace alone
+-- ---- a file that is read to its end, by its trace alone
 
 trace_reads : (role : Role) (outcomes : List ReadOutcome) (old new : FileState) → Transitions (ReadsFileOnce role) outcomes old new
     → Transitions (ReadsOnce role) outcomes old.1 new.1
 trace_reads role [] old new same = ap (λ (file : FileState). file.1) same
 trace_reads role (outcome ∷ later) old new (next, first, reads) = (next.1, first, trace_reads role later next new reads)
 
--- it was read to its end
 pub ended : {T A E : Type 0} (role : Role) (takes : Takes T) (refuses : Refuses T E) (value : A) (old new : FileState) (before after : T)
     → EndsOrFails {E = E} (ReadsFileOnce role) left_of takes refuses (Ok value) old new before after
     → (bytes : List ℕ) × IsContent old.0 bytes × takes before bytes after × (length bytes < 2 ^ 60) × ReadsToEnd role bytes old.1 new.1
@@ -167,21 +160,18 @@ ended role takes refuses value old new before after (text, whole, taken) =
       (outcomes, trace_reads role (outcomes ++ Ok [] ∷ []) old new reads, gave),
     )
 
--- a read failed
 pub ended_failed : (A : Type 0) {T E : Type 0} (role : Role) (takes : Takes T) (refuses : Refuses T E) (error : Error) (old new : FileState) (before after : T)
     → EndsOrFails {A = A} (ReadsFileOnce role) left_of takes refuses (Err (Failed error)) old new before after
     → FailsToRead role (error_kind error) old.1 new.1
 ended_failed A role takes refuses error old new before after (taken, rest, (outcomes, reads, gave), short, took) =
     inl (taken ++ rest, (outcomes, trace_reads role (outcomes ++ Err (error_kind error) ∷ []) old new reads, gave))
 
--- there was no end of bytes
 pub endless : (A : Type 0) {T E : Type 0} (role : Role) (takes : Takes T) (refuses : Refuses T E) (kind : ErrorKind) (old new : FileState) (before after : T)
     → EndsOrFails {A = A} (ReadsFileOnce role) left_of takes refuses (Err TooLong) old new before after → (kind ≡ OutOfMemory → ⊥)
     → FailsToRead role kind old.1 new.1
 endless A role takes refuses kind old new before after (text, (outcomes, reads, gave), long, took) other =
     inr (other, (text, (outcomes, trace_reads role outcomes old new reads, gave), long))
 
--- a piece was refused, which had a byte at least
 pub ended_refused : (A : Type 0) {T E : Type 0} (role : Role) (takes : Takes T) (refuses : Refuses T E) (fault : E) (old new : FileState) (before after : T)
     → EndsOrFails {A = A} (ReadsFileOnce role) left_of takes refuses (Err (Refused fault)) old new before after
     → ((old : T) (piece : List ℕ) (new : T) → refuses old piece fault new → 1 ≤ length piece)
@@ -197,14 +187,14 @@ ended_refused A role takes refuses fault old new before after (taken, piece, mid
   inr (outcomes, trace_reads role (outcomes ++ Ok [] ∷ []) old new reads, gave),
 )
 
--- the same of an answer that is known
+-- the same for a known answer
 pub rest_ended : {T A E : Type 0} (role : Role) (takes : Takes T) (refuses : Refuses T E) (result : Result A (ReadError E)) (value : A) (old new : FileState)
     (before after : T) → result ≡ Ok value → EndsOrFails (ReadsFileOnce role) left_of takes refuses result old new before after
     → (bytes : List ℕ) × IsContent old.0 bytes × takes before bytes after × (length bytes < 2 ^ 60) × ReadsToEnd role bytes old.1 new.1
 rest_ended role takes refuses result value old new before after is ends =
     ended role takes refuses value old new before after (subst (λ r. EndsOrFails (ReadsFileOnce role) left_of takes refuses r old new before after) is ends)
 
--- .. where what takes its bytes keeps them
+-- .. and a taker that keeps the bytes
 pub kept_all : {T A E : Type 0} (role : Role) (takes : Takes T) (refuses : Refuses T E) (items : T → List ℕ) (result : Result A (ReadError E)) (value : A)
     (old new : FileState) (before after : T) → items before ≡ []
     → ((old : T) (bytes : List ℕ) (new : T) → takes old bytes new → items new ≡ items old ++ bytes)
@@ -236,23 +226,19 @@ rest_refused {A = A} role takes refuses result fault old new before after is end
 
 -- ---- room for bytes
 
--- room that has no bytes yet
 pub fills_to_end : (role : Role) (room : ℕ) (bytes : List ℕ) (old new : List Happening) → FillsRoom role room bytes old new → length bytes < room
     → ReadsToEnd role bytes old new
 fills_to_end role room bytes old new (inl (full, reads)) less = absurd (omega (arith, full, less))
 fills_to_end role room bytes old new (inr (short, reads)) less = reads
 
--- room that was
 pub fills_whole : (role : Role) (room : ℕ) (bytes : List ℕ) (old new : List Happening) → FillsRoom role room bytes old new → room ≤ length bytes
     → ReadsOn role bytes old new
 fills_whole role room bytes old new (inl (full, reads)) enough = reads
 fills_whole role room bytes old new (inr (short, reads)) enough = absurd (omega (arith, short, enough))
 
--- the same room by another name
 pub fills_same : (role : Role) (n room : ℕ) (bytes : List ℕ) (old new : List Happening) → n ≡ room → FillsRoom role n bytes old new → FillsRoom role room bytes old new
 fills_same role n room bytes old new same fills = subst (λ m. FillsRoom role m bytes old new) same fills
 
--- no more bytes than there is room for
 fills_within : (role : Role) (room : ℕ) (bytes : List ℕ) (old new : List Happening) → FillsRoom role room bytes old new → length bytes ≤ room
 fills_within role room bytes old new (inl (full, reads)) = omega (arith, full)
 fills_within role room bytes old new (inr (short, reads)) = omega (arith, short)
@@ -264,7 +250,6 @@ pub reads_rest : (role of : Role) (a b : List ℕ) (old before new : List Happen
 reads_rest role of a b old before new reads same more =
     gives-all-append (ReadsOnce role) a b old before new reads (subst (λ r. ReadsToEnd r b before new) same more)
 
--- room for bytes, and then for others, is room for both
 fills_both : (role of : Role) (room more : ℕ) (a b : List ℕ) (old mid new : List Happening) → FillsRoom role room a old mid → room ≤ length a
     → of ≡ role → FillsRoom of more b mid new → FillsRoom role (room + more) (a ++ b) old new
 fills_both role of room more a b old mid new (inl (full, reads)) enough same (inl (whole, others)) = inl (
@@ -284,15 +269,12 @@ fails_later role of a kind old before new reads same fails =
           inr (other, (a ++ b, gives-append (ReadsOnce role) a b old before new reads more, omega (arith, long, length-append a b)))
     ]
 
--- this kind names no memory
 pub too_large : (kind : ErrorKind) → kind ≡ FileTooLarge → kind ≡ OutOfMemory → ⊥
 too_large kind is memory = let same : FileTooLarge ≡ OutOfMemory = sym is ∙ memory in cc
 
--- a failed read is a failure to read
 pub fails_to_read : (role : Role) (kind : ErrorKind) (old new : List Happening) → ReadsToFailure role kind old new → FailsToRead role kind old new
 fails_to_read role kind old new fails = inl fails
 
--- an error that is passed on
 pub reads_err : {A : Type 0} (role : Role) (left : Option (List ℕ)) (Fits : List ℕ → A → Type 0) (result : Result A Error) (error : Error)
     (old new : List Happening) → IsErrAnd result (λ e. e ≡ error) → FailsToRead role (error_kind error) old new
     → ReadsAllOrFails role left Fits result old new
@@ -301,7 +283,6 @@ reads_err role left Fits (Err e) error old new same fails = subst (λ x. FailsTo
 
 -- ---- what is known of the content
 
--- after bytes that were consumed stands the content that is left
 pub content_after : (old new : Option (List ℕ)) (bytes rest : List ℕ) → Consumes old new bytes → IsContent new rest → IsContent old (bytes ++ rest)
 content_after None new bytes rest read fits = tt
 content_after (Some xs) None bytes rest read fits = absurd read
@@ -309,14 +290,13 @@ content_after (Some xs) (Some ys) bytes rest read fits = sym (read ∙ ap (λ l.
 
 -- ---- refusals
 
--- a failed read, which is reported
 pub cant_read : {A : Type 0} (role : Role) (kind : ErrorKind) (Good : A → Type 0) (result : Result A Refusal) (old new : List Happening)
     → IsErrAnd result (λ refusal. refusal ≡ refusal_of kind) → FailsToRead role kind old new
     → MatchResult result Good (λ refusal. CantKeep role refusal old new)
 cant_read role kind Good (Ok x) old new is fails = absurd is
 cant_read role kind Good (Err refusal) old new is fails = inl (kind, is, fails)
 
--- memory for a first piece was refused
+-- memory for the first piece was refused
 pub keeps_none : (role : Role) (room : ℕ) (b : List ℕ) (refusal : Refusal) (old new : List Happening) → refusal ≡ refused.OutOfMemory
     → 1 ≤ length b → FillsRoom role room b old new → CantKeep role refusal old new
 keeps_none role room b refusal old new memory some (inl (full, reads)) = inr (memory, (b, some, inl reads))
@@ -338,7 +318,6 @@ cant_keep_later role of a refusal old mid new first same (inr (memory, (b, some,
 cant_keep_later role of a refusal old mid new first same (inr (memory, (b, some, inr reads))) =
     inr (memory, (a ++ b, omega (arith, some, length-append a b), inr (reads_rest role of a b old mid new first same reads)))
 
--- a refusal that is passed on
 pub cant_keep : {A : Type 0} (role : Role) (refusal : Refusal) (Good : A → Type 0) (result : Result A Refusal) (old new : List Happening)
     → IsErrAnd result (λ other. other ≡ refusal) → CantKeep role refusal old new → MatchResult result Good (λ r. CantKeep role r old new)
 cant_keep role refusal Good (Ok x) old new is fails = absurd is
@@ -346,7 +325,7 @@ cant_keep role refusal Good (Err other) old new is fails = subst (λ r. CantKeep
 
 -- ---- the first bytes of a file
 
--- a piece with which it ended
+-- the file ended within the first piece
 pub starts_short : (role : Role) (left rest : Option (List ℕ)) (items piece : List ℕ) (n room count : ℕ) (old new : List Happening) → items ≡ piece
     → length piece ≡ n → n < room → room ≤ count → FillsRoom role room piece old new → Consumes left rest piece → (n < room → IsAtEnd rest)
     → ((whole : List ℕ) × IsContent left whole × (items ≡ take count whole)) × FillsRoom role count items old new
@@ -357,7 +336,7 @@ starts_short role left rest items piece n room count old new is size less most f
       inr (short, fills_to_end role room piece old new fills (omega (arith, size, less))),
     )
 
--- a whole piece, and what stands after it
+-- a whole piece, and the bytes after it
 pub starts_long : (role of : Role) (left mid rest : Option (List ℕ)) (items a b : List ℕ) (n room more count : ℕ) (old then new : List Happening)
     → items ≡ a ++ b → room ≤ length a → FillsRoom role room a old then → Consumes left mid a → of ≡ role
     → length b ≡ n → FillsRoom of more b then new → Consumes mid rest b → (n < more → IsAtEnd rest) → room + more ≡ count

@@ -1,5 +1,5 @@
--- A line of `serve` begins with this word, a line without a fault that begins with it is one of `serve`, and the output
--- of such a line has replies alone.
+-- Lines of `serve`: they begin with this word, each line without a fault that does is one, and the output has replies
+-- alone.
 use Rattle.std.proofs.Common.{◌≡◌, ◌⊎◌, ◌∙◌, ℕ, Bool, List, [], ◌∷◌, Option, Some, None, Result, Ok, Err, true, false, refl, codes, ap, subst, sym, inl, inr}
 use Rattle.std.specs.Str.{bytes_eq}
 use Rattle.std.proofs.lemmas.Bool.{false≢true}
@@ -31,7 +31,6 @@ use Rattle.command.specs.Trace.{Happening}
 use Rattle.command.proofs.Accepting.{found_in, is_audit, is_audit_given, is_list, is_make, is_migrate, is_named, is_public, is_retire, is_serve, is_sign, is_verify, no_line_faults, none_of, nothing_fails, ok_same}
 use Rattle.command.proofs.Walking.{audit_given_shape, audit_shape, enters_audit, enters_audit_given, enters_list, enters_make, enters_migrate, enters_public, enters_retire, enters_serve, enters_sign, enters_verify, entered_rows, list_shape, make_shape, migrate_shape, public_shape, retire_shape, serve_shape, sign_shape, verify_shape}
 
--- whether what is found is a task of `serve`
 abbrev serves : Result Task UsageFault → Bool
 serves (Ok (serve state random)) = true
 serves (Ok (make state public spec version random)) = false
@@ -45,7 +44,7 @@ serves (Ok (list state)) = false
 serves (Ok (publish state path)) = false
 serves (Err fault) = false
 
--- what is found in a line of another command isn't
+-- No other command's line has a task of `serve`.
 not_formatted : (state public spec : Text) (version : Option Version) (random : Text) → serves (make_formatted state public spec version random) ≡ false
 not_formatted state public spec (Some version) random = refl
 not_formatted state public spec None random = refl
@@ -115,7 +114,7 @@ not_audit_given (Some public) None = refl
 differs : (found : Result Task UsageFault) (state random : Text) → serves found ≡ false → found ≡ Ok (serve state random) → ⊥
 differs found state random isnt same = false≢true (sym isnt ∙ ap serves same)
 
--- So a line in which a task of `serve` is found begins with this word.
+-- So a line with a task of `serve` begins with this word.
 pub begins : (words : List Text) (state random : Text) → AreTexts words → FindsTask words (serve state random)
     → begins_with_serve words ≡ true
 begins [] state random texts (none, found) = absurd (nothing_fails none)
@@ -132,7 +131,7 @@ begins (word ∷ names) state random texts (none, found) = elim (is_named word n
   | is_audit_given is ↦ absurd (differs _ state random (not_audit_given _ _) (found_in (codes "audit-given") audit_given_shape word names (serve state random) enters_audit_given is found))
 ]
 
--- Where nothing is wrong with a line that begins with this word, it is one of `serve`.
+-- A line without a fault that begins with this word is one of `serve`.
 serves_found : (words : List Text) (state random : Option Text) → fault_of hbsign_app words ≡ []
     → task_found (subcommand_of hbsign_app words) ≡ serve_task state random → usage_faults (serve_task state random) ≡ []
     → AsksToServe words
@@ -152,8 +151,8 @@ asks_to_serve (word ∷ names) begins none =
     serves_found (word ∷ names) (first_of (codes "STATE") rows) (first_of (codes "random") rows) passes found
     (subst (λ t. usage_faults t ≡ []) found complete)
 
--- So where a line without a fault can't be read, for want of memory, the output for errors is as it was, unless the line
--- is one of `serve`.
+-- If memory to read a line without a fault was refused, the output for errors is as it was, unless the line is one of
+-- `serve`.
 reported : (words : List Text) (serves : Bool) (old new errors_old errors_new : Taken) (status : ℕ)
     → serves ≡ begins_with_serve words → line_faults words ≡ []
     → ReportsOutOfMemory serves old new errors_old errors_new status
@@ -170,7 +169,7 @@ errors_kept words serves fault old new errors_old errors_new status is none (inl
 errors_kept words serves fault old new errors_old errors_new status is none (inr (error, among, kind)) explains =
     absurd (subst (IsAmong error) none among)
 
--- The output of a line of `serve` has replies alone, where its task was found,
+-- The output of a line of `serve` has replies alone: if its task was found,
 pub replies_of_task : {K R I O : Type 0} {bound : _} (d : disk.Ghosts K) (g : store.Ghosts (FileStore K bound)) (r : source.Ghosts R)
     (m : message.Ghosts I) (o : OutputSeen O) (files : FilesSeen K) (words : List Text) (task : Task) (before after : List Happening)
     (old new : Streams I O) (status : ℕ) → FindsTask words task → AsksToServe words
@@ -180,7 +179,7 @@ replies_of_task d g r m o files words task before after old new status (none, fo
     let (served, serves, ended) = subst (λ t. ReportsTask d g r m o files t before after old new status) same reports in
     inr (state, random, served, serves)
 
--- .. and where the line couldn't be read, for want of memory.
+-- .. or if memory to read the line was refused.
 nothing_printed : (serves : Bool) (old new errors_old errors_new : Taken) (status : ℕ) → serves ≡ true
     → ReportsOutOfMemory serves old new errors_old errors_new status → new ≡ old
 nothing_printed true old new errors_old errors_new status serving (same, reports) = same

@@ -1,4 +1,4 @@
--- A message that signing reads, and the file that it is.
+-- A message that signing reads, as the file that it is.
 use Rattle.std.proofs.Common.{◌≡◌, ◌∙◌, ℕ, Bool, List, [], ◌∷◌, ◌++◌, Option, Some, None, Result, Ok, Err, true, false, inl, inr, ap, ap₂, subst, sym}
 use Rattle.typecodes.specs.declared.message.Message as message
 use Rattle.typecodes.specs.Message.{ReadOutcome, Transitions}
@@ -16,11 +16,10 @@ use Rattle.command.specs.Sign.{MessageFile, message_file}
 use Rattle.command.specs.Trace.{Happening, ReadsOnce}
 use Rattle.command.proofs.Reading.{Notes, stays}
 
--- a message as the file that it is
 abbrev pub as_file : {M : Type 0} → message.Ghosts M → (M → List Happening) → M → MessageFile
 as_file m trace_of reader = (m.remaining reader, trace_of reader)
 
--- each read of the message is one of the file,
+-- Each read of the message is a read of the file.
 followed : {M : Type 0} (m : message.Ghosts M) (role_of : M → Role) (trace_of : M → List Happening) → Notes m.transition role_of trace_of
     → (outcomes : List ReadOutcome) (old new : M) → role_of old ≡ role.Message → Transitions m.transition outcomes old new
     → Transitions message_file.transition outcomes (as_file m trace_of old) (as_file m trace_of new)
@@ -31,7 +30,6 @@ followed m role_of trace_of notes (outcome ∷ later) old new is (next, first, r
   followed m role_of trace_of notes later next new (notes.role old outcome next first ∙ is) reads,
 )
 
--- so what becomes of the one becomes of the other,
 read_followed : {M : Type 0} (m : message.Ghosts M) (role_of : M → Role) (trace_of : M → List Happening) → Notes m.transition role_of trace_of
     → (is_read : Bool) (given : Option (List ℕ)) (old new : M) → role_of old ≡ role.Message → IsRead m is_read given old new
     → IsRead message_file is_read given (as_file m trace_of old) (as_file m trace_of new)
@@ -49,7 +47,7 @@ read_followed m role_of trace_of notes true None old new is (inr (text, (outcome
     inr (text, (outcomes, followed m role_of trace_of notes outcomes old new is reads, gave), endless)
 read_followed m role_of trace_of notes false given old new is same = ap (as_file m trace_of) same
 
--- and signing the one is signing the other.
+-- Signing the message is signing the file.
 signs_followed : {S R M : Type 0} (g : store.Ghosts S) (r : source.Ghosts R) (m : message.Ghosts M) (role_of : M → Role)
     (trace_of : M → List Happening) → Notes m.transition role_of trace_of → (old new : View S R) (name : List ℕ) (before after : M)
     (capacity : ℕ) (answer : Result (List ℕ) SignFault) → role_of before ≡ role.Message

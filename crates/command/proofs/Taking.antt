@@ -1,4 +1,4 @@
--- How many bytes a layout takes, and what bytes after them change: nothing.
+-- How many bytes a layout takes at most; bytes after them change nothing.
 use Rattle.std.proofs.Common.{◌≡◌, ◌∙◌, ℕ, zero, suc, ◌∷◌, ◌+◌, ◌*◌, ◌<◌, ◌≤◌, Bool, true, false, cond, List, [], ◌++◌, length, take, drop, Option, Some, None, refl, ap, subst, inl, inr, arith, append_assoc, length-append, length-take-le, take_all, take-append-drop}
 use Rattle.std.specs.Prelude.{⊤}
 use Rattle.std.proofs.lemmas.Bool.{cases_lt}
@@ -9,20 +9,18 @@ use Rattle.typecodes.specs.Types.{named}
 use Rattle.typecodes.specs.Layout.{Layout, done, refuse, field, ◌>>=◌, Spells, HasFault}
 use Rattle.typecodes.specs.Fields.{number, block, known, typed, values}
 
--- It takes no more than n bytes, and P holds of its values.
+-- The layout takes at most n bytes, and P holds of its values.
 unfoldable pub TakesAtMost : {V : Type 0} → Layout V → ℕ → (V → Type 0) → Type 0
 TakesAtMost (done v) n P = P v
 TakesAtMost (refuse back cause) n P = ⊤
 TakesAtMost (field k next) n P = (m : ℕ) × (k + m ≤ n) × ((front : List ℕ) → TakesAtMost (next front) m P)
 
--- nor more than any greater number
 pub most-greater : {V : Type 0} (layout : Layout V) (n more : ℕ) (P : V → Type 0) → n ≤ more → TakesAtMost layout n P → TakesAtMost layout more P
 unfolding TakesAtMost
 most-greater (done v) n more P le most = most
 most-greater (refuse back cause) n more P le most = tt
 most-greater (field k next) n more P le (m, fits, most) = (m, omega (arith, fits, le), most)
 
--- a layout and one that follows it
 pub most-bind : {A B : Type 0} (first : Layout A) (next : A → Layout B) (a b : ℕ) (P : A → Type 0) (Q : B → Type 0)
     → TakesAtMost first a P → ((v : A) → P v → TakesAtMost (next v) b Q) → TakesAtMost (first >>= next) (a + b) Q
 unfolding TakesAtMost
@@ -31,13 +29,11 @@ most-bind (refuse back cause) next a b P Q most then_most = tt
 most-bind (field k rest) next a b P Q (m, fits, most) then_most =
     (m + b, omega (arith, fits), λ front. most-bind (rest front) next m b P Q (most front) then_most)
 
--- either of two layouts, by a test
 pub most-if : {V : Type 0} (test : Bool) (chosen other : Layout V) (n : ℕ) (P : V → Type 0)
     → (test ≡ true → TakesAtMost chosen n P) → TakesAtMost other n P → TakesAtMost (cond test chosen other) n P
 most-if true chosen other n P chosen_most other_most = chosen_most refl
 most-if false chosen other n P chosen_most other_most = other_most
 
--- any value
 abbrev pub Any : {V : Type 0} → V → Type 0
 Any v = ⊤
 
@@ -73,7 +69,6 @@ most-values (suc n) =
     (most-bind (block 32) (λ first. values n >>= λ rest. done (first ∷ rest)) 32 (32 * n + 0) Any Any (most-block 32)
     (λ first any. most-bind (values n) (λ rest. done (first ∷ rest)) (32 * n) 0 Any Any (most-values n) (λ rest all. most-done (first ∷ rest) 0 Any tt)))
 
--- what it spells is no longer
 pub spells-at_most : {V : Type 0} (layout : Layout V) (n : ℕ) (P : V → Type 0) (v : V) (bytes : List ℕ)
     → TakesAtMost layout n P → Spells layout v bytes → length bytes ≤ n
 unfolding TakesAtMost
@@ -82,7 +77,7 @@ spells-at_most (refuse back cause) n P v bytes most spelled = absurd spelled
 spells-at_most (field k next) n P v bytes (m, fits, most) (front, rest, bytes_are, len, spelled) =
     omega (arith, fits, ap length bytes_are, length-append front rest, len, spells-at_most (next front) m P v rest (most front) spelled)
 
--- a fault of more bytes than it takes stays when others follow
+-- A fault in more bytes than the layout takes stays when others follow.
 fault-more : {V : Type 0} (layout : Layout V) (n : ℕ) (P : V → Type 0) (bytes more : List ℕ) (place : ℕ) (fault : ReadFault)
     → TakesAtMost layout n P → n < length bytes → HasFault layout bytes place fault → HasFault layout (bytes ++ more) place fault
 unfolding TakesAtMost
@@ -99,7 +94,7 @@ fault-more (field k next) n P bytes more place fault (m, fits, most) less (inr (
           (omega (arith, fits, less, ap length bytes_are, length-append front rest, len)) has,
     )
 
--- So what the first bytes spell, more than the layout takes, is what all spell,
+-- So the first bytes, if more than the layout takes, decide for all: the value is the same,
 pub spells-first : {V : Type 0} (layout : Layout V) (n count : ℕ) (P : V → Type 0) (v : V) (bytes : List ℕ)
     → TakesAtMost layout n P → n < count → Spells layout v (take count bytes) → Spells layout v bytes
 spells-first layout n count P v bytes most less spelled = elim (cases_lt (length bytes) count) [
@@ -107,7 +102,7 @@ spells-first layout n count P v bytes most less spelled = elim (cases_lt (length
   | inr long ↦ absurd (omega (arith, less, length-take-le count bytes long, spells-at_most layout n P v (take count bytes) most spelled))
 ]
 
--- and their fault is that of all.
+-- and so is the fault.
 pub fault-first : {V : Type 0} (layout : Layout V) (n count : ℕ) (P : V → Type 0) (bytes : List ℕ) (place : ℕ) (fault : ReadFault)
     → TakesAtMost layout n P → n < count → HasFault layout (take count bytes) place fault → HasFault layout bytes place fault
 fault-first layout n count P bytes place fault most less has = elim (cases_lt (length bytes) count) [

@@ -26,14 +26,12 @@ pub opens_err : {A : Type 0} (p m s : List ℕ) (refusal : Refusal) (result : Re
 opens_err p m s refusal (Ok files) old new same fails = absurd same
 opens_err p m s refusal (Err error) old new same fails = fails
 
--- files that can't be opened
 pub verifies_failed : {A : Type 0} (content : List ℕ → Option (List ℕ)) (p m s : List ℕ) (refusal : Refusal) (answer : Result A Refusal) (old new : List Happening)
     → refusal ≡ FileFailed → IsErrAnd answer (λ e. e ≡ refusal) → FailsToOpen p m s old new → VerifiesIn content p m s answer old new
 verifies_failed content p m s refusal (Ok a) old new is same fails = absurd same
 verifies_failed {A = A} content p m s refusal (Err error) old new is same fails =
     (failed_answer A (content p) (content m) (content s) error (inr (same ∙ is)), inl (same ∙ is, fails))
 
--- files that were opened
 pub verifies_opened : {A : Type 0} (content : List ℕ → Option (List ℕ)) (p m s : List ℕ) (p_left m_left s_left : Option (List ℕ))
     (p_role s_role m_role : Role) (answer : Result A Refusal) (old opened new : List Happening)
     → (p_role ≡ role.Public) × ShowsContent (content p) p_left → (m_role ≡ role.Message) × ShowsContent (content m) m_left
@@ -47,7 +45,6 @@ verifies_opened content p m s p_left m_left s_left p_role s_role m_role answer o
       (subst (λ r. ReadsInTurn r s_role m_role answer opened new) p_is reads)))),
 )
 
--- one task is served as another that is the same
 pub serves_same : {K R : Type 0} {bound : _} (d : disk.Ghosts K) (g : store.Ghosts (FileStore K bound)) (r : source.Ghosts R) (files : FilesSeen K)
     (answer : Result Done Refusal) (old new : List Happening) (task other : Task) → task ≡ other → ServesTask d g r files task answer old new
     → ServesTask d g r files other answer old new

@@ -1,4 +1,4 @@
--- What `clap` makes of the words of a line.
+-- What `clap` finds in the words of a line of each command.
 use Rattle.std.proofs.Common.{◌≡◌, ◌≢◌, ◌==◌, ◌∙◌, ◌+◌, ℕ, Bool, List, [], ◌∷◌, ◌++◌, Ok, Some, None, true, false, refl, codes, nat_eq, fold, is_some, ap, ap₂, subst, sym, inl, inr, append-nil, append_assoc}
 use Rattle.std.specs.Prelude.{⊤}
 use Rattle.std.proofs.lemmas.Bool.{cases_eq, ne_eqb}
@@ -20,7 +20,7 @@ use Rattle.command.specs.Serve.{serve_app}
 use Rattle.command.specs.Sign.{sign_app}
 use Rattle.command.specs.Verify.{verify_app}
 
--- the program is one whose matches and faults `clap` gives
+-- `clap`'s model covers the program
 pub simple : is_simple hbsign_app ≡ true
 unfolding clap_on_literals
 simple = refl
@@ -34,16 +34,15 @@ abbrev pub at : Bool → Collected → ℕ → Walk
 at trailing collected position =
     record { held = collected; waiting = idle; position = position; is_trailing = trailing; stopped = None }
 
--- a word that is taken for a value: it is no option, or stands after `--`
+-- a word that is taken for a value: no option, or after `--`
 abbrev pub IsTaken : Bool → List ℕ → Type 0
 IsTaken true word = ⊤
 IsTaken false word = IsPlainWord word
 
--- a first byte that is no hyphen, in both spellings of the test
+-- both forms of the test for a hyphen
 pub is_no_hyphen : (byte : ℕ) → byte ≢ 45 → (nat_eq byte 45 ≡ false) × ((byte == 45) ≡ false)
 is_no_hyphen byte plain = (ne_eqb byte 45 plain, ne_eqb byte 45 plain)
 
--- such a word is a value
 pub word_is_value : (c : List Rule) (b : Bool) (position : ℕ) (word : List ℕ) (h : Collected) → IsTaken b word
     → word_met c [] b idle position word h ≡ (h, value)
 word_is_value c true position word h taken = refl
@@ -54,13 +53,12 @@ word_is_value c false position (x ∷ []) h plain = elim (cases_eq x 45) [
 ]
 word_is_value c false position (x ∷ y ∷ xs) h plain = rw ((is_no_hyphen x plain).0, (is_no_hyphen x plain).1) refl
 
--- so the walk takes it to the positional whose turn it is
+-- The walk takes such a word to the next positional.
 pub word_walks : (c : List Rule) (b : Bool) (position : ℕ) (word : List ℕ) (h : Collected) → IsTaken b word
     → walked c [] (at b h position) word ≡ to_positional c (arg_by_index c position) word (at b h position) h
 unfolding walked
 word_walks c b position word h taken = rw (word_is_value c b position word h taken) refl
 
--- nothing is wrong with it as a word
 word_passes : (s : Shape) (b : Bool) (word : List ℕ) (h : Collected) → IsTaken b word → word_fault s [] b idle word h ≡ []
 word_passes s true word h taken = refl
 word_passes s false [] h plain = refl
@@ -70,23 +68,21 @@ word_passes s false (x ∷ []) h plain = elim (cases_eq x 45) [
 ]
 word_passes s false (x ∷ y ∷ xs) h plain = rw ((is_no_hyphen x plain).0, (is_no_hyphen x plain).1) refl
 
--- so its turn fails only by that positional
+-- Only that positional can refuse it.
 pub turn_passes : (s : Shape) (b : Bool) (position : ℕ) (word : List ℕ) (h : Collected) → IsTaken b word
     → turn_fault s [] (at b h position) word ≡ step_fault s position h value
 turn_passes s b position word h taken = rw (word_is_value s.rules b position word h taken, word_passes s b word h taken) refl
 
 -- ---- the walk of a command
 
--- The walk goes over these words without a fault, and ends so.
+-- The walk passes these words without a fault, and ends at `to`.
 abbrev pub Goes : Shape → Walk → List Text → Walk → Type 0
 Goes s from words to = (fold (walked s.rules []) from words ≡ to) × (walk_fault s [] from words ≡ [])
 
--- over no word,
 pub stays : (s : Shape) (from to : Walk) → from ≡ to → Goes s from [] to
 unfolding walk_fault
 stays s from to same = (same, refl)
 
--- and over one more in front
 pub goes : (s : Shape) (from next to : Walk) (word : Text) (words : List Text) → walked s.rules [] from word ≡ next
     → turn_fault s [] from word ≡ [] → Goes s next words to → Goes s from (word ∷ words) to
 unfolding walk_fault
@@ -96,13 +92,12 @@ goes s from next to word words step well (ends, passes) = (
       ∙ ap (λ w. walk_fault s [] w words) step ∙ passes,
 )
 
--- the walk goes on after `--`
 over_hyphens : (s : Shape) (h : Collected) (position : ℕ) (words : List Text) (to : Walk) → Goes s (at true h position) words to
     → Goes s (at false h position) (codes "--" ∷ words) to
 unfolding walked
 over_hyphens s h position words to rest = goes s (at false h position) (at true h position) to (codes "--") words refl refl rest
 
--- What the positional of this place takes, before `--` or after it: then there are these matches, and it is the next one's turn.
+-- The positional at this place takes the word: the matches are `next` then, and the next place follows.
 abbrev pub Takes : Shape → Bool → ℕ → Collected → Text → Collected → Type 0
 Takes s b position h word next =
     to_positional s.rules (arg_by_index s.rules position) word (at b h position) h ≡ at b next (position + 1)
@@ -117,7 +112,7 @@ pub takes_either : (s : Shape) (b : Bool) (position : ℕ) (h : Collected) (word
 takes_either s true position h word next takes = takes.after
 takes_either s false position h word next takes = takes.before
 
--- Values are taken from this place on: in the end there are these matches, and it is this place's turn.
+-- The positionals from this place on take these words: the matches are `to` then, at place `last`.
 abbrev pub TakesAll : Shape → ℕ → Collected → List Text → ℕ → Collected → Type 0
 TakesAll s position h [] last to = (h ≡ to) × (position ≡ last)
 TakesAll s position h (word ∷ words) last to =
@@ -135,7 +130,6 @@ pub any_taken : (words : List Text) → AllTaken true words
 any_taken [] = tt
 any_taken (word ∷ words) = (tt, any_taken words)
 
--- the walk goes over the words of values,
 pub over_all : (s : Shape) (b : Bool) (position : ℕ) (h : Collected) (words : List Text) (last : ℕ) (to : Collected)
     → AllTaken b words → TakesAll s position h words last to → Goes s (at b h position) words (at b to last)
 over_all s b position h [] last to taken (same, ends) = stays s (at b h position) (at b to last) (ap₂ (λ x n. at b x n) same ends)
@@ -145,7 +139,7 @@ over_all s b position h (word ∷ words) last to (first, others) (next, takes, r
     (turn_passes s b position word h first ∙ takes.well)
     (over_all s b (position + 1) next words last to others rest)
 
--- where `--` stands among them, too
+-- also with `--` among the words of the values
 over_before : (s : Shape) (position : ℕ) (h : Collected) (before after : List Text) (last : ℕ) (to : Collected)
     → ArePlainWords before → TakesAll s position h (before ++ after) last to
     → Goes s (at false h position) (before ++ codes "--" ∷ after) (at true to last)
@@ -182,7 +176,6 @@ end_fault s w = or_else (settle_fault s.rules s.args_override_self w.held)
 abbrev pub stopped_at : Text → List Text → Walk
 stopped_at name words = record (walk_from nothing_collected) { stopped = Some (name, words) }
 
--- more words are added to those,
 stops : (c : List Rule) (subcommands : Names) (name : Text) (words more : List Text)
     → fold (walked c subcommands) (stopped_at name words) more ≡ stopped_at name (words ++ more)
 unfolding walked
@@ -190,26 +183,23 @@ stops c subcommands name words [] = ap (stopped_at name) (sym (append-nil words)
 stops c subcommands name words (word ∷ more) =
     stops c subcommands name (words ++ word ∷ []) more ∙ ap (stopped_at name) (append_assoc words (word ∷ []) more)
 
--- without a fault
 stops_well : (s : Shape) (subcommands : Names) (name : Text) (words more : List Text)
     → walk_fault s subcommands (stopped_at name words) more ≡ []
 unfolding walked walk_fault
 stops_well s subcommands name words [] = refl
 stops_well s subcommands name words (word ∷ more) = stops_well s subcommands name (words ++ word ∷ []) more
 
--- the built program
 abbrev pub whole : App
 whole = built hbsign_app
 
--- the faults of the line, from those of its walk and what the walk comes to
+-- the faults of a line, by the faults of its walk and its end
 abbrev pub whole_fault : Walk → Kinds → Kinds
 whole_fault w walking = or_else walking (or_else (entered_fault whole w.stopped)
     (or_else (settle_fault whole.top.rules whole.top.args_override_self w.held)
     (or_else (defaults_fault (settled whole.top.rules w.held).rows whole.top.rules)
     (check_fault whole.top (finished whole.top.rules w.held) (is_some (entered whole w.stopped))))))
 
--- A word that is the name of the command of this shape: the walk stops at it, and the faults and rows of the words after it are the
--- command's.
+-- The walk stops at this name, and the faults and rows of the words after it are the command's.
 pub record Enters (name : Text) (s : Shape) : Type 0 where
   pub step : walked whole.top.rules (names_of whole) (walk_from nothing_collected) name ≡ stopped_at name []
   pub well : turn_fault whole.top (names_of whole) (walk_from nothing_collected) name ≡ []
@@ -229,7 +219,7 @@ line_well name s names enters =
     ap (λ k. or_else k (walk_fault whole.top (names_of whole) (walked whole.top.rules (names_of whole) (walk_from nothing_collected) name) names)) enters.well
     ∙ ap (λ w. walk_fault whole.top (names_of whole) w names) enters.step ∙ stops_well whole.top (names_of whole) name [] names
 
--- so the line's rows and faults are those of the command
+-- The rows and faults of the line are the command's.
 pub entered_rows : (name : Text) (s : Shape) (names : List Text) → Enters name s
     → subcommand_of hbsign_app (name ∷ names) ≡ Some (name, rows_after s.rules [] names)
 entered_rows name s names enters = ap (λ (w : Walk). entered whole w.stopped) (line_walk name s names enters) ∙ enters.rows names
@@ -240,7 +230,7 @@ entered_faults name s names enters =
     ap (λ w. whole_fault w (walk_fault whole.top (names_of whole) (walk_from nothing_collected) (name ∷ names))) (line_walk name s names enters)
     ∙ ap (whole_fault (stopped_at name names)) (line_well name s names enters) ∙ enters.fault names
 
--- A line of a command whose values are all taken, and with which nothing is wrong in the end, has no fault, and these rows.
+-- A command's line has no fault and these rows, if all values are taken, and nothing is wrong at its end.
 pub takes_line : (words : List Text) (name : Text) (values : List Text) (s : Shape) (last : ℕ) (to : Collected) → Enters name s
     → TakesAll s 1 nothing_collected values last to → ((b : Bool) → end_fault s (at b to last) ≡ []) → IsCommandLine words name values
     → (fault_of hbsign_app words ≡ []) × (subcommand_of hbsign_app words ≡ Some (name, finished s.rules to))
@@ -255,7 +245,6 @@ takes_line words name values s last to enters takes well (names, same, given) =
 
 -- ---- verify
 
--- the built command
 abbrev pub verify_shape : Shape
 verify_shape = built_leaf (inherited (with_leaf_noted (marked_built hbsign_app.top)) verify_app.top)
 
@@ -263,11 +252,11 @@ pub enters_verify : Enters (codes "verify") verify_shape
 unfolding clap_on_literals
 enters_verify = record { step = refl; well = refl; rows = λ words. refl; fault = λ words. refl }
 
--- what the parser has after a first word,
+-- the matches after a first word
 abbrev pub first_collected : Text → Text → Collected
 first_collected id word = record nothing_collected { pending = Some (id, word ∷ []) }
 
--- and after one more
+-- .. and after one more
 abbrev pub next_collected : Shape → ℕ → Text → Collected → Collected
 next_collected s position word h = (to_positional s.rules (arg_by_index s.rules position) word (at false h position) h).held
 
@@ -446,7 +435,7 @@ enters_audit_given = record { step = refl; well = refl; rows = λ words. refl; f
 
 -- ---- every line of a task
 
--- A line `verify` has no fault, and this task,
+-- A line of each of these commands has no fault, and its task.
 pub finds_verify : (words : List Text) (p m s : Text) → IsCommandLine words (codes "verify") (p ∷ m ∷ s ∷ [])
     → (fault_of hbsign_app words ≡ []) × (task_found (subcommand_of hbsign_app words) ≡ Ok (verify p m s))
 finds_verify words p m s line =
@@ -454,7 +443,6 @@ finds_verify words p m s line =
     (verify_1 p, takes_public p, (verify_2 p m, takes_message p m, (verify_3 p m s, takes_signature p m s, (refl, refl))))
     (verify_ends p m s) line in (none, ap task_found rows ∙ verify_found p m s)
 
--- a line `migrate` has none and this one,
 pub finds_migrate : (words : List Text) (old new : Text) → IsCommandLine words (codes "migrate") (old ∷ new ∷ [])
     → (fault_of hbsign_app words ≡ []) × (task_found (subcommand_of hbsign_app words) ≡ Ok (migrate old new))
 finds_migrate words old new line =
@@ -462,14 +450,12 @@ finds_migrate words old new line =
     (migrate_1 old, takes_old old, (migrate_2 old new, takes_new old new, (refl, refl)))
     (migrate_ends old new) line in (none, ap task_found rows ∙ migrate_found old new)
 
--- a line `list`,
 pub finds_list : (words : List Text) (state : Text) → IsCommandLine words (codes "list") (state ∷ [])
     → (fault_of hbsign_app words ≡ []) × (task_found (subcommand_of hbsign_app words) ≡ Ok (list state))
 finds_list words state line =
     let (none, rows) = takes_line words (codes "list") (state ∷ []) list_shape 2 (list_1 state) enters_list
     (list_1 state, takes_listed state, (refl, refl)) (list_ends state) line in (none, ap task_found rows ∙ list_found state)
 
--- a line `public`,
 pub finds_public : (words : List Text) (state path : Text) → IsCommandLine words (codes "public") (state ∷ path ∷ [])
     → (fault_of hbsign_app words ≡ []) × (task_found (subcommand_of hbsign_app words) ≡ Ok (publish state path))
 finds_public words state path line =
@@ -477,7 +463,6 @@ finds_public words state path line =
     (public_1 state, takes_published state, (public_2 state path, takes_path state path, (refl, refl)))
     (public_ends state path) line in (none, ap task_found rows ∙ public_found state path)
 
--- and so has a line `retire`, where the number is one.
 pub finds_retire : (words : List Text) (state upto : Text) → IsCommandLine words (codes "retire") (state ∷ upto ∷ [])
     → (fault_of hbsign_app words ≡ []) × (task_found (subcommand_of hbsign_app words) ≡ retire_task (Some state) (Some upto))
 finds_retire words state upto line =
@@ -485,7 +470,7 @@ finds_retire words state upto line =
     (retire_1 state, takes_state state, (retire_2 state upto, takes_upto state upto, (refl, refl)))
     (retire_ends state upto) line in (none, ap task_found rows ∙ retire_found state upto)
 
--- So the line of a task has no fault, and the task is found in it.
+-- The line of a task has no fault, and `clap` finds the task.
 pub finds_task : (words : List Text) (task : Task) → IsLineOf words task
     → (fault_of hbsign_app words ≡ []) × (task_found (subcommand_of hbsign_app words) ≡ Ok task)
 finds_task words (make state public spec version random) found = found

@@ -1,4 +1,4 @@
--- Lines of commands with an option.
+-- Lines of `make`, `sign` and `serve`, whose options may be left out.
 use Rattle.std.proofs.Common.{◌≡◌, ◌∙◌, ℕ, Bool, List, [], ◌∷◌, ◌++◌, Ok, Some, None, false, refl, codes, ap, subst, sym, inl, inr}
 use Rattle.std.proofs.lemmas.Bool.{cases_eq}
 use Rattle.clap.specs.Faults.{level_fault, step_fault, turn_fault, walk_fault, word_fault}
@@ -23,7 +23,7 @@ abbrev pub after_value_word : Shape → Walk → Text → Walk
 after_value_word s w word =
     after_step s.rules word w (plain_word s.rules w.waiting word w.held).0 (plain_word s.rules w.waiting word w.held).1
 
--- a plain word is the value of the option that waits for one
+-- An option that waits for its value takes a plain word.
 value_met : (c : List Rule) (id : Text) (position : ℕ) (word : Text) (h : Collected) → IsPlainWord word
     → word_met c [] false (option id) position word h ≡ plain_word c (option id) word h
 value_met c id position [] h plain = refl
@@ -63,7 +63,7 @@ goes_on s from mid to (word ∷ words) more (ends, passes) rest =
     goes s from (walked s.rules [] from word) to word (words ++ more) refl turn
     (goes_on s (walked s.rules [] from word) mid to words more (ends, others) rest)
 
--- a line of a command that is gone over, and with which nothing is wrong in the end
+-- A command's line has no fault and these rows, if the walk passes it and nothing is wrong at its end.
 pub goes_line : (words : List Text) (name : Text) (names : List Text) (s : Shape) (to : Walk) → Enters name s → words ≡ name ∷ names
     → Goes s (at false nothing_collected 1) names to → end_fault s to ≡ []
     → (fault_of hbsign_app words ≡ []) × (subcommand_of hbsign_app words ≡ Some (name, finished s.rules to.held))
@@ -97,7 +97,7 @@ make_found : (state public spec : Text)
 unfolding number_after
 make_found state public spec = refl
 
--- and then the file of random bytes
+-- then the file of random bytes
 abbrev make_option : (state public spec : Text) → Walk
 make_option state public spec = after_word make_shape (at false (make_3 state public spec) 4) (codes "--random")
 
@@ -158,7 +158,7 @@ formatted_found : (state public spec format : Text)
 unfolding clap_on_literals
 formatted_found state public spec format = refl
 
--- and behind it the file of random bytes
+-- and after it the file of random bytes
 abbrev then_option : (state public spec format : Text) → Walk
 then_option state public spec format = after_word make_shape (formatted state public spec format) (codes "--random")
 
@@ -183,7 +183,6 @@ then_all_found : (state public spec format random : Text)
 unfolding clap_on_literals
 then_all_found state public spec format random = refl
 
--- a line with a format at its end
 finds_formatted : (words : List Text) (state public spec : Text) (version : _) (random : Text) → IsFormattedLine words state public spec version random
     → FindsTask words (make state public spec version random)
 finds_formatted words state public spec version random line = elim line.words_are [
@@ -234,7 +233,7 @@ sign_found : (state name message out : Text)
     → task_found (Some (codes "sign", finished sign_shape.rules (sign_4 state name message out))) ≡ Ok (sign state name message out default_random)
 sign_found state name message out = refl
 
--- and then the option
+-- then the option
 abbrev sign_option : (state name message out : Text) → Walk
 sign_option state name message out = after_word sign_shape (at false (sign_4 state name message out) 5) (codes "--random")
 
@@ -285,7 +284,7 @@ serve_found : (state : Text)
     → task_found (Some (codes "serve", finished serve_shape.rules (serve_1 state))) ≡ Ok (serve state default_random)
 serve_found state = refl
 
--- and then the option
+-- then the option
 abbrev serve_option : (state : Text) → Walk
 serve_option state = after_word serve_shape (at false (serve_1 state) 2) (codes "--random")
 

@@ -28,31 +28,29 @@ use Rattle.typecodes.specs.Spec.{spec_text}
 use Rattle.key_audit.specs.Listing.{ListingLaw, Shown, names_among, shown_by, shown_in, without_secret}
 use Rattle.command.specs.Output.{Taken, WritesText, Fails, entry_lines, level_lines, moved_line}
 
--- the lines of a report, of the public key that these bytes spell
+-- the lines of a report, after the bytes of the public key
 abbrev pub report_lines : (public : List ℕ) → Report → List ℕ
 report_lines public report =
     ((((((codes "public " ++ encode_lower public) ++ codes "\nrecords ") ++ decimal report.records)
     ++ codes "\ntag ") ++ encode_lower report.tag) ++ codes "\n") ++ level_lines 0 report.left.items
     ++ moved_line report.moved
 
--- the lines of a listing: the key's types, the version of the file, the free leaves of each level, how many names are
--- bound, and each record
+-- the key's spec, the version of the file, the free leaves of each level, the number of names, and each record
 abbrev pub listing_lines : Shown → List ℕ
 listing_lines shown =
     ((((((((codes "spec " ++ spec_text shown.spec) ++ codes "\nformat ") ++ decimal (version_code shown.version))
     ++ codes "\n") ++ level_lines 0 shown.left) ++ codes "names ") ++ decimal (names_among shown.entries))
     ++ codes "\n") ++ entry_lines 0 shown.entries
 
--- the lines of the listing of records, where they have a key
+-- the listing of records; None without a key
 abbrev pub listed_lines : List Record → Option (List ℕ)
 listed_lines records = option_map listing_lines (shown_in records)
 
--- What is secret in records has no part in these lines: two lists that differ in it alone have the same.
+-- Nothing secret is listed: two lists of records that differ only in secrets have the same lines.
 pub secrets_have_no_part : ListingLaw → (a b : List Record) → map without_secret a ≡ map without_secret b
     → listed_lines a ≡ listed_lines b
 secrets_have_no_part law a b same = ap (option_map listing_lines) (law a b same)
 
--- the lines of what was done, with their ends
 abbrev pub done_lines : Done → List ℕ
 done_lines Verified = codes "verified\n"
 done_lines (Retired upto) = codes "retired upto " ++ decimal upto ++ codes "\n"
@@ -63,12 +61,13 @@ done_lines (Listed listing) = listing_lines (shown_by listing)
 done_lines (Checked count) = codes "given " ++ decimal count ++ codes " signatures, no leaf twice\n"
 done_lines (Migrated count) = codes "migrated " ++ decimal count ++ codes " records\n"
 
--- the line with its end; an audit has several
+-- with the line's end; an audit and a listing have several lines
 abbrev pub answer_line : Result Done Refusal → List ℕ
 answer_line (Ok done) = done_lines done
 answer_line (Err refusal) = refusal_line refusal ++ codes "\n"
 
--- 0 for what is done, 2 for a name or a spec that is refused, 3 where the machine fails, and 1 for every other refusal
+-- 0: done. 2: a bad name or spec. 3: a file or the machine failed, or an input ended inside a message. 1: any other
+-- refusal.
 abbrev pub status_of : Result Done Refusal → ℕ
 status_of (Ok done) = 0
 status_of (Err BadName) = 2
@@ -93,18 +92,17 @@ status_of (Err (Serving serve.MessageRead)) = 3
 status_of (Err (Serving serve.WriteFailed)) = 3
 status_of (Err _) = 1
 
--- It was refused as a word of the line: a name, or a spec.
+-- The name or the spec was refused.
 abbrev pub IsOfWord : Result Done Refusal → Type 0
 IsOfWord answer = (answer ≡ Err BadName) ⊎ (answer ≡ Err BadSpec)
 
--- The answer was reported: its line was written, and the status is its own; or the output failed, and the status
--- is 3. What an output has taken stands before and after.
+-- The answer's line was written, and the status is the answer's; or the output failed, and the status is 3.
 abbrev pub ReportsRequest : Result Done Refusal → Taken → Taken → ℕ → Type 0
 ReportsRequest answer old new status =
     ((status ≡ status_of answer) × WritesText (answer_line answer) old new) ⊎ ((status ≡ 3) × Fails old new)
 
--- What a serving of requests ended with was reported on the output for errors: nothing of one that came to its end,
--- with status 0; of another the refusal's line, unless this output failed, and the status is the refusal's.
+-- How serving ended was reported on the output for errors. At the input's end that is nothing, with status 0. Before,
+-- it is the refusal's line, unless this output failed, and the status is the refusal's.
 abbrev pub ReportsServing : Result ℕ Refusal → Taken → Taken → ℕ → Type 0
 ReportsServing (Ok replies) old new status = (status ≡ 0) × (new ≡ old)
 ReportsServing (Err refusal) old new status = (status ≡ status_of (Err refusal))
@@ -143,7 +141,7 @@ unfolding has_lowercase_line
 line_after byte [] line lowercase = or_right _ _ lowercase
 line_after byte (next ∷ before) line lowercase = or_right _ _ (line_after next before line lowercase)
 
--- So no line of a text of help is an answer's: neither its first, nor one that stands after the end of another.
+-- So no line of help is an answer's line, neither its first nor a later one.
 pub help_has_no_answer : (text before after : List ℕ) (answer : Result Done Refusal) → IsHelp text
     → (text ≡ answer_line answer ++ after) ⊎ (text ≡ before ++ 10 ∷ (answer_line answer ++ after)) → ⊥
 help_has_no_answer text before after answer (capital, none) (inl first) =

@@ -3,11 +3,10 @@ use Rattle.std.specs.Prelude.{[], ◌∷◌, List, ℕ, Some, true, codes}
 use Rattle.clap.specs.Lexer.{usize_max}
 use Rattle.clap.specs.Words.{Rule, new_rule}
 
--- a word that has to be given
 abbrev pub required_rule : List ℕ → Rule
 required_rule name = record (new_rule name) { required = true }
 
--- words of which one at least has to be given
+-- one or more words
 abbrev pub several_rule : List ℕ → Rule
 several_rule name = record (new_rule name) {
   required = true;
@@ -18,11 +17,10 @@ several_rule name = record (new_rule name) {
 abbrev pub option_rule : List ℕ → Rule
 option_rule name = record (new_rule name) { long = Some name; value_names = 1 }
 
--- .. which has this value where it is left out
+-- .. with this value if it is left out
 abbrev pub default_rule : (name value : List ℕ) → Rule
 default_rule name value = record (option_rule name) { defaults = value ∷ [] }
 
--- the file of random bytes where the line names none
 abbrev pub default_random : List ℕ
 default_random = codes "/dev/urandom"
 

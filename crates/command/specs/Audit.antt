@@ -22,36 +22,33 @@ use Rattle.command.specs.Number.{number_in}
 use Rattle.command.specs.Signing.{PublicBytes}
 use Rattle.command.specs.Trace.{Happening, opened_to_read, opening_state_to_read}
 
--- the command
 abbrev pub audit_app : App
 audit_app = with_rule (with_rule (with_rule (new_app (codes "audit")) (required_rule (codes "STATE")))
     (option_rule (codes "count"))) (option_rule (codes "tag"))
 
 -- ---- the words of an anchor
 
--- what was decoded
 abbrev pub decoded : Result (List ℕ) FromHexError → Option (List ℕ)
 decoded (Ok bytes) = Some bytes
 decoded (Err _) = None
 
--- the tag that a text spells, by 64 hex digits
+-- from 64 hex digits
 abbrev pub tag_in : Text → Option (List ℕ)
 tag_in text = decoded (decode_sized text 32)
 
--- the anchor of a count and a tag, where both are spelled
 abbrev pub anchor_with : Option ℕ → Option (List ℕ) → Result (Option Anchor) UsageFault
 anchor_with (Some count) (Some tag) = Ok (Some (record { count = count; tag = tag }))
 anchor_with None _ = Err usage.Count
 anchor_with (Some _) None = Err usage.Tag
 
--- the anchor of the texts of a count and a tag: both are given, or neither is
+-- both texts, or neither
 abbrev pub anchor_in : (count tag : Option Text) → Result (Option Anchor) UsageFault
 anchor_in None None = Ok None
 anchor_in (Some count) (Some tag) = anchor_with (number_in most_records count) (tag_in tag)
 anchor_in None (Some _) = Err usage.Anchor
 anchor_in (Some _) None = Err usage.Anchor
 
--- what the values of the words say: a state file and maybe an anchor; or the file isn't given, or there is no anchor
+-- The values of the words; or the state file is missing, or the anchor is wrong.
 abbrev pub IsAudit : (state count tag : Option Text) → Result Audit UsageFault → Type 0
 IsAudit state count tag (Ok words) = (state ≡ Some words.state.now) × (anchor_in count tag ≡ Ok words.anchor)
 IsAudit state count tag (Err fault) = ((state ≡ None) × (fault ≡ usage.Command))
@@ -59,15 +56,14 @@ IsAudit state count tag (Err fault) = ((state ≡ None) × (fault ≡ usage.Comm
 
 -- ---- what it does
 
--- The answer says what came of an audit: of a report it has the bytes of the public key, too.
+-- The answer of an audit; a report has the bytes of the public key with it.
 abbrev pub IsAudited : Result Report Refusal → Result Done Refusal → Type 0
 IsAudited (Ok report) answer = (bytes : PublicBytes) × SpellsKey report.public bytes.items
     × (answer ≡ Ok (Audited bytes report))
 IsAudited (Err refusal) answer = answer ≡ Err refusal
 
--- The state file at this path couldn't be opened for reading, or is locked, which is reported. Or it was opened, for
--- reading alone; the disk that this gave was audited, and it was closed; what came of it is the answer. No other file
--- was opened.
+-- Either the state file couldn't be opened, or was locked, which is the answer. Or it was opened for reading alone, its
+-- disk was audited, and it was closed. No other file was opened.
 abbrev pub AuditsIn : {K : Type 0} → disk.Ghosts K → FilesSeen K → (state : List ℕ) → Option Anchor
     → Result Done Refusal → (old new : List Happening) → Type 0
 AuditsIn {K} d files state anchor answer old new =

@@ -21,7 +21,6 @@ use Rattle.command.specs.Argument.{required_rule, several_rule}
 use Rattle.command.specs.Files.{FailsFile, FailsToReadOrKeep, ReadsFile, ReadsKey, ReadsStart, decisive}
 use Rattle.command.specs.Trace.{Happening}
 
--- the command
 abbrev pub audit_given_app : App
 audit_given_app = with_rule (with_rule (new_app (codes "audit-given")) (required_rule (codes "PUBLIC")))
     (several_rule (codes "FILES"))
@@ -32,12 +31,11 @@ audit_given_app = with_rule (with_rule (new_app (codes "audit-given")) (required
 abbrev pub Pair : Type 0
 Pair = List ℕ × List ℕ
 
--- the paths of pairs, one after the other
 unfoldable pub paths_of : List Pair → List Text
 paths_of [] = []
 paths_of (pair ∷ pairs) = pair.0 ∷ pair.1 ∷ paths_of pairs
 
--- the pairs of paths, where these are an even number
+-- None if the number of paths is odd
 unfoldable pub pairs_in : List Text → Option (List Pair)
 pairs_in [] = Some []
 pairs_in (message ∷ []) = None
@@ -49,7 +47,7 @@ pair_of files = (files.message.now, files.signature.now)
 abbrev pub pairs_of : AuditGiven → List Pair
 pairs_of words = map pair_of words.files.items
 
--- what the values of the words say: a public key and pairs of files; or one of both isn't given, or a file has no other
+-- The values of the words; or one is missing, or the number of files is odd.
 abbrev pub IsAuditGiven : (public : Option Text) → (files : Option (List Text)) → Result AuditGiven UsageFault → Type 0
 IsAuditGiven public files (Ok words) = (public ≡ Some words.public.now)
     × ((paths : List Text) × (files ≡ Some paths) × (pairs_in paths ≡ Some (pairs_of words)))
@@ -59,28 +57,27 @@ IsAuditGiven public files (Err fault) = (((public ≡ None) ⊎ (files ≡ None)
 
 -- ---- how they are read
 
--- A message was read from its file, whole, and then a signature from its own, as far as its first bytes decide.
+-- A message was read from its file, whole, and then a signature as far as it decides.
 abbrev pub ReadsPair : (content : List ℕ → Option (List ℕ)) → Pair → Given → (old new : List Happening) → Type 0
 ReadsPair content pair given old new = (mid : List Happening)
     × ReadsFile content role.Message pair.0 given.message.items old mid
     × ReadsStart content role.Signature pair.1 given.signature.items mid new
 
--- Pairs were read one after the other.
 unfoldable pub ReadsPairs : (content : List ℕ → Option (List ℕ)) → List Pair → List Given → (old new : List Happening)
     → Type 0
 ReadsPairs content [] given old new = (given ≡ []) × (new ≡ old)
 ReadsPairs content (pair ∷ pairs) given old new = (first : Given) × (later : List Given) × (mid : List Happening)
     × (given ≡ first ∷ later) × ReadsPair content pair first old mid × ReadsPairs content pairs later mid new
 
--- One of the two files couldn't be read or kept, which is reported, and none after it was opened.
+-- One of the two files couldn't be read into memory, which is the answer, and none after it was opened.
 abbrev pub FailsPair : (content : List ℕ → Option (List ℕ)) → Pair → Refusal → (old new : List Happening) → Type 0
 FailsPair content pair refusal old new =
     FailsToReadOrKeep role.Message pair.0 refusal old new
     ⊎ ((bytes : List ℕ) × (mid : List Happening) × ReadsFile content role.Message pair.0 bytes old mid
     × FailsToReadOrKeep role.Signature pair.1 refusal mid new)
 
--- Some pairs were read, and no more: the next one couldn't be, or there was no memory for those that were, which are
--- one at least.
+-- The first k pairs were read. Then the next one couldn't be, or memory for those k was refused, which are at least
+-- one.
 abbrev pub FailsPairs : (content : List ℕ → Option (List ℕ)) → List Pair → Refusal → (old new : List Happening)
     → Type 0
 FailsPairs content pairs refusal old new = (k : ℕ) × (given : List Given) × (mid : List Happening)
@@ -90,36 +87,34 @@ FailsPairs content pairs refusal old new = (k : ℕ) × (given : List Given) × 
 
 -- ---- what it answers
 
--- the answer, for what came of the check of so many signatures
 abbrev pub given_answer : ℕ → Result Unit GivenFault → Result Done Refusal
 given_answer count (Ok _) = Ok (Checked count)
 given_answer count (Err fault) = Err (refused.Given fault)
 
--- The bytes of the public key's file spell none, which is reported; or the answer is that of the check of the
--- signatures under the key.
+-- The public key's bytes are no key, which is the answer; or the signatures were checked under the key.
 abbrev pub AnswersGiven : Result AnyPublic KeyFault → List Given → Result Done Refusal → Type 0
 AnswersGiven (Err fault) given answer = answer ≡ Err (refused.Key fault)
 AnswersGiven (Ok key) given answer = (checked : Result Unit GivenFault) × Checks key given checked
     × (answer ≡ given_answer (length given) checked)
 
--- These are the bytes of a message, and the first ones of its signature, as many as decide.
+-- The messages are the same, and `first` has the first bytes of the signature, which decide.
 abbrev pub BeginsGiven : (whole first : Given) → Type 0
 BeginsGiven whole first = (first.message.items ≡ whole.message.items)
     × (first.signature.items ≡ take decisive whole.signature.items)
 
--- .. one after the other
+-- .. for each
 abbrev pub BeginAll : (wholes firsts : List Given) → Type 0
 BeginAll [] [] = ⊤
 BeginAll [] (first ∷ firsts) = ⊥
 BeginAll (whole ∷ wholes) [] = ⊥
 BeginAll (whole ∷ wholes) (first ∷ firsts) = BeginsGiven whole first × BeginAll wholes firsts
 
--- The first bytes of signatures decide: the answer is that of the check of all their bytes, whichever follow.
+-- The first bytes of signatures decide: the answer is the same for the whole ones, whichever bytes follow.
 abbrev pub AnswersWhole : Result AnyPublic KeyFault → (firsts : List Given) → Result Done Refusal → Type 0
 AnswersWhole key firsts answer = (wholes : List Given) → BeginAll wholes firsts → AnswersGiven key wholes answer
 
--- All pairs were read, and then they were judged; or one couldn't be read, which is reported. What was read of the
--- signatures decides.
+-- All pairs were read and then judged, and what was read of the signatures decides. Or one couldn't be read, which is
+-- the answer.
 abbrev pub JudgesPairs : (content : List ℕ → Option (List ℕ)) → Result AnyPublic KeyFault → List Pair
     → Result Done Refusal → (old new : List Happening) → Type 0
 JudgesPairs content key pairs answer old new =
@@ -127,8 +122,8 @@ JudgesPairs content key pairs answer old new =
     ⊎ ((given : List Given) × ReadsPairs content pairs given old new × AnswersGiven key given answer
     × AnswersWhole key given answer)
 
--- The public key's file was read, and then the pairs; all that was read was then judged. Or it couldn't be read, which
--- is reported, and no other file was opened.
+-- The public key's file was read, then the pairs, and then all was judged. Or the first couldn't be read, which is the
+-- answer, and no other file was opened.
 abbrev pub ChecksIn : (content : List ℕ → Option (List ℕ)) → (public : List ℕ) → List Pair → Result Done Refusal
     → (old new : List Happening) → Type 0
 ChecksIn content public pairs answer old new =

@@ -3,7 +3,7 @@ use Rattle.std.specs.Prelude.{ℕ}
 use Rattle.command.specs.declared.trace.Role.{Role}
 use Rattle.command.specs.declared.trace.Role.TheVariants.{State, Public, Message, Signature, Random}
 
--- where the file of a role stands among those that were opened
+-- a role's place in the list of opened files
 abbrev pub index_of : Role → ℕ
 index_of State = 0
 index_of Public = 1

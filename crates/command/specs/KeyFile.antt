@@ -28,12 +28,11 @@ use Rattle.command.specs.declared.refusal.Refusal.{Refusal}
 use Rattle.command.specs.declared.refusal.Refusal.TheVariants.{Audit, Migration, Opening, Preparing, Serving, Signer}
 use Rattle.command.specs.Signing.{RetiresBelow}
 
--- what a refusal hands back, with its fault
 abbrev pub refused_with : {T F : Type 0} → F → T → Refused T F
 refused_with fault given = record { fault = fault; given = given }
 
--- A signer was opened on a disk: the disk's records were found, and the signer opened on them. Or one of the two was
--- refused, which is reported, and the disk is handed back.
+-- The disk's records were found, and a signer opened on them. Or one of the two was refused, and the disk is handed
+-- back.
 abbrev pub OpensOn : {K R : Type 0} {bound : _} → disk.Ghosts K → store.Ghosts (FileStore K bound) → (given : K)
     → (random : R) → Result (View (FileStore K bound) R) (Refused K Refusal) → Type 0
 OpensOn {K} {R} {bound} d g given random (Ok signer) =
@@ -45,8 +44,8 @@ OpensOn {K} {R} {bound} d g given random (Err refused) =
     × FindsRecords d given (Ok found) × Opens g found random (Err (refused_with fault (after, unused)))
     × (refused.fault ≡ Signer fault) × (refused.given ≡ disk_of after))
 
--- Leaves were retired on a disk: a signer was opened on it, made the step, and gave its store's disk back; or it
--- couldn't be opened. A retire draws nothing.
+-- A signer was opened on the disk, retired the leaves, and gave the disk back; or it couldn't be opened. A retire draws
+-- nothing.
 abbrev pub RetiresOn : {K : Type 0} {bound : _} → disk.Ghosts K → store.Ghosts (FileStore K bound) → (old new : K)
     → (upto : ℕ) → Result Unit Refusal → Type 0
 RetiresOn {K} {bound} d g old new upto answer =
@@ -55,8 +54,8 @@ RetiresOn {K} {bound} d g old new upto answer =
     ⊎ ((random : TapeSource) × (before after : View (FileStore K bound) TapeSource)
     × OpensOn d g old random (Ok before) × RetiresBelow g before after upto answer × (new ≡ disk_of after.store))
 
--- A key of a version was made on a disk: the disk was prepared, and a signer made on it. Or one of the two was refused,
--- which is reported, and the disk is handed back.
+-- The disk was prepared, and a signer made on it with a new key. Or one of the two was refused, and the disk is handed
+-- back.
 abbrev pub MakesOn : {K R : Type 0} {bound : _} → disk.Ghosts K → store.Ghosts (FileStore K bound) → source.Ghosts R
     → (given : K) → Version → Spec → (random : R) → Result (View (FileStore K bound) R) (Refused K Refusal) → Type 0
 MakesOn {K} {R} {bound} d g r given version spec random (Ok signer) =
@@ -70,20 +69,20 @@ MakesOn {K} {R} {bound} d g r given version spec random (Err refused) =
     × Creates g r version spec prepared random (Err (refused_with fault (after, drawn)))
     × (refused.fault ≡ Signer fault) × (refused.given ≡ disk_of after))
 
--- What a request came to: a signature, which the output has, or a refusal, which is reported.
+-- The output has the signature, or the refusal is reported.
 abbrev pub ReportsSigning : Result (List ℕ) SignFault → (output : List ℕ) → Result Unit Refusal → Type 0
 ReportsSigning (Ok signature) output answer = (output ≡ signature) × (answer ≡ Ok tt)
 ReportsSigning (Err fault) output answer = answer ≡ Err (Signer fault)
 
--- The signer made a step of signing this name's message, and what it answered is reported.
+-- The signer made a step of signing this name's message, and its answer is reported.
 abbrev pub SignsFor : {S R M : Type 0} → store.Ghosts S → source.Ghosts R → message.Ghosts M → (old new : View S R)
     → (name : List ℕ) → (before after : M) → (capacity : ℕ) → (output : List ℕ) → Result Unit Refusal → Type 0
 SignsFor g r m old new name before after capacity output answer =
     (signed : Result (List ℕ) SignFault) × Signs g r m old new name before after capacity signed
     × ReportsSigning signed output answer
 
--- A message was signed under a name on a disk: a signer was opened on it, made the step, and gave its store's disk
--- back; or it couldn't be opened, and the message is as it was.
+-- A signer was opened on the disk, signed the message under the name, and gave the disk back; or it couldn't be opened,
+-- and the message is as it was.
 abbrev pub SignsOn : {K R M : Type 0} {bound : _} → disk.Ghosts K → store.Ghosts (FileStore K bound) → source.Ghosts R
     → message.Ghosts M → (old new : K) → (random : R) → (name : List ℕ) → (before after : M) → (capacity : ℕ)
     → (output : List ℕ) → Result Unit Refusal → Type 0
@@ -93,14 +92,12 @@ SignsOn {K} {R} {M} {bound} d g r m old new random name before after capacity ou
     ⊎ ((opened left : View (FileStore K bound) R) × OpensOn d g old random (Ok opened)
     × SignsFor g r m opened left name before after capacity output answer × (new ≡ disk_of left.store))
 
--- what a serving of requests ends with, as the command reports it
 abbrev pub serve_reported : Result ℕ ServeFault → Result ℕ Refusal
 serve_reported (Ok replies) = Ok replies
 serve_reported (Err fault) = Err (Serving fault)
 
--- The requests of an input were served on a disk, and replied to on an output of which `contents` has the bytes, where
--- they are known: a signer was opened on the disk, answered them, and gave its store's disk back; or it couldn't be
--- opened, and the input and the output are as they were.
+-- A signer was opened on the disk, answered the requests of an input on an output, and gave the disk back. Or it
+-- couldn't be opened, and the input and the output are as they were. `contents` has the bytes of an output, if known.
 abbrev pub ServesOn : {K R I W : Type 0} {bound : _} → disk.Ghosts K → store.Ghosts (FileStore K bound)
     → source.Ghosts R → message.Ghosts I → (contents : W → Option (List ℕ)) → (old new : K) → (random : R)
     → (from to : I × W) → Result ℕ Refusal → Type 0
@@ -112,13 +109,11 @@ ServesOn {K} {R} {I} {W} {bound} d g r m contents old new random from to served 
     × Serves g r m opened left from.0 to.0 (contents from.1) (contents to.1) ended
     × (served ≡ serve_reported ended) × (new ≡ disk_of left.store))
 
--- what an audit or a listing refused, as the command reports it
 abbrev pub audit_reported : {A : Type 0} → Result A AuditFault → Result A Refusal
 audit_reported (Ok value) = Ok value
 audit_reported (Err fault) = Err (Audit fault)
 
--- A disk was audited: its records were found, and the store of them was audited, and gave its disk back. Or they
--- couldn't be found, which is reported.
+-- The disk's records were found and audited, and the disk given back; or they couldn't be found.
 abbrev pub AuditsOn : {K : Type 0} → (d : disk.Ghosts K) → (old new : K) → Option Anchor → Result Report Refusal
     → Type 0
 AuditsOn {K} d old new anchor answer =
@@ -127,8 +122,7 @@ AuditsOn {K} d old new anchor answer =
     ⊎ ((found after : FileStore K d) × (audited : Result Report AuditFault) × FindsRecords d old (Ok found)
     × Audits d found after anchor audited × (answer ≡ audit_reported audited) × (new ≡ disk_of after))
 
--- A disk was listed: its records were found, and the store of them was listed, and gave its disk back. Or they
--- couldn't be found, which is reported.
+-- The disk's records were found and listed, and the disk given back; or they couldn't be found.
 abbrev pub ListsOn : {K : Type 0} → (d : disk.Ghosts K) → (old new : K) → Result Listing Refusal → Type 0
 ListsOn {K} d old new answer =
     ((fault : OpenFault) × FindsRecords {bound = d} d old (Err (refused_with fault new))
@@ -136,12 +130,11 @@ ListsOn {K} d old new answer =
     ⊎ ((found after : FileStore K d) × (listed : Result Listing AuditFault) × FindsRecords d old (Ok found)
     × Lists d found after listed × (answer ≡ audit_reported listed) × (new ≡ disk_of after))
 
--- what a migration answered, as the command reports it
 abbrev pub migrate_reported : Result ℕ MigrateFault → Result ℕ Refusal
 migrate_reported (Ok count) = Ok count
 migrate_reported (Err fault) = Err (Migration fault)
 
--- The records of a key were migrated from one disk to another, which left the two so, and what came of it is reported.
+-- A key's records were migrated from one disk to another, which this left so, and the answer is reported.
 abbrev pub MigratesOn : {K : Type 0} → (d : disk.Ghosts K) → (old new old_after new_after : K) → Result ℕ Refusal
     → Type 0
 MigratesOn d old new old_after new_after answer =

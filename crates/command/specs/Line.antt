@@ -36,7 +36,7 @@ use Rattle.command.specs.Serve.{serve_app}
 use Rattle.command.specs.Sign.{SignsIn, sign_app}
 use Rattle.command.specs.Trace.{Happening}
 
--- the program, before its commands
+-- the program without its commands
 abbrev pub bare_app : App
 bare_app = record (new_app (codes "hbsign")) {
   top = record (new_app (codes "hbsign")).top {
@@ -47,7 +47,6 @@ bare_app = record (new_app (codes "hbsign")) {
   };
 }
 
--- the program
 abbrev pub hbsign_app : App
 hbsign_app = with_subcommand (with_subcommand (with_subcommand (with_subcommand (with_subcommand (with_subcommand
     (with_subcommand (with_subcommand (with_subcommand (with_subcommand bare_app make_app.top) sign_app.top)
@@ -66,20 +65,20 @@ abbrev pub ArePlainWords : List (List ℕ) → Type 0
 ArePlainWords [] = ⊤
 ArePlainWords (word ∷ words) = IsPlainWord word × ArePlainWords words
 
--- The words give these values: they are the values, and none looks like an option; or `--` stands before some of them
--- or after all, and none before it looks like an option.
+-- The words give these values. Either they are the values, and none looks like an option. Or `--` stands before some of
+-- them or after all, and no word before it looks like an option.
 abbrev pub GivesValues : List (List ℕ) → List (List ℕ) → Type 0
 GivesValues words values =
     ((words ≡ values) × ArePlainWords values)
     ⊎ ((before : List (List ℕ)) × (after : List (List ℕ)) × (words ≡ before ++ codes "--" ∷ after)
     × (values ≡ before ++ after) × ArePlainWords before)
 
--- each word is text, as each `str` is
+-- Each word is UTF-8, as each `str` is.
 abbrev pub AreTexts : List (List ℕ) → Type 0
 AreTexts [] = ⊤
 AreTexts (word ∷ words) = IsUtf8 word × AreTexts words
 
--- a line of a command's name and the words of its values, with or without `--`
+-- A command's name, and then its values, with or without `--`.
 abbrev pub IsCommandLine : List (List ℕ) → (name : List ℕ) → (values : List (List ℕ)) → Type 0
 IsCommandLine words name values = (after : List (List ℕ)) × (words ≡ name ∷ after) × GivesValues after values
 
@@ -98,7 +97,6 @@ pub data Task : Type 0 where
   list : (state : List ℕ) → Task
   publish : (state public : List ℕ) → Task
 
--- what a request is
 abbrev pub task_of : Request → Task
 task_of (Make words) = make words.state.now words.public.now words.spec.now words.version words.random.now
 task_of (Sign words) =
@@ -112,14 +110,13 @@ task_of (Migrate words) = migrate words.old.now words.new.now
 task_of (ListState words) = list words.state.now
 task_of (Public words) = publish words.state.now words.public.now
 
--- the same, where there is one
 abbrev pub task_or_fault : Result Request UsageFault → Result Task UsageFault
 task_or_fault (Ok request) = Ok (task_of request)
 task_or_fault (Err fault) = Err fault
 
 -- ---- what `clap` finds in a line
 
--- the task of `make`, by the values of its words
+-- the task of each command, by the values of its words; None is a missing one
 abbrev pub make_formatted : (state public spec : Text) → Option Version → (random : Text) → Result Task UsageFault
 make_formatted state public spec (Some version) random = Ok (make state public spec version random)
 make_formatted state public spec None random = Err usage.Format
@@ -129,17 +126,14 @@ make_task (Some state) (Some public) (Some spec) (Some format) (Some random) =
     make_formatted state public spec (format_in format) random
 make_task _ _ _ _ _ = Err Command
 
--- that of `sign`
 abbrev pub sign_task : (state name message out random : Option Text) → Result Task UsageFault
 sign_task (Some state) (Some name) (Some message) (Some out) (Some random) = Ok (sign state name message out random)
 sign_task _ _ _ _ _ = Err Command
 
--- that of `verify`
 abbrev pub verify_task : Option Text → Option Text → Option Text → Result Task UsageFault
 verify_task (Some public) (Some message) (Some signature) = Ok (verify public message signature)
 verify_task _ _ _ = Err Command
 
--- that of `retire`
 abbrev pub retire_number : Text → Option ℕ → Result Task UsageFault
 retire_number state (Some upto) = Ok (retire state upto)
 retire_number state None = Err Number
@@ -148,7 +142,6 @@ abbrev pub retire_task : Option Text → Option Text → Result Task UsageFault
 retire_task (Some state) (Some upto) = retire_number state (number_in most_leaves upto)
 retire_task _ _ = Err Command
 
--- that of `audit`
 abbrev pub audit_anchored : Text → Result (Option Anchor) UsageFault → Result Task UsageFault
 audit_anchored state (Ok anchor) = Ok (audit state anchor)
 audit_anchored state (Err fault) = Err fault
@@ -157,27 +150,22 @@ abbrev pub audit_task : (state count tag : Option Text) → Result Task UsageFau
 audit_task (Some state) count tag = audit_anchored state (anchor_in count tag)
 audit_task None _ _ = Err Command
 
--- that of `serve`
 abbrev pub serve_task : (state random : Option Text) → Result Task UsageFault
 serve_task (Some state) (Some random) = Ok (serve state random)
 serve_task _ _ = Err Command
 
--- that of `migrate`
 abbrev pub migrate_task : (old new : Option Text) → Result Task UsageFault
 migrate_task (Some old) (Some new) = Ok (migrate old new)
 migrate_task _ _ = Err Command
 
--- that of `list`
 abbrev pub list_task : (state : Option Text) → Result Task UsageFault
 list_task (Some state) = Ok (list state)
 list_task None = Err Command
 
--- that of `public`
 abbrev pub publish_task : (state public : Option Text) → Result Task UsageFault
 publish_task (Some state) (Some public) = Ok (publish state public)
 publish_task _ _ = Err Command
 
--- that of `audit-given`
 abbrev pub audit_given_pairs : Text → Option (List Pair) → Result Task UsageFault
 audit_given_pairs public (Some pairs) = Ok (audit_given public pairs)
 audit_given_pairs public None = Err usage.Pairs
@@ -186,7 +174,7 @@ abbrev pub audit_given_task : Option Text → Option (List Text) → Result Task
 audit_given_task (Some public) (Some paths) = audit_given_pairs public (pairs_in paths)
 audit_given_task _ _ = Err Command
 
--- the task of a command's name and the rows of its values, of those that have as many values on each line
+-- the task of a command with a fixed number of values, by its name and the rows of its values
 abbrev pub fixed_task_named : Text → List Row → Result Task UsageFault
 fixed_task_named name rows =
     if bytes_eq name (codes "make")
@@ -212,24 +200,23 @@ fixed_task_named name rows =
     then publish_task (first_of (codes "STATE") rows) (first_of (codes "PUBLIC") rows)
     else Err Command))))))))
 
--- .. and of every command
+-- .. of any command
 abbrev pub task_named : Text → List Row → Result Task UsageFault
 task_named name rows =
     if bytes_eq name (codes "audit-given")
     then audit_given_task (first_of (codes "PUBLIC") rows) (all_of (codes "FILES") rows)
     else fixed_task_named name rows
 
--- the task of the command that was found, if one was
 abbrev pub task_found : Option (Text × List Row) → Result Task UsageFault
 task_found None = Err Command
 task_found (Some (name, rows)) = task_named name rows
 
--- In these words `clap` finds nothing wrong, and this task.
+-- `clap` accepts these words, and finds this task.
 abbrev pub FindsTask : List (List ℕ) → Task → Type 0
 FindsTask words task = (fault_of hbsign_app words ≡ []) × (task_found (subcommand_of hbsign_app words) ≡ Ok task)
 
 -- The line of a task: `verify PUBLIC MESSAGE SIGNATURE`, `retire STATE UPTO`, `migrate OLD NEW`, `list STATE` or
--- `public STATE PUBLIC`; and of the commands that have options or any number of files, each in which `clap` finds it.
+-- `public STATE PUBLIC`. For a command with options or any number of files, each line in which `clap` finds the task.
 abbrev pub IsLineOf : List (List ℕ) → Task → Type 0
 IsLineOf words (make state public spec version random) = FindsTask words (make state public spec version random)
 IsLineOf words (sign state name message out random) = FindsTask words (sign state name message out random)
@@ -244,14 +231,13 @@ IsLineOf words (migrate old new) = IsCommandLine words (codes "migrate") (old �
 IsLineOf words (list state) = IsCommandLine words (codes "list") (state ∷ [])
 IsLineOf words (publish state public) = IsCommandLine words (codes "public") (state ∷ public ∷ [])
 
--- A line of values, with the option at its end or without it. None of the values looks like an option.
+-- A line of values, without `--random`, or with it at the end: then no value looks like an option.
 abbrev pub IsLineWithOption : List (List ℕ) → (name : List ℕ) → (values : List (List ℕ)) → (random : List ℕ) → Type 0
 IsLineWithOption words name values random =
     (IsCommandLine words name values × (random ≡ default_random))
     ⊎ ((words ≡ name ∷ (values ++ codes "--random" ∷ random ∷ [])) × ArePlainWords values × IsPlainWord random)
 
--- The line of a `make` with its format at the end, or behind that the file of random bytes. None of the values looks
--- like an option.
+-- A line of `make` that ends with `--format`, or with `--format` and then `--random`. No value looks like an option.
 pub record IsFormattedLine (words : List (List ℕ)) (state public spec : List ℕ) (version : Version)
     (random : List ℕ) : Type 0 where
   pub format : List ℕ
@@ -261,13 +247,13 @@ pub record IsFormattedLine (words : List (List ℕ)) (state public spec : List �
       × (random ≡ default_random))
       ⊎ (words ≡ codes "make" ∷ state ∷ public ∷ spec ∷ codes "--format" ∷ format ∷ codes "--random" ∷ random ∷ [])
 
--- .. or without one: a key of version 2 is made then
+-- .. or without `--format`, for a key of version 2
 abbrev pub IsMakeLine : List (List ℕ) → (state public spec : List ℕ) → Version → (random : List ℕ) → Type 0
 IsMakeLine words state public spec version random =
     ((version ≡ Two) × IsLineWithOption words (codes "make") (state ∷ public ∷ spec ∷ []) random)
     ⊎ IsFormattedLine words state public spec version random
 
--- The line of an audit with an anchor at its end. None of the values looks like an option.
+-- A line of `audit` that ends with an anchor. No value looks like an option.
 pub record IsAnchoredLine (words : List (List ℕ)) (state : List ℕ) (anchor : Anchor) : Type 0 where
   pub count : List ℕ
   pub tag : List ℕ
@@ -283,7 +269,7 @@ IsAuditLine words state (Some anchor) = IsAnchoredLine words state anchor
 
 -- The line of a task as help shows it: `make STATE PUBLIC SPEC [--format N] [--random FILE]`,
 -- `sign STATE NAME MESSAGE OUT [--random FILE]`, `verify PUBLIC MESSAGE SIGNATURE`, `retire STATE UPTO`,
--- `audit STATE [--count K --tag T]`, `audit-given PUBLIC FILES..` with a pair of files at least,
+-- `audit STATE [--count K --tag T]`, `audit-given PUBLIC FILES..` with at least one pair of files,
 -- `serve STATE [--random FILE]`, `migrate OLD NEW`, `list STATE`, or `public STATE PUBLIC`.
 abbrev pub IsShownLineOf : List (List ℕ) → Task → Type 0
 IsShownLineOf words (make state public spec version random) = IsMakeLine words state public spec version random
@@ -299,7 +285,6 @@ IsShownLineOf words (migrate old new) = IsLineOf words (migrate old new)
 IsShownLineOf words (list state) = IsLineOf words (list state)
 IsShownLineOf words (publish state public) = IsLineOf words (publish state public)
 
--- the kind of error that a usage fault is
 abbrev pub usage_kind : UsageFault → ErrorKind
 usage_kind Command = kind.MissingSubcommand
 usage_kind Number = kind.ValueValidation
@@ -311,7 +296,7 @@ usage_kind usage.Pairs = kind.WrongNumberOfValues
 
 -- ---- how a task is served
 
--- A task whose answer is reported is served so. Those of `serve` are replies.
+-- How a task is served whose answer is reported. `serve` has replies instead.
 abbrev pub ServesTask : {K R : Type 0} {bound : _} → disk.Ghosts K → store.Ghosts (FileStore K bound) → source.Ghosts R
     → FilesSeen K → Task → Result Done Refusal → List Happening → List Happening → Type 0
 ServesTask d g r files (make state public spec version random) answer old new =

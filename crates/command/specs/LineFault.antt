@@ -12,7 +12,7 @@ use Rattle.command.specs.declared.line.UsageFault.{UsageFault}
 use Rattle.command.specs.declared.line_fault.LineFault.{LineFault}
 use Rattle.command.specs.declared.line_fault.LineFault.TheVariants.{Help, Version, Refused, OutOfMemory}
 
--- how often a reader of lines was refused memory: for `clap`, and for the texts that it makes
+-- how often memory was refused, to `clap` and to the texts of its errors
 abbrev pub refusals_of : ClapReader → ℕ
 refusals_of reader = reader.refusals + reader.texts.refusals
 
@@ -21,52 +21,51 @@ abbrev pub BeginsWithCapital : List ℕ → Type 0
 BeginsWithCapital [] = ⊥
 BeginsWithCapital (byte ∷ bytes) = (65 ≤ byte) × (byte ≤ 90)
 
--- A line begins with a letter from a to z in the text that follows this byte; 10 ends a line.
+-- In the text after this byte, a line begins with a letter from a to z; 10 ends a line.
 unfoldable pub has_lowercase_line : ℕ → List ℕ → Bool
 has_lowercase_line before [] = false
 has_lowercase_line before (byte ∷ bytes) = (before == 10 && is_ascii_lowercase byte) || has_lowercase_line byte bytes
 
--- A text that no answer's line can be taken for: it begins with a capital letter, and no line of it with a lowercase
--- one.
+-- A text that can't be taken for an answer: it begins with a capital letter, and no line of it with a lowercase one.
 abbrev pub IsHelp : List ℕ → Type 0
 IsHelp text = BeginsWithCapital text × (has_lowercase_line 10 text ≡ false)
 
--- The text of help has no line that an answer has, and that of a refusal isn't empty.
+-- Help can't be taken for an answer, and a refusal isn't empty.
 abbrev pub HasText : LineFault → Type 0
 HasText (Help text) = IsHelp (string_bytes text)
 HasText Version = ⊤
 HasText (Refused text) = 0 < length (string_bytes text)
 HasText OutOfMemory = ⊤
 
--- an error of this kind is a mistake in the line: neither a request for help or the version, nor refused memory
+-- an error for a wrong line, and neither for help, the version nor refused memory
 abbrev pub IsMistake : ErrorKind → Type 0
 IsMistake kind.DisplayHelp = ⊥
 IsMistake kind.DisplayVersion = ⊥
 IsMistake kind.OutOfMemory = ⊥
 IsMistake other = ⊤
 
--- It is the fault of a line for which `clap` gives an error of this kind: help exactly where help was requested, and
--- the version exactly where the version was. That memory is refused is the fault of no line.
+-- The fault fits an error of `clap` of this kind: help exactly if help was requested, and the version exactly if the
+-- version was. Refused memory is no line's fault.
 abbrev pub IsFaultOf : LineFault → ErrorKind → Type 0
 IsFaultOf (Help text) error = error ≡ kind.DisplayHelp
 IsFaultOf Version error = error ≡ kind.DisplayVersion
 IsFaultOf (Refused text) error = IsMistake error
 IsFaultOf OutOfMemory error = ⊥
 
--- the usage fault of a line in which `clap` finds nothing wrong, and no task, as a kind of error
+-- the usage fault of words that `clap` accepts but that are no task, as a kind of error
 abbrev pub usage_faults : Result Task UsageFault → Kinds
 usage_faults (Ok task) = []
 usage_faults (Err fault) = usage_kind fault ∷ []
 
--- the kinds of error that a line may have: those that `clap` gives, or where it gives none, that of the usage fault
+-- the kinds of error that a line may have: `clap`'s, or if there is none, the usage fault's
 abbrev pub line_faults : List (List ℕ) → Kinds
 line_faults words = or_else (fault_of hbsign_app words) (usage_faults (task_found (subcommand_of hbsign_app words)))
 
--- The words have this fault: `clap` gives an error of its kind for them.
+-- The words have this fault, by one of the errors that they may have.
 abbrev pub HasLineFault : List (List ℕ) → LineFault → Type 0
 HasLineFault words fault = (error : ErrorKind) × IsAmong error (line_faults words) × IsFaultOf fault error
 
--- One more refusal of memory is counted exactly where the fault is one.
+-- Refused memory is counted, and nothing else.
 abbrev pub CountsFault : LineFault → ℕ → ℕ → Type 0
 CountsFault OutOfMemory old new = new ≡ old + 1
 CountsFault other old new = new ≡ old

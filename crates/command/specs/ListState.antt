@@ -14,23 +14,20 @@ use Rattle.command.specs.Files.{FilesSeen}
 use Rattle.command.specs.KeyFile.{ListsOn}
 use Rattle.command.specs.Trace.{Happening, not_opened, opened_unlocked}
 
--- the command
 abbrev pub list_app : App
 list_app = with_rule (new_app (codes "list")) (required_rule (codes "STATE"))
 
--- What the value of the word says: a state file; or it isn't given.
+-- The value of the word; None if it is missing.
 abbrev pub IsListState : (state : Option Text) → Option ListState → Type 0
 IsListState state (Some words) = state ≡ Some words.state.now
 IsListState state None = state ≡ None
 
--- the answer, for what came of the listing
 abbrev pub list_answer : Result Listing Refusal → Result Done Refusal
 list_answer (Ok listing) = Ok (Listed listing)
 list_answer (Err refusal) = Err refusal
 
--- The state file at this path couldn't be opened for reading, which is reported. Or it was opened, for reading alone
--- and without a lock; the disk that this gave was listed, and it was closed; what came of it is the answer. No other
--- file was opened.
+-- Either the state file couldn't be opened, which is the answer. Or it was opened for reading alone and without a lock,
+-- its disk was listed, and it was closed. No other file was opened.
 abbrev pub ListsIn : {K : Type 0} → disk.Ghosts K → FilesSeen K → (state : List ℕ) → Result Done Refusal
     → (old new : List Happening) → Type 0
 ListsIn {K} d files state answer old new =

@@ -29,27 +29,24 @@ use Rattle.command.specs.Number.{number_in}
 use Rattle.command.specs.Signing.{PublicBytes, Publishes}
 use Rattle.command.specs.Trace.{Happening, made, making, not_opened, opened}
 
--- the format where the line names none: version 2 of the state file
+-- version 2 of the state file
 abbrev pub default_format : List ℕ
 default_format = codes "2"
 
--- the command
 abbrev pub make_app : App
 make_app = with_rule (with_rule (with_rule (with_rule (with_rule (new_app (codes "make"))
     (required_rule (codes "STATE"))) (required_rule (codes "PUBLIC"))) (required_rule (codes "SPEC")))
     (default_rule (codes "format") default_format)) random_rule
 
--- the version of the state file with this number
 abbrev pub version_numbered : Option ℕ → Option Version
 version_numbered (Some number) = named version_code versions number
 version_numbered None = None
 
--- the version that a format names, by its number: 1 or 2
+-- 1 or 2
 abbrev pub format_in : Text → Option Version
 format_in text = version_numbered (number_in 2 text)
 
--- What the values of the words say: three files, a spec and a version; or one of the five isn't given, or the format
--- names no version.
+-- The values of the words; or one is missing, or the format isn't 1 or 2.
 abbrev pub IsMake : (state public spec format random : Option Text) → Result Make UsageFault → Type 0
 IsMake state public spec format random (Ok words) = (state ≡ Some words.state.now) × (public ≡ Some words.public.now)
     × (spec ≡ Some words.spec.now) × ((text : Text) × (format ≡ Some text) × (format_in text ≡ Some words.version))
@@ -60,9 +57,9 @@ IsMake state public spec format random (Err Command) =
     (state ≡ None) ⊎ (public ≡ None) ⊎ (spec ≡ None) ⊎ (format ≡ None) ⊎ (random ≡ None)
 IsMake state public spec format random (Err _) = ⊥
 
--- A key of a version was made on a disk, and only then its public key written to its file; or one of the two was
--- refused, which is reported. Where no key was made, the public key's file wasn't opened. Afterwards the disk is what
--- the signer, or the refusal, has of it.
+-- A key was made on a disk, and only then its public key written to a file. Or one of the two was refused, which is the
+-- answer; if no key was made, the public key's file wasn't opened. `after` is the disk that the signer, or the refusal,
+-- has.
 abbrev pub MakesAndPublishes : {K R : Type 0} {bound : _} → disk.Ghosts K → store.Ghosts (FileStore K bound)
     → source.Ghosts R → (before after : K) → Version → Spec → (random : R) → (public : List ℕ)
     → Result PublicBytes Refusal → (old new : List Happening) → Type 0
@@ -72,8 +69,8 @@ MakesAndPublishes {K} {R} {bound} d g r before after version spec random public 
     ⊎ ((signer : View (FileStore K bound) R) × MakesOn d g r before version spec random (Ok signer)
     × Publishes (key_in signer.records) public old new answer × (after ≡ disk_of signer.store))
 
--- On the disk of a state file that was opened: the file of random bytes was, whose bytes this source gives, and a key
--- of a version made and published; or it can't be opened, and the disk is as it was.
+-- On the disk of an open state file: the file of random bytes was opened, and a key made and published. Or the file
+-- couldn't be opened, and the disk is as it was.
 abbrev pub MakesOpened : {K R : Type 0} {bound : _} → disk.Ghosts K → store.Ghosts (FileStore K bound)
     → source.Ghosts R → (content : List ℕ → Option (List ℕ)) → (before after : K) → Version → Spec
     → (public random : List ℕ) → Result PublicBytes Refusal → (old new : List Happening) → Type 0
@@ -83,14 +80,13 @@ MakesOpened {K} {R} {bound} d g r content before after version spec public rando
     × MakesAndPublishes {bound = bound} d g r before after version spec source public answer
     (old ++ opened role.Random random ∷ []) new)
 
--- the answer, for what came of making a key
 abbrev pub make_answer : Result PublicBytes Refusal → Result Done Refusal
 make_answer (Ok bytes) = Ok (Published bytes)
 make_answer (Err refusal) = Err refusal
 
--- The state file at this path couldn't be opened or made, or is locked, which is reported. Or it was opened, and made
--- where there was none; on the disk that this gave a key of a version was made, once, and it was closed; what came of
--- it is the answer. The content of the file of random bytes is known where it is another than the state file.
+-- Either the state file couldn't be opened or made, or was locked, which is the answer. Or it was opened, and made if
+-- there was none, a key was made once on its disk, and it was closed. The content of the file of random bytes is known
+-- if that is another file.
 abbrev pub MakesAt : {K R : Type 0} {bound : _} → disk.Ghosts K → store.Ghosts (FileStore K bound) → source.Ghosts R
     → FilesSeen K → Version → Spec → (state public random : List ℕ) → Result Done Refusal
     → (old new : List Happening) → Type 0
@@ -102,8 +98,7 @@ MakesAt {K} {R} {bound} d g r files version spec state public random answer old 
     × MakesOpened {bound = bound} d g r content before after version spec public random published
     (old ++ made state ∷ []) new × files.IsClosedDisk after × (answer ≡ make_answer published))
 
--- The words were refused as none of a spec, and no file was opened; or they are this spec's, for which a key of the
--- version was made.
+-- The text is no spec, which is the answer (51), and no file was opened. Or it is one, and a key of it was made.
 abbrev pub MakesIn : {K R : Type 0} {bound : _} → disk.Ghosts K → store.Ghosts (FileStore K bound) → source.Ghosts R
     → FilesSeen K → (state public spec : List ℕ) → Version → (random : List ℕ) → Result Done Refusal
     → (old new : List Happening) → Type 0

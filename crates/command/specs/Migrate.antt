@@ -13,24 +13,22 @@ use Rattle.command.specs.Files.{FilesSeen}
 use Rattle.command.specs.KeyFile.{MigratesOn}
 use Rattle.command.specs.Trace.{Happening, made, making, opened, opening_state}
 
--- the command
 abbrev pub migrate_app : App
 migrate_app = with_rule (with_rule (new_app (codes "migrate")) (required_rule (codes "OLD")))
     (required_rule (codes "NEW"))
 
--- What the values of the words say: two files; or one isn't given.
+-- The values of the words; None if one is missing.
 abbrev pub IsMigrate : (old new : Option Text) → Option Migrate → Type 0
 IsMigrate old new (Some words) = (old ≡ Some words.old.now) × (new ≡ Some words.new.now)
 IsMigrate old new None = (old ≡ None) ⊎ (new ≡ None)
 
--- the answer, for what came of the migration
 abbrev pub migrate_answer : Result ℕ Refusal → Result Done Refusal
 migrate_answer (Ok count) = Ok (Migrated count)
 migrate_answer (Err refusal) = Err refusal
 
--- With this disk of the old file: the new one couldn't be opened or made, or is locked, which is reported, and the old
--- one was closed as it was. Or it was opened, and made where there was none; on the two disks that this gave the
--- records were migrated, once, and both were closed; what came of it is the answer.
+-- After the old file was opened, either the new one couldn't be opened or made, or was locked. That is the answer, and
+-- the old one was closed as it was. Or the new one was opened, and made if there was none, the records were migrated
+-- once, and both were closed.
 abbrev pub MigratesFrom : {K : Type 0} → disk.Ghosts K → FilesSeen K → (from : K) → (new : List ℕ)
     → Result Done Refusal → (before after : List Happening) → Type 0
 MigratesFrom {K} d files from new answer before after =
@@ -40,8 +38,8 @@ MigratesFrom {K} d files from new answer before after =
     × MigratesOn d from to left filled migrated × files.IsClosedDisk left × files.IsClosedDisk filled
     × (answer ≡ migrate_answer migrated) × (after ≡ before ++ made new ∷ []))
 
--- The old state file couldn't be opened, or is locked, which is reported, and the new one wasn't opened or made. Or the
--- old one was opened, and then the new one. No other file was.
+-- Either the old state file couldn't be opened, or was locked, which is the answer, and the new one wasn't opened. Or
+-- the old one was opened, and then the new one. No other file was opened.
 abbrev pub MigratesIn : {K : Type 0} → disk.Ghosts K → FilesSeen K → (old new : List ℕ) → Result Done Refusal
     → (before after : List Happening) → Type 0
 MigratesIn {K} d files old new answer before after =

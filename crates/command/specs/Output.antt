@@ -10,21 +10,19 @@ use Rattle.key_audit.specs.declared.listing.Entry.{Entry}
 use Rattle.key_audit.specs.declared.listing.Entry.TheVariants.{Key, Tree, Name, Retired, Moved}
 use Rattle.typecodes.specs.Spec.{spec_text}
 
--- the line of a level, which says how many of its leaves are left
 abbrev pub level_line : (level left : ℕ) → List ℕ
 level_line level left = codes "level " ++ decimal level ++ codes " left " ++ decimal left ++ codes "\n"
 
--- the lines of levels, of which this is the first
+-- a line for each level, from level `first` on
 unfoldable pub level_lines : (first : ℕ) → (left : List ℕ) → List ℕ
 level_lines first [] = []
 level_lines first (left ∷ below) = level_line first left ++ level_lines (first + 1) below
 
--- the line of a file whose records go on in another, by the version of that file
+-- the version of the file in which the records go on
 abbrev pub moved_line : Option ℕ → List ℕ
 moved_line None = []
 moved_line (Some version) = codes "moved " ++ decimal version ++ codes "\n"
 
--- what a record is, as a listing says it
 abbrev pub entry_text : Entry → List ℕ
 entry_text Key = codes " key"
 entry_text (Tree level leaf) = (codes " tree level " ++ decimal level) ++ (codes " leaf " ++ decimal leaf)
@@ -33,16 +31,14 @@ entry_text (Name name leaf digest) =
 entry_text (Retired upto) = codes " retired upto " ++ decimal upto
 entry_text Moved = codes " moved"
 
--- the line of the record at a place
 abbrev pub entry_line : (place : ℕ) → Entry → List ℕ
 entry_line place entry = decimal place ++ entry_text entry ++ codes "\n"
 
--- the lines of records, of which this is the place of the first
+-- a line for each record; the first one stands at place `first`
 unfoldable pub entry_lines : (first : ℕ) → List Entry → List ℕ
 entry_lines first [] = []
 entry_lines first (entry ∷ rest) = entry_line first entry ++ entry_lines (first + 1) rest
 
--- the text of a part
 abbrev pub part_text : Part → List ℕ
 part_text (Text text) = text.now
 part_text (Number number) = decimal number
@@ -53,11 +49,10 @@ part_text (MovedPart version) = moved_line version
 part_text (Spec spec) = spec_text spec.now
 part_text (Entries entries) = entry_lines 0 entries.now
 
--- the text of parts, one after another
 abbrev pub text_of : List Part → List ℕ
 text_of parts = fold (λ text part. text ++ part_text part) [] parts
 
--- the bytes that an output took, where they are known, and how many texts it couldn't write
+-- the bytes that an output took, if known, and how many texts couldn't be written
 pub record Taken : Type 0 where
   pub contents : Option (List ℕ)
   pub failures : ℕ
@@ -65,20 +60,19 @@ pub record Taken : Type 0 where
 abbrev pub taken_of : Option (List ℕ) → ℕ → Taken
 taken_of bytes count = record { contents = bytes; failures = count }
 
--- One more failure is counted exactly where there is one.
+-- A failure is counted, and nothing else.
 abbrev pub CountsFailure : {A E : Type 0} → Result A E → ℕ → ℕ → Type 0
 CountsFailure (Ok _) old new = new ≡ old
 CountsFailure (Err _) old new = new ≡ old + 1
 
--- The text was written after what was there.
+-- The text was appended.
 abbrev pub WritesText : List ℕ → Taken → Taken → Type 0
 WritesText text old new = (new.failures ≡ old.failures) × Appends old.contents new.contents text
 
--- A text couldn't be written, and this is counted.
+-- A text couldn't be written, which is counted.
 abbrev pub Fails : Taken → Taken → Type 0
 Fails old new = new.failures ≡ old.failures + 1
 
--- What printing a text does.
 abbrev pub Prints : {A E : Type 0} → List ℕ → Taken → Taken → Result A E → Type 0
 Prints text old new (Ok _) = WritesText text old new
 Prints text old new (Err _) = Fails old new

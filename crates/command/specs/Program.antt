@@ -21,7 +21,7 @@ use Rattle.command.specs.Serve.{ServesIn}
 use Rattle.command.specs.Streams.{OutputSeen, Streams, taken}
 use Rattle.command.specs.Trace.{Happening}
 
--- A task is served, and the answer reported. The input and the output for errors are as they were.
+-- The task is served, and its answer reported. The input and the output for errors are as they were.
 abbrev pub ReportsAnswer : {K R I O : Type 0} {bound : _} → disk.Ghosts K → store.Ghosts (FileStore K bound)
     → source.Ghosts R → OutputSeen O → FilesSeen K → Task → (before after : List Happening)
     → (old new : Streams I O) → ℕ → Type 0
@@ -30,8 +30,8 @@ ReportsAnswer d g r o files task before after old new status =
     × ReportsRequest answer (taken o.contents o.failures old.output) (taken o.contents o.failures new.output) status
     × (new.input ≡ old.input) × (new.errors ≡ old.errors)
 
--- The requests of the input are served, each by a reply on the output, and what this ended with is reported on the
--- output for errors.
+-- The requests of the input are served, each by a reply on the output. How that ended is reported on the output for
+-- errors.
 abbrev pub ReportsEnd : {K R I O : Type 0} {bound : _} → disk.Ghosts K → store.Ghosts (FileStore K bound)
     → source.Ghosts R → message.Ghosts I → OutputSeen O → FilesSeen K → (state random : List ℕ)
     → (before after : List Happening) → (old new : Streams I O) → ℕ → Type 0
@@ -41,7 +41,7 @@ ReportsEnd d g r m o files state random before after old new status =
     before after
     × ReportsServing served old.errors new.errors status
 
--- What is done for a task: of `serve` the one, of each other the other.
+-- `serve` replies; every other task has an answer that is reported.
 abbrev pub ReportsTask : {K R I O : Type 0} {bound : _} → disk.Ghosts K → store.Ghosts (FileStore K bound)
     → source.Ghosts R → message.Ghosts I → OutputSeen O → FilesSeen K → Task → (before after : List Happening)
     → (old new : Streams I O) → ℕ → Type 0
@@ -50,19 +50,17 @@ ReportsTask d g r m o files (serve state random) before after old new status =
 ReportsTask d g r m o files task before after old new status =
     ReportsAnswer d g r o files task before after old new status
 
--- The words are a line of `serve`.
+-- The words request `serve`.
 abbrev pub AsksToServe : List (List ℕ) → Type 0
 AsksToServe words = (state : List ℕ) × (random : List ℕ) × FindsTask words (serve state random)
 
--- A text that was requested was written, with status 0, or the output failed.
+-- Help or the version was written, with status 0; or the output failed, with status 3.
 abbrev pub Helps : List ℕ → Taken → Taken → ℕ → Type 0
 Helps text old new status = ((status ≡ 0) × WritesText text old new) ⊎ ((status ≡ 3) × Fails old new)
 
--- the program's version
 abbrev pub version : List ℕ
 version = codes "0.2.0"
 
--- the line of its name and version
 abbrev pub version_line : List ℕ
 version_line = codes "hbsign " ++ version ++ codes "\n"
 
@@ -70,7 +68,7 @@ version_line = codes "hbsign " ++ version ++ codes "\n"
 abbrev pub Says : List ℕ → Taken → Taken → Type 0
 Says text old new = WritesText text old new ⊎ Fails old new
 
--- A line was refused with this text: it is on the output for errors, or this failed, and nothing is on the output.
+-- A line was refused with this text: the output for errors has it, or failed. The output is as it was.
 abbrev pub RefusesLineWith : List ℕ → (old new errors_old errors_new : Taken) → Type 0
 RefusesLineWith text old new errors_old errors_new = (new ≡ old) × Says text errors_old errors_new
 
@@ -79,33 +77,31 @@ abbrev pub RefusesLine : (old new errors_old errors_new : Taken) → Type 0
 RefusesLine old new errors_old errors_new =
     (text : List ℕ) × (0 < length text) × RefusesLineWith text old new errors_old errors_new
 
--- A word of the line, a name or a spec, was refused: this answer's line is on the output, and nothing on that for
--- errors.
+-- A name or a spec was refused: the output has the answer's line, and the output for errors is as it was.
 abbrev pub RefusesWord : Taken → Taken → Taken → Taken → Type 0
 RefusesWord old new errors_old errors_new =
     (answer : Result Done Refusal) × IsOfWord answer × WritesText (answer_line answer) old new
     × (errors_new ≡ errors_old)
 
--- A line or a word of it was refused.
+-- A line, or a name or spec of it, was refused.
 abbrev pub Refuses : Taken → Taken → Taken → Taken → Type 0
 Refuses old new errors_old errors_new =
     RefusesLine old new errors_old errors_new ⊎ RefusesWord old new errors_old errors_new
 
--- whether a line begins with the word `serve`, so that its output is for replies alone
+-- The line begins with the word `serve`, so its output is for replies alone.
 abbrev pub begins_with_serve : List (List ℕ) → Bool
 begins_with_serve [] = false
 begins_with_serve (word ∷ words) = bytes_eq word (codes "serve")
 
--- That there is no memory is reported: on the output, as an answer is; or, where the output is for replies alone, on
--- that for errors.
+-- Refused memory is reported: as an answer on the output, or, if that is for replies alone, on the output for errors.
 abbrev pub ReportsOutOfMemory : Bool → (old new errors_old errors_new : Taken) → ℕ → Type 0
 ReportsOutOfMemory false old new errors_old errors_new status =
     ReportsRequest (Err OutOfMemory) old new status × (errors_new ≡ errors_old)
 ReportsOutOfMemory true old new errors_old errors_new status =
     (new ≡ old) × ReportsServing (Err OutOfMemory) errors_old errors_new status
 
--- What comes of a line with this fault: the fault's text, as help with status 0 or on the output for errors with status
--- 2; the line of the version; or the answer that there is no memory. The first argument says whether the line begins
+-- A line with this fault prints the text of help or the version, with status 0. Or it prints the text of a refusal on
+-- the output for errors, with status 2; or it reports refused memory. The first argument says whether the line begins
 -- with `serve`.
 abbrev pub Explains : Bool → LineFault → (old new errors_old errors_new : Taken) → ℕ → Type 0
 Explains serves (fault.Help text) old new errors_old errors_new status =
@@ -117,8 +113,7 @@ Explains serves (fault.Refused text) old new errors_old errors_new status =
 Explains serves fault.OutOfMemory old new errors_old errors_new status =
     ReportsOutOfMemory serves old new errors_old errors_new status
 
--- The words have a fault, of which this comes. No line of a text of help can be taken for an answer's. The input is as
--- it was.
+-- The words have a fault, which is explained. No line of help can be taken for an answer. The input is as it was.
 abbrev pub ExplainsLine : {I O : Type 0} → OutputSeen O → List (List ℕ) → (old new : Streams I O) → ℕ → Type 0
 ExplainsLine o words old new status =
     (why : LineFault) × HasLineFault words why × HasText why
@@ -126,7 +121,7 @@ ExplainsLine o words old new status =
     (taken o.contents o.failures new.output) old.errors new.errors status
     × (new.input ≡ old.input)
 
--- Memory was refused to the reader of the line: this is reported, no file was opened, and the input is as it was.
+-- Memory was refused before the line was read. This is reported, no file was opened, and the input is as it was.
 abbrev pub ReportsNoMemory : {I O : Type 0} → OutputSeen O → List (List ℕ) → Type 0 → (before after : List Happening)
     → (old new : Streams I O) → ℕ → Type 0
 ReportsNoMemory o words refused before after old new status =
@@ -135,8 +130,8 @@ ReportsNoMemory o words refused before after old new status =
     (taken o.contents o.failures new.output) old.errors new.errors status
     × (new.input ≡ old.input)
 
--- The output for errors may have the line of a serving: the words are a line of `serve`; or they begin with this word,
--- and memory was refused to the reader of the line.
+-- The output for errors may have a line of `serve`: the words request it, or they begin with it and memory was refused
+-- before the line was read.
 abbrev pub MayReportServing : List (List ℕ) → (refused : Type 0) → Type 0
 MayReportServing words refused = AsksToServe words ⊎ ((begins_with_serve words ≡ true) × refused)
 
@@ -144,8 +139,7 @@ MayReportServing words refused = AsksToServe words ⊎ ((begins_with_serve words
 abbrev pub KeepsErrorsUnlessServing : List (List ℕ) → (errors_old errors_new : Taken) → Type 0
 KeepsErrorsUnlessServing words errors_old errors_new = (errors_new ≡ errors_old) ⊎ AsksToServe words
 
--- The output has replies and nothing else: it is as it was, or the requests of the input were served, each by a reply
--- on it.
+-- The output has replies alone: it is as it was, or the requests of the input were served, each by a reply on it.
 abbrev pub HasRepliesAlone : {K R I O : Type 0} {bound : _} → disk.Ghosts K → store.Ghosts (FileStore K bound)
     → source.Ghosts R → message.Ghosts I → OutputSeen O → FilesSeen K → (before after : List Happening)
     → (old new : Streams I O) → Type 0
@@ -155,9 +149,9 @@ HasRepliesAlone d g r m o files before after old new =
     × ServesIn d g r m o.contents files state random (old.input, old.output) (new.input, new.output) served
     before after)
 
--- What a run of the program on these words does to files, its input and its outputs: of words without a fault it serves
--- some task, which `clap` finds in them, and where the words are texts, they are a line of this task; of others it does
--- what their fault requests, and opens no file; or there is no memory.
+-- What a run on these words does to files, its input and its outputs. Words without a fault: it serves a task that
+-- `clap` finds in them; if the words are text, they are a line of this task. Words with a fault: it does what the fault
+-- requests, and opens no file. Or memory was refused.
 abbrev pub Runs : {K R I O : Type 0} {bound : _} → disk.Ghosts K → store.Ghosts (FileStore K bound) → source.Ghosts R
     → message.Ghosts I → OutputSeen O → List (List ℕ) → FilesSeen K → Type 0 → (before after : List Happening)
     → (old new : Streams I O) → ℕ → Type 0
@@ -167,7 +161,7 @@ Runs d g r m o words files refused before after old new status =
     ⊎ ((after ≡ before) × ExplainsLine o words old new status)
     ⊎ ReportsNoMemory o words refused before after old new status
 
--- Of a line of a task it serves the task, unless there is no memory.
+-- On a line of a task, a run serves this task, unless memory was refused.
 abbrev pub RunsTask : {K R I O : Type 0} {bound : _} → disk.Ghosts K → store.Ghosts (FileStore K bound)
     → source.Ghosts R → message.Ghosts I → OutputSeen O → List (List ℕ) → FilesSeen K → Task → Type 0
     → (before after : List Happening) → (old new : Streams I O) → ℕ → Type 0

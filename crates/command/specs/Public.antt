@@ -15,31 +15,28 @@ use Rattle.command.specs.KeyFile.{AuditsOn}
 use Rattle.command.specs.Signing.{PublicBytes, WritesPublic}
 use Rattle.command.specs.Trace.{Happening, not_opened, opened_unlocked}
 
--- the command
 abbrev pub public_app : App
 public_app = with_rule (with_rule (new_app (codes "public")) (required_rule (codes "STATE")))
     (required_rule (codes "PUBLIC"))
 
--- What the values of the words say: two files; or one isn't given.
+-- The values of the words; None if one is missing.
 abbrev pub IsPublic : (state public : Option Text) → Option Public → Type 0
 IsPublic state public (Some words) = (state ≡ Some words.state.now) × (public ≡ Some words.public.now)
 IsPublic state public None = (state ≡ None) ⊎ (public ≡ None)
 
--- the answer, for what came of writing the public key
 abbrev pub public_answer : Result PublicBytes Refusal → Result Done Refusal
 public_answer (Ok bytes) = Ok (Published bytes)
 public_answer (Err refusal) = Err refusal
 
--- Of a state file that was accepted the public key was written to its file, or this can't be written. Where it wasn't
--- accepted, this is reported, and the public key's file wasn't opened.
+-- If the audit accepted the state file, its public key was written to a file, or couldn't be. Otherwise the refusal is
+-- the answer, and the public key's file wasn't opened.
 abbrev pub PublishesAudited : Result Report Refusal → (path : List ℕ) → (old new : List Happening)
     → Result PublicBytes Refusal → Type 0
 PublishesAudited (Ok report) path old new answer = WritesPublic report.public path old new answer
 PublishesAudited (Err refusal) path old new answer = (answer ≡ Err refusal) × (new ≡ old)
 
--- The state file at this path couldn't be opened for reading, which is reported, and no other file was opened. Or it
--- was opened, for reading alone and without a lock; the disk that this gave was audited, only then the public key
--- written, and the file closed; what came of it is the answer.
+-- Either the state file couldn't be opened, which is the answer. Or it was opened for reading alone and without a lock,
+-- its disk was audited, only then the public key was written, and the state file was closed.
 abbrev pub PublishesIn : {K : Type 0} → disk.Ghosts K → FilesSeen K → (state public : List ℕ) → Result Done Refusal
     → (old new : List Happening) → Type 0
 PublishesIn {K} d files state public answer old new =

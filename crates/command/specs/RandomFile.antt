@@ -1,4 +1,4 @@
--- What callers see of a file of random bytes, and what drawing from it does.
+-- What callers see of a file of random bytes, and what a draw from it does.
 use Rattle.std.specs.Prelude.{ℕ, List, ◌⊎◌, ◌≡◌, ◌<◌, length, Result, Ok, Err}
 use Rattle.std.specs.Int.{Width, from_le_bytes}
 use Rattle.typecodes.specs.Message.{GivesAll, GivesText, Transition}
@@ -7,29 +7,27 @@ use Rattle.command.specs.declared.trace.Role.TheVariants.{Random}
 use Rattle.command.specs.FileDisk.{Breaks}
 use Rattle.command.specs.Trace.{Happening, ReadsOnce}
 
--- the file
 abbrev pub random_file : {F : Type 0} → RandomFile F → F
 random_file random = random.file
 
--- what happened to it, in order
 abbrev pub random_trace : {F : Type 0} → RandomFile F → List Happening
 random_trace random = random.trace.events
 
--- A read of it happened to it, and nothing else.
+-- One read of the file happened, and nothing else.
 abbrev pub ReadsRandom : {F : Type 0} → Transition (RandomFile F)
 ReadsRandom old outcome new = ReadsOnce Random (random_trace old) outcome (random_trace new)
 
--- So many bytes were read, and no others; the number is theirs, the low byte first.
+-- Exactly `size` bytes were read, and the number is theirs in little-endian order.
 abbrev pub GivesNumber : {M : Type 0} → ℕ → Width → Transition M → M → ℕ → M → Type 0
 GivesNumber size width transition old number new = (bytes : List ℕ) × (length bytes ≡ size)
     × (number ≡ from_le_bytes width bytes) × GivesText transition bytes old new
 
--- It was read to its end, and gave fewer bytes than so many.
+-- The file ended before `size` bytes.
 abbrev pub EndsBefore : {M : Type 0} → Transition M → ℕ → M → M → Type 0
 EndsBefore transition size old new =
     (first : List ℕ) × (length first < size) × GivesAll transition first old new
 
--- These bytes were read, and no others. Or the file ended before it gave as many, or a read failed.
+-- These bytes were read, and no others. Or the file ended before, or a read failed.
 abbrev pub Draws : {M A E : Type 0} → Transition M → List ℕ → Result A E → M → M → Type 0
 Draws transition bytes (Ok _) old new = GivesText transition bytes old new
 Draws transition bytes (Err _) old new = EndsBefore transition (length bytes) old new ⊎ Breaks transition old new

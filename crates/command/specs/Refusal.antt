@@ -33,12 +33,11 @@ use Rattle.typecodes.specs.declared.fault.Cause.TheVariants.{LeafOutOfRange, Tra
 use Rattle.typecodes.specs.declared.refusal.Refusal.TheVariants.{Unreadable, TypeMismatch, LevelMismatch}
 use Rattle.typecodes.specs.declared.refusal.Refusal.TheVariants.{RootMismatch, MessageRead}
 
--- what a failed call on a file is reported as: 46 where memory was refused, and else 53
+-- how a failed call on a file is reported: 46 for refused memory, 53 otherwise
 abbrev pub refusal_of : ErrorKind → Refusal
 refusal_of kind.OutOfMemory = OutOfMemory
 refusal_of _ = FileFailed
 
--- the name of a signer's fault
 abbrev pub signer_name_of : SignFault → List ℕ
 signer_name_of sign.Changed = codes "Changed"
 signer_name_of sign.Exhausted = codes "Exhausted"
@@ -60,7 +59,6 @@ signer_name_of sign.DeviceFailed = codes "DeviceFailed"
 signer_name_of sign.NoMemoryToOpen = codes "OutOfMemory"
 signer_name_of sign.KeyThere = codes "KeyThere"
 
--- the number and the name of a fault of finding a state file's records
 abbrev pub open_number_of : OpenFault → ℕ
 open_number_of opening.NoKey = 40
 open_number_of opening.NotKeyFile = 41
@@ -75,7 +73,6 @@ open_name_of opening.Version = codes "Version"
 open_name_of (opening.Damaged slot) = codes "Damaged"
 open_name_of opening.DeviceFailed = codes "DeviceFailed"
 
--- .. of a fault of preparing a state file
 abbrev pub format_number_of : FormatFault → ℕ
 format_number_of preparing.NotKeyFile = 41
 format_number_of preparing.DeviceFailed = 45
@@ -86,7 +83,6 @@ format_name_of preparing.NotKeyFile = codes "NotKeyFile"
 format_name_of preparing.DeviceFailed = codes "DeviceFailed"
 format_name_of preparing.KeyThere = codes "KeyThere"
 
--- the name of an audit's fault
 abbrev pub audit_name_of : AuditFault → List ℕ
 audit_name_of audit.Stopped = codes "Stopped"
 audit_name_of audit.NoKey = codes "NoKey"
@@ -97,13 +93,11 @@ audit_name_of audit.OutOfMemory = codes "OutOfMemory"
 audit_name_of audit.AnchorCount = codes "AnchorCount"
 audit_name_of audit.AnchorTag = codes "AnchorTag"
 
--- .. of a fault of signatures that were given out
 abbrev pub given_name_of : GivenFault → List ℕ
 given_name_of (given.NotValid place) = codes "NotValid"
 given_name_of (given.LeafTwice first second) = codes "LeafTwice"
 given_name_of given.OutOfMemory = codes "OutOfMemory"
 
--- .. of a migration's fault
 abbrev pub migrate_name_of : MigrateFault → List ℕ
 migrate_name_of migrate.Stopped = codes "Stopped"
 migrate_name_of migrate.NoKey = codes "NoKey"
@@ -116,13 +110,11 @@ migrate_name_of migrate.OutOfMemory = codes "OutOfMemory"
 migrate_name_of migrate.KeyThere = codes "KeyThere"
 migrate_name_of migrate.Full = codes "Full"
 
--- .. of what breaks off a serving of requests
 abbrev pub serve_name_of : ServeFault → List ℕ
 serve_name_of serve.MessageRead = codes "MessageRead"
 serve_name_of serve.FrameCut = codes "FrameCut"
 serve_name_of serve.WriteFailed = codes "WriteFailed"
 
--- the number of a refusal
 abbrev pub number_of : Refusal → ℕ
 number_of (Key (KeyLength length)) = 6
 number_of (Key (UnreadableKey fault)) = cause_number fault.cause
@@ -140,7 +132,6 @@ number_of Locked = 54
 number_of BadName = 34
 number_of BadSpec = 51
 
--- the name of a fault
 abbrev pub fault_name_of : Cause → List ℕ
 fault_name_of Truncated = codes "Truncated"
 fault_name_of UnknownType = codes "UnknownType"
@@ -148,7 +139,6 @@ fault_name_of LevelCount = codes "LevelCount"
 fault_name_of LeafOutOfRange = codes "LeafOutOfRange"
 fault_name_of Trailing = codes "Trailing"
 
--- the name of a refusal
 abbrev pub name_of : Refusal → List ℕ
 name_of (Key (UnreadableKey fault)) = fault_name_of fault.cause
 name_of (Signature (Unreadable fault)) = fault_name_of fault.cause
@@ -170,7 +160,7 @@ name_of Locked = codes "Locked"
 name_of BadName = codes "BadName"
 name_of BadSpec = codes "BadSpec"
 
--- what follows the name: where, of what length, at which level, in which slot, or of which files
+-- after the name: an offset, a length, a level, a slot, or the places of files
 abbrev pub detail_of : Refusal → List ℕ
 detail_of (Key (UnreadableKey fault)) = codes " at " ++ decimal fault.place
 detail_of (Signature (Unreadable fault)) = codes " at " ++ decimal fault.place

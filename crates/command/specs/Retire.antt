@@ -18,16 +18,15 @@ use Rattle.command.specs.KeyFile.{RetiresOn}
 use Rattle.command.specs.Number.{number_in}
 use Rattle.command.specs.Trace.{Happening, opened, opening_state}
 
--- the command
 abbrev pub retire_app : App
 retire_app = with_rule (with_rule (new_app (codes "retire")) (required_rule (codes "STATE")))
     (required_rule (codes "UPTO"))
 
--- the leaves of the greatest tree, 2^25
+-- the leaves of a tree of height 25
 abbrev pub most_leaves : ℕ
 most_leaves = 33554432
 
--- what the values of the words say: a state file and a number; or one isn't given, or UPTO spells no such number
+-- The values of the words; or one is missing, or UPTO isn't a number up to 2^25.
 abbrev pub IsRetire : Option Text → Option Text → Result Retire UsageFault → Type 0
 IsRetire state upto (Ok words) = (state ≡ Some words.state.now)
     × ((text : Text) × (upto ≡ Some text) × (number_in most_leaves text ≡ Some words.upto))
@@ -36,13 +35,12 @@ IsRetire state upto (Err Number) = (text : Text) × (path : Text) × (state ≡ 
 IsRetire state upto (Err Command) = (state ≡ None) ⊎ (upto ≡ None)
 IsRetire state upto (Err _) = ⊥
 
--- the answer, for what came of retiring the leaves below a number
 abbrev pub retire_answer : ℕ → Result Unit Refusal → Result Done Refusal
 retire_answer upto (Ok _) = Ok (Retired upto)
 retire_answer upto (Err refusal) = Err refusal
 
--- The state file at this path couldn't be opened, or is locked, which is reported. Or it was opened; on the disk that
--- this gave the leaves were retired, once, and it was closed; what came of it is the answer. No other file was opened.
+-- Either the state file couldn't be opened, or was locked, which is the answer. Or it was opened, the leaves were
+-- retired once on its disk, and it was closed. No other file was opened.
 abbrev pub RetiresIn : {K : Type 0} {bound : _} → disk.Ghosts K → store.Ghosts (FileStore K bound) → FilesSeen K
     → (state : List ℕ) → (upto : ℕ) → Result Done Refusal → (old new : List Happening) → Type 0
 RetiresIn {K} d g files state upto answer old new =

@@ -16,18 +16,16 @@ use Rattle.command.specs.Files.{FilesSeen, KeepsContents, ShowsContent}
 use Rattle.command.specs.KeyFile.{ServesOn}
 use Rattle.command.specs.Trace.{Happening, not_opened, opened, opening_state}
 
--- the command
 abbrev pub serve_app : App
 serve_app = with_rule (with_rule (new_app (codes "serve")) (required_rule (codes "STATE"))) random_rule
 
--- What the values of the words say: two files; or one isn't given.
+-- The values of the words; None if one is missing.
 abbrev pub IsServe : (state random : Option Text) → Option Serve → Type 0
 IsServe state random (Some words) = (state ≡ Some words.state.now) × (random ≡ Some words.random.now)
 IsServe state random None = (state ≡ None) ⊎ (random ≡ None)
 
--- On the disk of a state file that was opened: the file of random bytes was, and with what it gives the requests of an
--- input were served, once, on this disk; or it can't be opened, and the disk, the input and the output are as they
--- were.
+-- On the disk of an open state file: the file of random bytes was opened, and the requests of an input were served once
+-- with its bytes. Or it couldn't be opened, and the disk, the input and the output are as they were.
 abbrev pub ServesOpened : {K R I W : Type 0} {bound : _} → disk.Ghosts K → store.Ghosts (FileStore K bound)
     → source.Ghosts R → message.Ghosts I → (contents : W → Option (List ℕ)) → (content : List ℕ → Option (List ℕ))
     → (before after : K) → (random : List ℕ) → (from to : I × W) → Result ℕ Refusal → (old new : List Happening)
@@ -38,8 +36,8 @@ ServesOpened {K} {R} {I} {W} {bound} d g r m contents content before after rando
     × ServesOn {bound = bound} d g r m contents before after source from to served
     × (new ≡ old ++ opened role.Random random ∷ []))
 
--- The state file at this path couldn't be opened, or is locked, which is reported, and the input and the output are as
--- they were. Or it was opened; on the disk that this gave the requests were served, and it was closed.
+-- Either the state file couldn't be opened, or was locked, which is the answer, and the input and the output are as
+-- they were. Or it was opened, the requests were served on its disk, and it was closed.
 abbrev pub ServesIn : {K R I W : Type 0} {bound : _} → disk.Ghosts K → store.Ghosts (FileStore K bound)
     → source.Ghosts R → message.Ghosts I → (contents : W → Option (List ℕ)) → FilesSeen K → (state random : List ℕ)
     → (from to : I × W) → Result ℕ Refusal → (old new : List Happening) → Type 0

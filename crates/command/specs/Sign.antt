@@ -21,13 +21,12 @@ use Rattle.command.specs.KeyFile.{SignsOn}
 use Rattle.command.specs.Signing.{Delivers}
 use Rattle.command.specs.Trace.{Happening, ReadsOnce, not_opened, opened, opening_state}
 
--- the command
 abbrev pub sign_app : App
 sign_app = with_rule (with_rule (with_rule (with_rule (with_rule (new_app (codes "sign"))
     (required_rule (codes "STATE"))) (required_rule (codes "NAME"))) (required_rule (codes "MESSAGE")))
     (required_rule (codes "OUT"))) random_rule
 
--- What the values of the words say: four files and a name; or one of the five isn't given.
+-- The values of the words; None if one is missing.
 abbrev pub IsSign : (state name message out random : Option Text) → Option Sign → Type 0
 IsSign state name message out random (Some words) = (state ≡ Some words.state.now) × (name ≡ Some words.name.now)
     × (message ≡ Some words.message.now) × (out ≡ Some words.out.now) × (random ≡ Some words.random.now)
@@ -36,11 +35,11 @@ IsSign state name message out random None =
 
 -- ---- the message, a file that is read
 
--- what is left of the file, where that is known, and what happened to files
+-- what is left of the file, if known, and what happened to files
 abbrev pub MessageFile : Type 0
 MessageFile = Option (List ℕ) × List Happening
 
--- a read of it happened, and nothing else
+-- A read of it happened, and nothing else.
 abbrev pub message_file : message.Ghosts MessageFile
 message_file = record {
   remaining = λ file. file.0;
@@ -50,16 +49,15 @@ message_file = record {
 
 -- ---- the files
 
--- Once the state file was opened, the message's file was and then that of random bytes. One of them couldn't be opened.
+-- The file of the message, or after it the file of random bytes, couldn't be opened.
 abbrev pub FailsToSign : (message random : List ℕ) → (old new : List Happening) → Type 0
 FailsToSign message random old new = (new ≡ old ++ not_opened role.Message message ∷ [])
     ⊎ (new ≡ old ++ opened role.Message message ∷ not_opened role.Random random ∷ [])
 
--- both are
 abbrev pub ready_to_sign : (message random : List ℕ) → List Happening
 ready_to_sign message random = opened role.Message message ∷ opened role.Random random ∷ []
 
--- They are: a file of which this role and these bytes are known, and this source; or one isn't.
+-- Both files were opened, and show their contents, if known; or one couldn't be.
 abbrev pub ReadiesToSign : {F R : Type 0} → (role_of : F → Role) → (remaining : F → Option (List ℕ))
     → (upcoming : R → Option (List ℕ)) → (content : List ℕ → Option (List ℕ)) → (message random : List ℕ)
     → Result (F × R) Refusal → (old new : List Happening) → Type 0
@@ -69,7 +67,7 @@ ReadiesToSign role_of remaining upcoming content message random (Ok (file, sourc
 ReadiesToSign role_of remaining upcoming content message random (Err refusal) old new =
     (refusal ≡ FileFailed) × FailsToSign message random old new
 
--- ---- the step, and what it comes to
+-- ---- the step, and its answer
 
 -- A signature is written to its file, and its size is the answer; a refusal is the answer, and no file was opened.
 abbrev pub DeliversSigned : Result Unit Refusal → (signature path : List ℕ) → (old new : List Happening)
@@ -77,7 +75,7 @@ abbrev pub DeliversSigned : Result Unit Refusal → (signature path : List ℕ) 
 DeliversSigned (Ok _) signature path old new answer = Delivers (Ok signature) path old new answer
 DeliversSigned (Err refusal) signature path old new answer = (answer ≡ Err refusal) × (new ≡ old)
 
--- A message's file, of which these bytes were left where that is known, was read and signed under a name on a disk.
+-- A message's file was read, and the message signed under a name on a disk. `left` is what was known to be left of it.
 abbrev pub SignsFile : {K R : Type 0} {bound : _} → disk.Ghosts K → store.Ghosts (FileStore K bound) → source.Ghosts R
     → (before after : K) → (random : R) → (name : List ℕ) → (left : Option (List ℕ)) → (capacity : ℕ)
     → (signature : List ℕ) → Result Unit Refusal → (old new : List Happening) → Type 0
@@ -85,7 +83,7 @@ SignsFile {bound = bound} d g r before after random name left capacity signature
     (rest : Option (List ℕ)) × SignsOn {bound = bound} d g r message_file before after random name (left, old)
     (rest, new) capacity signature signed
 
--- The same, and what came of it was delivered.
+-- As `SignsFile`, and then the signature was delivered.
 abbrev pub SignsAndDelivers : {K R : Type 0} {bound : _} → disk.Ghosts K → store.Ghosts (FileStore K bound)
     → source.Ghosts R → (before after : K) → (random : R) → (name : List ℕ) → (left : Option (List ℕ))
     → (out : List ℕ) → Result ℕ Refusal → (old new : List Happening) → Type 0
@@ -94,8 +92,8 @@ SignsAndDelivers {bound = bound} d g r before after random name left out answer 
     × SignsFile {bound = bound} d g r before after random name left 0 signature signed old read
     × DeliversSigned signed signature out read new answer
 
--- On the disk of a state file that was opened: the other files were, the message was signed, and only then the
--- signature's file opened; or one can't be, and the disk is as it was.
+-- On the disk of an open state file: the other files were opened, the message was signed, and only then the signature's
+-- file was opened. Or one couldn't be opened, and the disk is as it was.
 abbrev pub SignsOpened : {K R : Type 0} {bound : _} → disk.Ghosts K → store.Ghosts (FileStore K bound)
     → source.Ghosts R → (content : List ℕ → Option (List ℕ)) → (before after : K) → (name message out random : List ℕ)
     → Result ℕ Refusal → (old new : List Happening) → Type 0
@@ -106,13 +104,12 @@ SignsOpened {K} {R} {bound} d g r content before after name message out random a
     × SignsAndDelivers {bound = bound} d g r before after source name left out answer
     (old ++ ready_to_sign message random) new)
 
--- the answer, for what came of signing under a name
 abbrev pub sign_answer : List ℕ → Result ℕ Refusal → Result Done Refusal
 sign_answer name (Ok size) = Ok (Signed name size)
 sign_answer name (Err refusal) = Err refusal
 
--- The state file at this path couldn't be opened, or is locked, which is reported. Or it was opened; on the disk that
--- this gave the message was signed, once, and it was closed; what came of it is the answer.
+-- Either the state file couldn't be opened, or was locked, which is the answer. Or it was opened, the message was
+-- signed once on its disk, and it was closed.
 abbrev pub SignsAt : {K R : Type 0} {bound : _} → disk.Ghosts K → store.Ghosts (FileStore K bound) → source.Ghosts R
     → FilesSeen K → (state name message out random : List ℕ) → Result Done Refusal → (old new : List Happening) → Type 0
 SignsAt {K} {R} {bound} d g r files state name message out random answer old new =
@@ -124,7 +121,8 @@ SignsAt {K} {R} {bound} d g r files state name message out random answer old new
     (old ++ opened role.State state ∷ []) new
     × files.IsClosedDisk after × (answer ≡ sign_answer name signed))
 
--- The word was refused as no name, and no file was opened; or it is one, under which the message was signed.
+-- The word is no name, which is the answer (34), and no file was opened. Or it is one, and the message was signed under
+-- it.
 abbrev pub SignsIn : {K R : Type 0} {bound : _} → disk.Ghosts K → store.Ghosts (FileStore K bound) → source.Ghosts R
     → FilesSeen K → (state name message out random : List ℕ) → Result Done Refusal → (old new : List Happening) → Type 0
 SignsIn {bound = bound} d g r files state name message out random answer old new =

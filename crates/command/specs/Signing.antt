@@ -13,8 +13,8 @@ use Rattle.command.specs.declared.refusal.Refusal.TheVariants.{FileFailed, Signe
 use Rattle.command.specs.declared.trace.Role.TheVariants as role
 use Rattle.command.specs.Trace.{Happening, not_written, written}
 
--- A signature was handed out or refused. A refusal is reported, and no file was opened. A signature is written to its
--- file, whole, and its size is the answer; or the file can't be written, which is reported.
+-- A refusal to sign is the answer, and no file was opened. Otherwise the signature was written to its file, whole, and
+-- its size is the answer; or the file couldn't be written.
 abbrev pub Delivers : Result (List ℕ) SignFault → (path : List ℕ) → (old new : List Happening) → Result ℕ Refusal
     → Type 0
 Delivers (Err fault) path old new answer = (answer ≡ Err (Signer fault)) × (new ≡ old)
@@ -27,15 +27,14 @@ Delivers (Ok signature) path old new (Err refusal) =
 abbrev pub PublicBytes : Type 0
 PublicBytes = ArrayVec ℕ
 
--- This public key was written to its file, as its spelling and nothing else, which is the answer; or the file can't be
--- written.
+-- Exactly the bytes of this public key were written to its file, and are the answer; or the file couldn't be written.
 abbrev pub WritesPublic : AnyPublic → (path : List ℕ) → (old new : List Happening) → Result PublicBytes Refusal → Type 0
 WritesPublic public path old new (Ok bytes) =
     SpellsKey public bytes.items × (new ≡ old ++ written role.Public path bytes.items ∷ [])
 WritesPublic public path old new (Err refusal) =
     (refusal ≡ FileFailed) × (new ≡ old ++ not_written role.Public path ∷ [])
 
--- The same of a key's.
+-- As `WritesPublic`, for the public key of this key.
 abbrev pub Publishes : Option Key → (path : List ℕ) → (old new : List Happening) → Result PublicBytes Refusal → Type 0
 Publishes key path old new (Ok bytes) =
     ((public : AnyPublic) × (public_of_key key ≡ Some public) × SpellsKey public bytes.items)
@@ -43,12 +42,12 @@ Publishes key path old new (Ok bytes) =
 Publishes key path old new (Err refusal) =
     (refusal ≡ FileFailed) × (new ≡ old ++ not_written role.Public path ∷ [])
 
--- what the signer refused, as the command reports it
+-- a signer's answer, as the command reports it
 abbrev pub reported : {A : Type 0} → Result A SignFault → Result A Refusal
 reported (Ok value) = Ok value
 reported (Err fault) = Err (Signer fault)
 
--- The signer made a step of retiring the leaves below a number, and what it answered is reported.
+-- The signer made a step of retiring the leaves below a number, and its answer is reported.
 abbrev pub RetiresBelow : {S R : Type 0} → store.Ghosts S → (old new : View S R) → (upto : ℕ) → Result Unit Refusal
     → Type 0
 RetiresBelow g old new upto answer =

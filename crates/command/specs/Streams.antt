@@ -3,15 +3,13 @@ use Rattle.std.specs.Prelude.{ℕ, List, Option}
 use Rattle.command.specs.declared.output.Printer.{Printer}
 use Rattle.command.specs.Output.{Taken, taken_of}
 
--- how many texts a writer of the program couldn't write
 abbrev pub failures_of : {W : Type 0} → Printer W → ℕ
 failures_of printer = printer.failures
 
--- what an output has taken, by what is seen of it
 abbrev pub taken : {O : Type 0} → (contents : O → Option (List ℕ)) → (failures : O → ℕ) → O → Taken
 taken contents failures output = taken_of (contents output) (failures output)
 
--- What is seen of an output: the bytes that it took, where they are known, and how many texts it couldn't write.
+-- What contracts see of an output: the bytes that it took, if known, and how many texts couldn't be written.
 pub record OutputSeen (O : Type 0) : Type 0 where
   pub contents : O → Option (List ℕ)
   pub failures : O → ℕ

@@ -9,33 +9,39 @@ use Rattle.command.specs.declared.trace.Event.{Event}
 use Rattle.command.specs.declared.trace.Event.TheVariants as event
 use Rattle.typecodes.specs.Message.{FailsBy, GivesText, GivesAll, GoesOn, ReadOutcome, Transition}
 
--- A file was opened by this path, or couldn't be; a state file was opened for reading alone, locked or not; one was
--- opened, and made where there was none, or couldn't be; a state file is locked by another; a read of a file gave
--- these bytes, or failed. Of a file that is read and written at offsets: its length was requested; a read at an
--- offset, for so many bytes, gave these; a write of bytes at an offset took these, which are the first of them; it
--- was synced. Of a file that is to be written: it has these bytes and no others, or wasn't written. Of one that is
--- open to be written: it was looked whether it has a key, or this couldn't be seen; it was cut to no bytes, or
--- couldn't be; these bytes were written from its beginning on, or not all of them.
+-- One thing that happened to a file, which is named by its role, its path or both.
 pub data Happening : Type 0 where
+  -- for reading a file, or a state file for reading and writing
   opened : Role → List ℕ → Happening
   not_opened : Role → List ℕ → Happening
+  -- a state file for reading alone, with a lock or without
   opened_to_read : List ℕ → Happening
   opened_unlocked : List ℕ → Happening
+  -- a state file, which was made if there was none
   made : List ℕ → Happening
   not_made : List ℕ → Happening
+  -- a state file, by another
   locked : List ℕ → Happening
+  -- a read's bytes, or its error
   given : Role → List ℕ → Happening
   failed : Role → ErrorKind → Happening
+  -- of a file at offsets: the length
   measured : Result ℕ ErrorKind → Happening
+  -- a read of `room` bytes
   read_at : (at room : ℕ) → ReadOutcome → Happening
+  -- a write of these bytes, which took the first of them
   written_at : (at : ℕ) (bytes : List ℕ) → ReadOutcome → Happening
   synced : Result Unit ErrorKind → Happening
+  -- of a file that is open for writing: whether it has a key
   looked : (has_key : Bool) → Happening
   not_looked : Happening
+  -- to no bytes
   cut : Happening
   not_cut : Happening
+  -- all of the bytes, from the file's beginning on
   wrote : (bytes : List ℕ) → Happening
   not_wrote : Happening
+  -- The file has these bytes and no others, or its content isn't known.
   written : Role → (path bytes : List ℕ) → Happening
   not_written : Role → (path : List ℕ) → Happening
 
@@ -64,65 +70,58 @@ happening_of event.NotWrote = not_wrote
 happening_of (event.Written role path bytes) = written role path.now bytes.now
 happening_of (event.NotWritten role path) = not_written role path.now
 
--- what a call that opens a file does to it
+-- what a call on a file notes, by its answer
 abbrev pub opening : {A E : Type 0} → Role → List ℕ → Result A E → Happening
 opening role path (Ok file) = opened role path
 opening role path (Err error) = not_opened role path
 
--- what a call that opens a state file does to it
 abbrev pub opening_state : {A : Type 0} → List ℕ → Result A Refusal → Happening
 opening_state path (Ok file) = opened State path
 opening_state path (Err Locked) = locked path
 opening_state path (Err _) = not_opened State path
 
--- what a call that opens a state file for reading alone does to it
 abbrev pub opening_state_to_read : {A : Type 0} → List ℕ → Result A Refusal → Happening
 opening_state_to_read path (Ok file) = opened_to_read path
 opening_state_to_read path (Err Locked) = locked path
 opening_state_to_read path (Err _) = not_opened State path
 
--- what a call that opens one so, and doesn't lock it, does to it
 abbrev pub opening_unlocked : {A E : Type 0} → List ℕ → Result A E → Happening
 opening_unlocked path (Ok file) = opened_unlocked path
 opening_unlocked path (Err error) = not_opened State path
 
--- what a call that opens a state file, or makes it, does to it
 abbrev pub making : {A : Type 0} → List ℕ → Result A Refusal → Happening
 making path (Ok file) = made path
 making path (Err Locked) = locked path
 making path (Err _) = not_made path
 
--- what a call that writes these bytes to a file does
 abbrev pub writing : {A E : Type 0} → Role → (path bytes : List ℕ) → Result A E → Happening
 writing role path bytes (Ok _) = written role path bytes
 writing role path bytes (Err _) = not_written role path
 
--- what a read of this file with this outcome is
 abbrev pub happened : Role → ReadOutcome → Happening
 happened role (Ok bytes) = given role bytes
 happened role (Err kind) = failed role kind
 
--- A read of this file happened, and nothing else.
+-- One read of this file happened, and nothing else.
 abbrev pub ReadsOnce : Role → Transition (List Happening)
 ReadsOnce role old outcome new = new ≡ old ++ happened role outcome ∷ []
 
--- what happened says nothing of the bytes that a file has left
+-- the trace doesn't say which bytes a file has left
 abbrev pub nothing_known : List Happening → Option (List ℕ)
 nothing_known happenings = None
 
--- Since then this file was read, and nothing else was done: each read gave a byte at least, and together they gave
--- these bytes.
+-- Since `old` only this file was read. Each read gave at least one byte, and together they gave these.
 abbrev pub ReadsOn : Role → List ℕ → List Happening → List Happening → Type 0
 ReadsOn role bytes old new = GivesText (ReadsOnce role) bytes old new
 
--- The same up to its end, where a last read gave nothing.
+-- As `ReadsOn`, up to the file's end, where a last read gave nothing.
 abbrev pub ReadsToEnd : Role → List ℕ → List Happening → List Happening → Type 0
 ReadsToEnd role bytes old new = GivesAll (ReadsOnce role) bytes old new
 
--- The same up to a read that failed by this kind of error.
+-- As `ReadsOn`, up to a read that failed by this kind of error.
 abbrev pub ReadsToFailure : Role → ErrorKind → List Happening → List Happening → Type 0
 ReadsToFailure role kind old new = (bytes : List ℕ) × FailsBy (ReadsOnce role) kind bytes old new
 
--- The same without end: there were 2^60 bytes.
+-- As `ReadsOn`, without an end within 2^60 bytes.
 abbrev pub ReadsForever : Role → List Happening → List Happening → Type 0
 ReadsForever role old new = GoesOn (ReadsOnce role) old new

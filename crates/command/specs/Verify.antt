@@ -1,4 +1,4 @@
--- What `verify` answers to three files: the judgement of their bytes, and what it does to the files for it.
+-- What `verify` answers for three files, and how it opens and reads them.
 use Rattle.std.specs.Prelude.{[], ◌∷◌, ◌≡◌, ◌⊎◌, ◌++◌, ℕ, List, codes, Result, Ok, Err, ⊤, Option, IsErrAnd}
 use Rattle.clap.specs.Words.{App, new_app, with_rule}
 use Rattle.command.specs.Argument.{required_rule}
@@ -24,27 +24,25 @@ verify_app =
     with_rule (with_rule (with_rule (new_app (codes "verify")) (required_rule (codes "PUBLIC")))
     (required_rule (codes "MESSAGE"))) (required_rule (codes "SIGNATURE"))
 
--- the three files of a line were opened in turn
 abbrev pub all_opened : List ℕ → List ℕ → List ℕ → List Happening
 all_opened public message signature =
     opened role.Public public ∷ opened role.Message message ∷ opened role.Signature signature ∷ []
 
--- One of them couldn't be opened, and none after it was.
+-- One of the files couldn't be opened, and none after it was.
 abbrev pub FailsToOpen : List ℕ → List ℕ → List ℕ → List Happening → List Happening → Type 0
 FailsToOpen public message signature old new =
     (new ≡ old ++ not_opened role.Public public ∷ [])
     ⊎ (new ≡ old ++ opened role.Public public ∷ not_opened role.Message message ∷ [])
     ⊎ (new ≡ old ++ opened role.Public public ∷ opened role.Message message ∷ not_opened role.Signature signature ∷ [])
 
--- They were opened in turn, up to one that couldn't be.
+-- The files were opened in turn, up to one that couldn't be.
 abbrev pub OpensInTurn : {A E : Type 0} → List ℕ → List ℕ → List ℕ → Result A E → List Happening → List Happening
     → Type 0
 OpensInTurn public message signature (Ok files) old new = new ≡ old ++ all_opened public message signature
 OpensInTurn public message signature (Err error) old new = FailsToOpen public message signature old new
 
--- Ok: the public bytes spell a key, for which the signature's bytes are valid. Else the public bytes
--- spell no key, and this is wrong with them; or they spell a key, for which the signature's bytes are
--- refused so. Contents alone are judged.
+-- Contents alone are judged. Ok: the public bytes are a key, under which the signature is valid. Otherwise they are no
+-- key, with this fault; or they are a key, under which the signature has this refusal.
 abbrev pub Judgement : {A : Type 0} → List ℕ → List ℕ → List ℕ → Result A Refusal → Type 0
 Judgement public message signature (Ok a) =
     (key : AnyPublic) × SpellsKey key public × KeyVerdict {A = ⊤} key message signature (Ok tt)
@@ -64,7 +62,7 @@ Judgement public message signature (Err Locked) = ⊥
 Judgement public message signature (Err BadName) = ⊥
 Judgement public message signature (Err BadSpec) = ⊥
 
--- The same of files: opening or reading one may also fail.
+-- As `Judgement`, but opening or reading a file may also fail.
 abbrev pub AnswersFiles : {A : Type 0} → List ℕ → List ℕ → List ℕ → Result A Refusal → Type 0
 AnswersFiles public message signature (Ok a) = Judgement public message signature (Ok a)
 AnswersFiles public message signature (Err (Key fault)) = Judgement {A = ⊤} public message signature (Err (Key fault))
@@ -83,15 +81,14 @@ AnswersFiles public message signature (Err Locked) = ⊥
 AnswersFiles public message signature (Err BadName) = ⊥
 AnswersFiles public message signature (Err BadSpec) = ⊥
 
--- Of what is known of three files, this is the answer for some contents that fit: for the contents, where all are
+-- The answer is right for some contents that fit what is known of the three files; so for their contents, if all are
 -- known.
 abbrev pub AnswersOf : {A : Type 0} → Option (List ℕ) → Option (List ℕ) → Option (List ℕ) → Result A Refusal → Type 0
 AnswersOf public message signature answer =
     (p : List ℕ) × (m : List ℕ) × (s : List ℕ) × IsContent public p × IsContent message m × IsContent signature s
     × AnswersFiles p m s answer
 
--- What becomes of a message for an answer: what verification by the key that the public bytes spell does with it, and
--- nothing where they spell none.
+-- What verification does with a message: what the key of the public bytes does, or nothing if they are no key.
 abbrev pub AnswerLeaves : {M A : Type 0} → Transition M → (M → Option (List ℕ)) → List ℕ → List ℕ → M → M
     → Result A Refusal
     → Type 0
@@ -113,20 +110,20 @@ AnswerLeaves step remaining public text old new (Err Locked) = ⊥
 AnswerLeaves step remaining public text old new (Err BadName) = ⊥
 AnswerLeaves step remaining public text old new (Err BadSpec) = ⊥
 
--- The answer is this failure, reported by its number.
+-- The answer is this failure: 46 for refused memory, 53 otherwise.
 abbrev pub IsRefusalOf : {A : Type 0} → ErrorKind → Result A Refusal → Type 0
 IsRefusalOf kind answer = IsErrAnd answer (λ refusal. refusal ≡ refusal_of kind)
 
--- The answer is the judgement of the bytes that the reads gave: of the key's file, of the signature's, and now of the
--- message's, which is read as far as verification by this key reads a message.
+-- The answer judges the bytes that the reads gave: of the key's file, of the signature's, and now of the message's, as
+-- far as verification reads it.
 abbrev pub JudgesReads : {A : Type 0} → Role → List ℕ → List ℕ → Result A Refusal → List Happening → List Happening
     → Type 0
 JudgesReads message p s answer old new =
     (m : List ℕ) × Judgement p m s answer × AnswerLeaves (ReadsOnce message) nothing_known p m old new answer
 
--- The files of these roles were read one after the other: the key's to its end, the signature's to its end or as many
--- bytes as decide, and then the message's. The first of key and signature that failed is the answer, and nothing was
--- read after it; else the answer is the judgement of the bytes that the reads gave.
+-- The files were read in turn: the key's to its end, the signature's as far as it decides, and then the message's. The
+-- first failure of key or signature is the answer, and nothing was read after it. Otherwise the answer judges the bytes
+-- that the reads gave.
 abbrev pub ReadsInTurn : {A : Type 0} → Role → Role → Role → Result A Refusal → List Happening → List Happening
     → Type 0
 ReadsInTurn public signature message answer old new =
@@ -137,15 +134,15 @@ ReadsInTurn public signature message answer old new =
     × ReadsToEnd public p old first × FillsRoom signature decisive s first second
     × JudgesReads message p s answer second new)
 
--- The files of these paths were opened one after the other, up to one that couldn't be, which was reported; then they
--- were read in turn.
+-- The files were opened in turn, up to one that couldn't be, which is the answer (53). If all could be, they were read
+-- in turn.
 abbrev pub Visits : {A : Type 0} → List ℕ → List ℕ → List ℕ → Result A Refusal → List Happening → List Happening
     → Type 0
 Visits public message signature answer old new =
     (IsErrAnd answer (λ refusal. refusal ≡ FileFailed) × FailsToOpen public message signature old new)
     ⊎ ReadsInTurn role.Public role.Signature role.Message answer (old ++ all_opened public message signature) new
 
--- `verify` of these paths answers so: rightly for what is known of the files, which it opens and reads in turn.
+-- `verify` answers rightly for what is known of the files, which it opens and reads in turn.
 abbrev pub VerifiesIn : {A : Type 0} → (List ℕ → Option (List ℕ)) → List ℕ → List ℕ → List ℕ → Result A Refusal
     → List Happening → List Happening → Type 0
 VerifiesIn content public message signature answer old new =

@@ -1,4 +1,4 @@
-//! What a command answers, and how this is reported.
+//! A command's answer, the lines that report it, and the exit status.
 
 ghost use Rattle.std.specs.Prelude.{◌≡◌};
 ghost use Rattle.command.specs.Answer.{IsOfWord, ReportsRequest, ReportsServing, answer_line, done_lines};
@@ -21,24 +21,23 @@ use typecodes::{Name, Refusal as SignatureRefusal};
 pub enum Done {
     /// The signature is the key's for the message.
     Verified,
-    /// The leaves of the current bottom tree below this one sign nothing any more.
+    /// The leaves of the current bottom tree below this one are retired.
     Retired(u32),
-    /// The public key of a key, of 56 to 68 bytes, was written.
+    /// A public key of 56 to 68 bytes was written.
     Published(ArrayVec<u8, 68>),
-    /// A message was signed under this name, and the signature, of so many bytes, written.
+    /// A message was signed under this name; the signature that was written has this size in bytes.
     Signed(Name, usize),
-    /// A state file was accepted: its public key, of 56 to 68 bytes, and what its records say.
+    /// An audit accepted a state file: its public key of 56 to 68 bytes, and the report.
     Audited(ArrayVec<u8, 68>, Report),
-    /// What a state file is, and what its key has signed.
+    /// The types, free leaves and records of a state file.
     Listed(Listing),
-    /// So many signatures of a key are valid, and no leaf signed two digests.
+    /// This number of signatures is valid, and no leaf signed two digests.
     Checked(usize),
-    /// So many records of a key go on in a new state file.
+    /// The new state file has this number of records.
     Migrated(u32),
 }
 
 impl Done {
-    // Prints its lines.
     fn print<O: Output>(&self, output: &mut O) -> io::Result<()>
         ensures { Prints (done_lines self.now) (taken O.contents O.failures output.old)
             (taken O.contents O.failures output.new) result }
@@ -78,7 +77,6 @@ impl Done {
     }
 }
 
-// Prints the lines of a report, of the public key that these bytes spell.
 fn print_report<'a, O: Output>(
     public: &'a [u8],
     report: &'a Report,
@@ -100,7 +98,6 @@ fn print_report<'a, O: Output>(
     ])
 }
 
-// Prints the lines of a listing.
 fn print_listing<O: Output>(listing: &Listing, output: &mut O) -> io::Result<()>
     ensures { Prints (listing_lines (shown_by listing.now)) (taken O.contents O.failures output.old)
         (taken O.contents O.failures output.new) result }
@@ -120,16 +117,16 @@ fn print_listing<O: Output>(listing: &Listing, output: &mut O) -> io::Result<()>
     ])
 }
 
-/// What came of a command.
+/// What a command did, or why it refused.
 pub type Answer = Result<Done, Refusal>;
 
-/// The exit status of an output that fails.
+/// The exit status where the output can't be written.
 pub const OUTPUT_FAILED: u8 = 3;
 
-// The exit status of a name or a spec that is refused.
+// The exit status for a bad name or spec.
 const WORD_REFUSED: u8 = 2;
 
-/// Prints the answer's lines, and gives the exit status of the program.
+/// Prints the answer's lines, and gives the exit status.
 pub fn report<O: Output>(answer: &Answer, output: &mut O) -> u8
     ensures reports { ReportsRequest answer.now (taken O.contents O.failures output.old)
         (taken O.contents O.failures output.new) result }
@@ -146,8 +143,7 @@ pub fn report<O: Output>(answer: &Answer, output: &mut O) -> u8
     }
 }
 
-/// Prints why a serving of requests ended before its input did, if so, and gives the exit status of the program, also
-/// where this can't be printed.
+/// Prints why serving ended before its input did, if it did. Gives the exit status, even where this can't be printed.
 pub fn report_serving<E: Output>(served: &Result<u64, Refusal>, errors: &mut E) -> u8
     ensures { ReportsServing served.now (taken E.contents E.failures errors.old)
         (taken E.contents E.failures errors.new) result }
@@ -159,7 +155,8 @@ pub fn report_serving<E: Output>(served: &Result<u64, Refusal>, errors: &mut E) 
     status(&Err(*refusal))
 }
 
-// 0 for what is done, 2 for a name or a spec that is refused, 3 where the machine fails, and 1 for every other refusal.
+// 0: done. 2: a bad name or spec. 3: a file or the machine failed, or an input ended inside a message. 1: any other
+// refusal.
 fn status(answer: &Answer) -> u8
     ensures status { result ≡ status_of answer.now }
     ensures refuses { result ≡ 2 → IsOfWord answer.now }

@@ -8,7 +8,7 @@ use crate::random_file::DEFAULT_RANDOM;
 use clap::Arg;
 use std::alloc::Global;
 
-/// A word that has to be given.
+/// A required word.
 pub fn required<'a>(alloc: Global, name: &'a str, help: &'a str) -> Arg<'a>
     ensures rule { rule_of result ≡ required_rule name.now }
     ensures own { result.global ≡ false }
@@ -16,7 +16,7 @@ pub fn required<'a>(alloc: Global, name: &'a str, help: &'a str) -> Arg<'a>
     Arg::new(alloc, name).help(help).required(true)
 }
 
-/// Words of which one at least has to be given.
+/// Words, at least one.
 pub fn several<'a>(alloc: Global, name: &'a str, help: &'a str) -> Arg<'a>
     ensures rule { rule_of result ≡ several_rule name.now }
     ensures own { result.global ≡ false }
@@ -27,7 +27,7 @@ pub fn several<'a>(alloc: Global, name: &'a str, help: &'a str) -> Arg<'a>
         .help(help)
 }
 
-/// An option with a value, which may be left out. The value has this name in help.
+/// An option with a value, which may be left out. Help calls the value `value`.
 pub fn option<'a>(alloc: Global, name: &'a str, value: &'a str, help: &'a str) -> Arg<'a>
     ensures rule { rule_of result ≡ option_rule name.now }
     ensures own { result.global ≡ false }
@@ -38,7 +38,7 @@ pub fn option<'a>(alloc: Global, name: &'a str, value: &'a str, help: &'a str) -
         .help(help)
 }
 
-/// An option with a value, which is this one where the line gives none. The value has this name in help.
+/// An option with a value, which is `default` if the line has none. Help calls the value `value`.
 pub fn option_or<'a>(
     alloc: Global,
     name: &'a str,
@@ -52,7 +52,7 @@ pub fn option_or<'a>(
     option(alloc, name, value, help).default_value(default)
 }
 
-/// `--random FILE`, which is the system's random device where it isn't given.
+/// `--random FILE`; without it, the system's random device.
 pub fn random_file<'a>(alloc: Global) -> Arg<'a>
     ensures rule { rule_of result ≡ random_rule }
     ensures own { result.global ≡ false }

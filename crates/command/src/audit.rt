@@ -24,11 +24,11 @@ use std::alloc::{AllocError, Global};
 pub struct Audit<'a> {
     /// The path of the state file.
     pub state: &'a str,
-    /// How many records the file once had, and the tag of the last of them.
+    /// The number of records that the file once had, and the last one's tag.
     pub anchor: Option<Anchor>,
 }
 
-// The records that a file has at most, 2^31.
+// The greatest number of records in a file, 2^31.
 const MOST_RECORDS: u32 = 2_147_483_648;
 
 impl<'a> Audit<'a> {
@@ -69,7 +69,8 @@ impl<'a> Audit<'a> {
             ))
     }
 
-    /// What the words say.
+    /// The words that `clap` matched. `Count`: K isn't a decimal number up to 2^31. `Tag`: T isn't 64 hex digits.
+    /// `Anchor`: one without the other.
     pub fn of(matches: &ArgMatches<'a>) -> Result<Self, UsageFault>
         ensures { IsAudit (first_value (found_of matches.now) (codes "STATE"))
             (first_value (found_of matches.now) (codes "count")) (first_value (found_of matches.now) (codes "tag"))
@@ -84,7 +85,7 @@ impl<'a> Audit<'a> {
         }
     }
 
-    /// Opens the state file for reading alone, and audits it.
+    /// Audits the state file, opened for reading alone.
     #[inline(never)]
     pub fn answer<D: SignerFolder<'a>>(&self, alloc: Global, folder: &mut D) -> Answer
         ensures { AuditsIn D.Disk.Disk (files_seen (D.content folder.old) D.is_opened (D.is_closed folder.new))
@@ -97,7 +98,6 @@ impl<'a> Audit<'a> {
     }
 }
 
-// What came of an audit, as an answer.
 fn answer_to(audited: Result<Report, Refusal>) -> Answer
     ensures { IsAudited audited result }
 {
@@ -110,7 +110,7 @@ fn answer_to(audited: Result<Report, Refusal>) -> Answer
     }
 }
 
-// The anchor of the texts of a count and a tag: both are given, or neither is.
+// Both texts, or neither.
 fn anchor_of(count: Option<&str>, tag: Option<&str>) -> Result<Option<Anchor>, UsageFault>
     ensures { result ≡ anchor_in (option_map (λ text. text.now) count.entry) (option_map (λ text. text.now) tag.entry) }
 {
@@ -121,7 +121,6 @@ fn anchor_of(count: Option<&str>, tag: Option<&str>) -> Result<Option<Anchor>, U
     }
 }
 
-// The anchor that the texts of a count and a tag spell.
 fn read_anchor(count: &str, tag: &str) -> Result<Option<Anchor>, UsageFault>
     ensures { result ≡ anchor_in (Some count.now) (Some tag.now) }
 {
@@ -134,7 +133,7 @@ fn read_anchor(count: &str, tag: &str) -> Result<Option<Anchor>, UsageFault>
     }
 }
 
-// The tag that a text spells, by 64 hex digits.
+// From 64 hex digits.
 fn read_tag(text: &str) -> Option<[u8; 32]>
     ensures { result ≡ tag_in text.now }
 {

@@ -65,7 +65,7 @@ impl<'a> AuditGiven<'a> {
             ))
     }
 
-    /// What the words say. Memory is wanted for the paths.
+    /// The words that `clap` matched. `Pairs`: a message has no signature. The list of paths takes memory.
     pub fn of(
         alloc: Global,
         matches: &ArgMatches<'a>,
@@ -87,8 +87,8 @@ impl<'a> AuditGiven<'a> {
 
     /// Reads the files, and checks the signatures.
     ///
-    /// 46 comes after a byte at least was read; that memory was refused then is tested. Of a longer signature's file
-    /// the first 74,989 bytes decide, whichever follow (`AnswersWhole`).
+    /// 46 comes only after a byte was read; that memory was refused then is tested. Only the first 74,989 bytes of a
+    /// signature's file decide (`AnswersWhole`).
     #[inline(never)]
     pub fn answer<D: LineFiles<'a>>(&self, alloc: Global, folder: &mut D) -> Answer
         ensures { ChecksIn (D.content folder.old) self.now.public.now (pairs_of self.now) result (D.trace folder.old)
@@ -99,7 +99,7 @@ impl<'a> AuditGiven<'a> {
     }
 }
 
-// The pairs of paths, where these are an even number.
+// None if the number of paths is odd.
 fn pair_paths<'a>(
     alloc: Global,
     paths: &[&'a str],
@@ -120,7 +120,6 @@ fn pair_paths<'a>(
     Ok(Some(files))
 }
 
-// Reads the pairs, and checks them under the key.
 fn judge_pairs<'a, D: LineFiles<'a>>(
     alloc: Global,
     folder: &mut D,
@@ -134,7 +133,6 @@ fn judge_pairs<'a, D: LineFiles<'a>>(
     judge_given(alloc, key, given.as_slice())
 }
 
-// Checks signatures that were read under the key.
 fn judge_given(alloc: Global, key: Result<AnyPublic, KeyFault>, given: &[Given]) -> Answer
     ensures { AnswersGiven key given.now result }
 {
@@ -145,7 +143,6 @@ fn judge_given(alloc: Global, key: Result<AnyPublic, KeyFault>, given: &[Given])
     }
 }
 
-// Reads pairs one after the other.
 fn read_pairs<'a, D: LineFiles<'a>>(
     alloc: Global,
     folder: &mut D,
@@ -167,7 +164,6 @@ fn read_pairs<'a, D: LineFiles<'a>>(
     Ok(given)
 }
 
-// Reads a message and its signature.
 fn read_pair<'a, D: LineFiles<'a>>(
     alloc: Global,
     folder: &mut D,

@@ -12,35 +12,35 @@ use std::io;
 use std::io::ErrorKind;
 use typecodes::{Count, Message, Sink, read_full, write_all};
 
-/// A file that is read and written at offsets. Each method makes one call of the system, and notes what this did. To
-/// read an open gate of a file that isn't locked may take a second call, for the length: one that was opened since the
-/// last time this was asked reads as closed.
+/// A file read and written at offsets. Each method makes one call of the system, and notes it. Reading an open gate of
+/// a file that isn't locked may take a second call, for the length: a gate opened since the length was last asked reads
+/// as closed.
 pub trait OffsetFile {
     // what happened to it, in order
     ghost trace: { Self → List Happening };
 
-    /// How many bytes it has.
+    /// Its length in bytes.
     fn len(&mut self) -> io::Result<u64>
         ensures { trace self.new ≡ trace self.old ++ measured (kept result) ∷ [] };
 
-    /// Reads into the buffer from the offset `at` on, as `Read::read` does.
+    /// Reads into the buffer from offset `at` on, as `Read::read` does.
     fn read_at(&mut self, at: u64, into: &mut [u8]) -> io::Result<usize>
         ensures bound { ReadsAtMost result into.new }
         ensures trace { trace self.new ≡ trace self.old
             ++ read_at at (length into.old) (read_outcome result into.new) ∷ [] };
 
-    /// Writes some of the first of these bytes from the offset `at` on, as `Write::write` does.
+    /// Writes a beginning of these bytes at offset `at`, as `Write::write` does.
     fn write_at(&mut self, at: u64, bytes: &[u8]) -> io::Result<usize>
         ensures bound { WritesAtMost result bytes.now }
         ensures trace { trace self.new ≡ trace self.old
             ++ written_at at bytes.now (read_outcome result bytes.now) ∷ [] };
 
-    /// Brings all that was written, and the length, to what keeps them.
+    /// Syncs the content and the length.
     fn sync(&mut self) -> io::Result<()>
         ensures { trace self.new ≡ trace self.old ++ synced (kept result) ∷ [] };
 }
 
-/// The answer, of whose error the kind alone is kept.
+/// The answer, with only the kind of its error.
 pub fn kind_kept<T: Copy>(answer: &io::Result<T>) -> Result<T, ErrorKind>
     ensures { result ≡ kept answer.now }
 {
@@ -50,7 +50,7 @@ pub fn kind_kept<T: Copy>(answer: &io::Result<T>) -> Result<T, ErrorKind>
     }
 }
 
-// A file from an offset on, where each call goes on at the next offset.
+// A file from an offset on; each call begins where the last one ended.
 #[derive(Drop)]
 struct AtOffset<'a, F> {
     file: &'a mut F,
@@ -87,7 +87,6 @@ impl<F: OffsetFile> Sink for AtOffset<'_, F> {
     }
 }
 
-// Reads at the offset `at` until the buffer is full.
 fn fill_at<F: OffsetFile>(file: &mut F, at: u64, into: &mut [u8]) -> Result<(), DiskFault>
     ensures { ReadsAt at into.new result (F.trace file.old) (F.trace file.new) }
 {
@@ -104,7 +103,6 @@ fn fill_at<F: OffsetFile>(file: &mut F, at: u64, into: &mut [u8]) -> Result<(), 
     }
 }
 
-// Writes the bytes at the offset `at` until all of them are written.
 fn write_all_at<F: OffsetFile>(file: &mut F, at: u64, bytes: &[u8]) -> Result<(), DiskFault>
     ensures { WritesAt at bytes.now result (F.trace file.old) (F.trace file.new) }
 {
@@ -117,8 +115,8 @@ fn write_all_at<F: OffsetFile>(file: &mut F, at: u64, bytes: &[u8]) -> Result<()
     }
 }
 
-/// A disk over a file of the machine. That what is synced stays, and what else an honest disk promises, can't be known
-/// of such a file, so that no contract says it: what is said is which calls are made.
+/// A disk over a file of the machine. Contracts say which calls are made. That it is honest, so that synced bytes stay,
+/// can't be known of such a file, and no contract says it.
 #[derive(Drop)]
 pub struct FileDisk<F> {
     file: F,
@@ -129,7 +127,7 @@ pub struct FileDisk<F> {
 impl<F: OffsetFile> FileDisk<F> {
     ghost use Rattle.command.specs.FileDisk.{failures_of, file_of, past_ends_of};
 
-    /// The disk over this file, which has refused nothing yet.
+    /// The disk over this file; it has refused nothing yet.
     pub fn new(file: F) -> Self
         ensures file { file_of result ≡ file }
         ensures failures { failures_of result ≡ 0 }
@@ -143,7 +141,7 @@ impl<F: OffsetFile> FileDisk<F> {
     }
 }
 
-// The answer, which is counted where it is a refusal.
+// Returns the answer, and counts a refusal.
 fn counted_refusal<T>(
     answer: Result<T, DiskFault>,
     failures: &mut Count,

@@ -9,7 +9,7 @@ use std::fs::Metadata;
 use std::marker::Model;
 use std::os::unix::fs::MetadataExt;
 
-/// A file of the machine, by its device and its number there. Each path to the file and each link to it has the same.
+/// A file of the machine, by its device and its inode there. All paths and links to it have the same.
 #[derive(Clone, Copy, Debug, PartialEq, Eq)]
 pub struct FileId {
     device: u64,
@@ -17,7 +17,7 @@ pub struct FileId {
 }
 
 impl FileId {
-    /// That of the file with this metadata.
+    /// The file with this metadata.
     pub fn of(metadata: &Metadata) -> Self {
         FileId {
             device: metadata.dev(),
@@ -26,14 +26,12 @@ impl FileId {
     }
 }
 
-/// The files that are never written over: those that were opened, the last one in each role, the standard output and
-/// the standard error.
+/// The files that are never overwritten: the last one opened in each role, standard output and standard error.
 #[derive(Drop)]
 pub struct KeptFiles {
     ids: [Option<FileId>; 7],
 }
 
-// Contracts see the list.
 impl Model for KeptFiles {
     ghost use Rattle.std.specs.Prelude.{List, Option};
     ghost use Rattle.command.specs.declared.file_id.FileId.{FileId};
@@ -44,7 +42,7 @@ impl Model for KeptFiles {
 }
 
 impl KeptFiles {
-    /// No file was opened, and these are the standard output and the standard error, where that is known.
+    /// With no opened file; `output` and `errors` are the standard streams, if known.
     pub fn new(output: Option<FileId>, errors: Option<FileId>) -> Self
         ensures { result ≡ replicate 5 None ++ output ∷ errors ∷ [] }
     {
@@ -53,7 +51,7 @@ impl KeptFiles {
         }
     }
 
-    /// Notes that this file was opened in this role.
+    /// Notes that this file was opened in this role, in place of an earlier one.
     pub fn note(&mut self, role: Role, id: FileId)
         ensures { self.new ≡ slice_set self.old (index_of role) (Some id) }
     {
@@ -67,7 +65,7 @@ impl KeptFiles {
         self.ids[index] = Some(id);
     }
 
-    /// Whether this file is one of them.
+    /// Whether this file is in the list.
     pub fn contains(&self, id: FileId) -> bool
         ensures { result ≡ list_any (λ kept. ⟦<Option<FileId> as PartialEq>⟧.eq kept (Some id)) self.now }
     {

@@ -27,10 +27,9 @@ use typecodes::{Message, PIECE, PieceTaker, ReadError, read_full, read_to_end};
 
 /// A file that was opened.
 pub trait OpenFile {
-    // which of the command's files it is
     ghost role: { Self → FileRole };
 
-    // the bytes that reads will give from here on, where they are known
+    // the bytes that reads will give, where they are known
     ghost remaining: { Self → Option (List ℕ) };
 }
 
@@ -53,9 +52,9 @@ pub trait Folder: Traced {
         ensures content { KeepsContents (content self.old) (content self.new) };
 }
 
-/// Where the files that a line names are opened. The line outlives what is opened, which may keep its path.
+/// Where a line's files are opened. The line outlives them, so they may keep its paths.
 pub trait LineFiles<'a>: Folder {
-    /// Opens the file at this very path for reading.
+    /// Opens the file at exactly this path for reading.
     fn open(&mut self, role: Role, path: &'a str) -> Result<Self::File, Refusal>
         ensures trace { Self.trace self.new ≡ Self.trace self.old ++ opening role path.now result ∷ [] }
         ensures content { KeepsContents (Self.content self.old) (Self.content self.new) }
@@ -67,24 +66,23 @@ pub trait LineFiles<'a>: Folder {
 
 /// Where files are written.
 pub trait Outlet: Traced {
-    /// Writes these bytes to the file at this very path, which is made where there is none, in place of what it has. It
-    /// isn't written where it is one of the files that were opened here, or has a key. All of this is judged on the
-    /// open file, and only then is it cut.
+    /// Replaces the content of the file at exactly this path, which is made if there is none. A file that was opened
+    /// here, or that has a key, isn't written (53). All of this is judged on the open file, which is cut only then.
     fn write(&mut self, role: Role, path: &str, bytes: &[u8]) -> Result<(), Refusal>
         ensures trace { Self.trace self.new ≡ Self.trace self.old ++ writing role path.now bytes.now result ∷ [] }
         ensures err { IfErr result (λ refusal. refusal ≡ Refusal.FileFailed) };
 }
 
-/// What a state file that is opened or made is to take.
+/// What a state file that is opened or made will hold.
 #[derive(Clone, Copy, Debug, PartialEq, Eq)]
 pub enum NewContent {
-    /// A key that is made: in place of fewer bytes than a key has, or of as many whose first gate is closed.
+    /// A new key: in place of under 257 bytes, or of 257 with a closed first gate.
     Key,
-    /// The records of another file: in place of whatever has no open first gate.
+    /// Another file's records: in place of anything without an open first gate.
     Records,
 }
 
-/// Where the commands of a signer have their files.
+/// Where a signer's commands open and write their files.
 pub trait SignerFolder<'a>: LineFiles<'a> + Outlet {
     /// The disk over a state file.
     type Disk: Disk + Drop;
@@ -92,40 +90,38 @@ pub trait SignerFolder<'a>: LineFiles<'a> + Outlet {
     /// The source over a file of random bytes.
     type Random: Source + Drop;
 
-    // this is a disk as opening the state file at a path gives it
+    // opening the state file at this path may give this disk
     ghost is_opened: { List ℕ → Self.Disk → Type 0 };
 
-    // a state file that was closed had this disk
+    // a state file with this disk was closed
     ghost is_closed: { Self → Self.Disk → Type 0 };
 
-    /// Opens the state file at this very path for reading and writing, and locks it without waiting. It is a regular
-    /// file, and is never made.
+    /// Opens the state file at exactly this path for reading and writing, and locks it without waiting. It must be a
+    /// regular file, and is never made.
     ///
-    /// A state file that is locked leaves another trace than one that can't be opened. So neither of 54 and 53 can be
-    /// reported for the other.
+    /// 54: it is locked. 53: it can't be opened. Each leaves its own trace, so neither can be reported for the other.
     fn open_state(&mut self, path: &'a str) -> Result<Self::Disk, Refusal>
         ensures trace { Self.trace self.new ≡ Self.trace self.old ++ opening_state path.now result ∷ [] }
         ensures content { KeepsContents (Self.content self.old) (Self.content self.new) }
         ensures opened { IfOk result (is_opened path.now) }
         ensures err { IfErr result IsStateRefusal };
 
-    /// The same, but that it is opened for reading alone: its disk refuses each write.
+    /// As `open_state`, for reading alone: its disk refuses each write.
     fn open_state_to_read(&mut self, path: &'a str) -> Result<Self::Disk, Refusal>
         ensures trace { Self.trace self.new ≡ Self.trace self.old ++ opening_state_to_read path.now result ∷ [] }
         ensures content { KeepsContents (Self.content self.old) (Self.content self.new) }
         ensures opened { IfOk result (is_opened path.now) }
         ensures err { IfErr result IsStateRefusal };
 
-    /// The same, but that it isn't locked either: another process may write to it meanwhile.
+    /// As `open_state_to_read`, without the lock: another process may write to it meanwhile.
     fn open_state_unlocked(&mut self, path: &'a str) -> Result<Self::Disk, Refusal>
         ensures trace { Self.trace self.new ≡ Self.trace self.old ++ opening_unlocked path.now result ∷ [] }
         ensures content { KeepsContents (Self.content self.old) (Self.content self.new) }
         ensures opened { IfOk result (is_opened path.now) }
         ensures err { IfErr result (λ refusal. refusal ≡ Refusal.FileFailed) };
 
-    /// Opens the state file for reading and writing as `open_state` does, and makes it where there is none. A file that
-    /// may take the new content is one that its owner alone may read and write, and its name stays: its folder is
-    /// synced.
+    /// As `open_state`, but makes the file if there is none. Only its owner may read and write a file that may take the
+    /// new content. Its folder is synced, so that its name survives a crash.
     fn open_or_make_state(
         &mut self,
         path: &'a str,
@@ -136,14 +132,14 @@ pub trait SignerFolder<'a>: LineFiles<'a> + Outlet {
         ensures opened { IfOk result (is_opened path.now) }
         ensures err { IfErr result IsStateRefusal };
 
-    /// Closes a state file, which frees its lock, if it is locked. Of a file of the machine `is_closed` says nothing
-    /// (`Machine`). That files of `audit-given` are closed isn't said.
+    /// Closes a state file, which frees its lock, if it has one. `is_closed` says nothing of the files of a `Machine`.
+    /// Nothing says that the files of `audit-given` are closed.
     fn close_state(&mut self, disk: Self::Disk)
         ensures trace { Self.trace self.new ≡ Self.trace self.old }
         ensures closed { is_closed self.new disk }
         ensures stays { (other : Self.Disk) → is_closed self.old other → is_closed self.new other };
 
-    /// Opens the file of random bytes at this very path. The source gives its bytes from the first on.
+    /// Opens the file of random bytes at exactly this path. The source gives its bytes from the first on.
     fn open_random(&mut self, path: &'a str) -> Result<Self::Random, Refusal>
         ensures trace { Self.trace self.new ≡ Self.trace self.old ++ opening Role.Random path.now result ∷ [] }
         ensures content { KeepsContents (Self.content self.old) (Self.content self.new) }
@@ -152,7 +148,7 @@ pub trait SignerFolder<'a>: LineFiles<'a> + Outlet {
         ensures err { IfErr result (λ refusal. refusal ≡ Refusal.FileFailed) };
 }
 
-/// An opened file of a folder, as a message, which is read in pieces.
+/// An opened file of a folder, as a message that is read in pieces.
 #[derive(Drop)]
 pub struct FileReader<'a, D, F> {
     pub folder: &'a mut D,
@@ -162,7 +158,7 @@ pub struct FileReader<'a, D, F> {
 impl<D: Folder> Message for FileReader<'_, D, D::File> {
     ghost remaining = { λ reader. D.File.remaining reader.file.now };
 
-    // A read is the file's, and the folder notes it and has the contents that it had.
+    // A read is the file's; the folder notes it, and its contents stay.
     ghost transition = { λ old outcome new. (new.folder.ghost_name ≡ old.folder.ghost_name)
         × (new.file.ghost_name ≡ old.file.ghost_name)
         × (D.File.role new.file.now ≡ D.File.role old.file.now)
@@ -174,15 +170,15 @@ impl<D: Folder> Message for FileReader<'_, D, D::File> {
     }
 }
 
-/// As many bytes as decide of a signature: one more than the greatest has, which is of eight levels of
-/// H25/W1. How much of a file is kept in memory is tested.
+/// How many first bytes of a signature decide: one more than the largest has, of eight levels of H25/W1. How much of a
+/// file is held in memory is tested.
 pub const DECISIVE: usize = 74_989;
 
-// How many of these follow a piece.
+// The decisive bytes after the first piece.
 const AFTER_A_PIECE: usize = DECISIVE - PIECE;
 
-/// Reads a public key's file to its end, and gives the key that its bytes spell, or why they spell none. It keeps
-/// 69 bytes, one more than any key has, and counts the others.
+/// Reads a public key's file to its end, and decodes the key. It holds 69 bytes, one more than any key has, and counts
+/// the rest.
 pub fn read_key<D: Folder>(
     folder: &mut D,
     file: &mut D::File,
@@ -200,7 +196,7 @@ pub fn read_key<D: Folder>(
     Ok(Err(KeyFault::Length(length)))
 }
 
-/// Opens a public key's file and reads it to its end, as `read_key` does.
+/// Opens a public key's file and reads it as `read_key` does.
 pub fn read_key_file<'a, D: LineFiles<'a>>(
     folder: &mut D,
     role: Role,
@@ -216,7 +212,7 @@ pub fn read_key_file<'a, D: LineFiles<'a>>(
     Ok(read_key(folder, &mut file)?)
 }
 
-/// Opens a file and reads it to its end. Its bytes are kept.
+/// Opens a file and reads all of it into memory.
 pub fn read_file<'a, D: LineFiles<'a>>(
     alloc: Global,
     folder: &mut D,
@@ -233,8 +229,7 @@ pub fn read_file<'a, D: LineFiles<'a>>(
     read_all(alloc, folder, &mut file)
 }
 
-/// Opens a signature's file and reads it to its end, or as far as its first bytes decide: see `DECISIVE`. These are
-/// kept.
+/// Opens a signature's file and reads its first bytes into memory, at most `DECISIVE`.
 pub fn read_signature_file<'a, D: LineFiles<'a>>(
     alloc: Global,
     folder: &mut D,
@@ -251,7 +246,6 @@ pub fn read_signature_file<'a, D: LineFiles<'a>>(
     read_start(alloc, folder, &mut file)
 }
 
-// Reads a file to its end, and keeps its bytes.
 fn read_all<D: Folder>(
     alloc: Global,
     folder: &mut D,
@@ -274,8 +268,7 @@ fn read_all<D: Folder>(
     }
 }
 
-// Reads the first bytes of a signature's file, as many as decide, and keeps them. Nearly every signature is shorter
-// than a piece: room for the others is made only where the file goes on after one.
+// Nearly every signature is shorter than a piece. Memory for more is taken only where the file goes on.
 fn read_start<D: Folder>(
     alloc: Global,
     folder: &mut D,
@@ -296,8 +289,7 @@ fn read_start<D: Folder>(
     Ok(bytes)
 }
 
-// Reads until a piece of N bytes is full or the file ends, and keeps the bytes after those that are kept already. Gives
-// how many these are.
+// Reads N bytes, or fewer at the file's end, and appends them. Gives how many.
 fn read_piece<D: Folder, const N: usize>(
     folder: &mut D,
     file: &mut D::File,
@@ -321,7 +313,7 @@ fn read_piece<D: Folder, const N: usize>(
     Ok(n)
 }
 
-// Keeps bytes after those that are kept already. Where there are none, no memory is wanted.
+// Appends bytes. No bytes take no memory.
 fn keep(bytes: &mut Vec<u8>, more: &[u8]) -> Result<(), AllocError>
     ensures kept { IfOk result (λ _. bytes.new.items ≡ bytes.old.items ++ more.now) }
     ensures refused { IfErr result (λ _. 1 ≤ length more.now) }
@@ -332,7 +324,7 @@ fn keep(bytes: &mut Vec<u8>, more: &[u8]) -> Result<(), AllocError>
     bytes.extend_from_slice(more)
 }
 
-// What keeps the bytes of a file that is read.
+// Keeps a file's bytes.
 #[derive(Drop)]
 struct Kept {
     bytes: Vec<u8>,
@@ -357,7 +349,7 @@ impl PieceTaker for Kept {
         more ∙ ap (λ l. l ++ later) one ∙ append_assoc old.bytes.items first later };
 }
 
-// What counts the bytes of a file that is read, and keeps none. A count that doesn't fit is never given.
+// Counts a file's bytes. A count that doesn't fit is never given.
 #[derive(Drop)]
 struct Counted {
     bytes: usize,
@@ -383,7 +375,6 @@ impl PieceTaker for Counted {
         counts_more old.bytes middle.bytes new.bytes first later one more };
 }
 
-// Counts the bytes that are left.
 fn count_rest<D: Folder>(folder: &mut D, file: &mut D::File) -> io::Result<usize>
     ensures counts { ReadsAllOrFails (D.File.role file.old) (D.File.remaining file.old) (λ rest n. n ≡ length rest)
         result (D.trace folder.old) (D.trace folder.new) }
@@ -399,7 +390,6 @@ fn count_rest<D: Folder>(folder: &mut D, file: &mut D::File) -> io::Result<usize
     }
 }
 
-// Reads what is left of a file, and hands on each piece.
 fn read_rest<D: Folder, T: PieceTaker>(
     folder: &mut D,
     file: &mut D::File,
@@ -413,7 +403,7 @@ fn read_rest<D: Folder, T: PieceTaker>(
     read_to_end(&mut FileReader { folder, file }, taker)
 }
 
-/// Reads until the buffer is full or the file ends, and gives how many bytes that were.
+/// Reads until the buffer is full or the file ends, and gives the number of bytes.
 pub fn fill<D: Folder>(folder: &mut D, file: &mut D::File, buffer: &mut [u8]) -> io::Result<usize>
     ensures within { IfOk result (λ n. n ≤ length buffer.new) }
     ensures bytes { IfOk result (λ n.

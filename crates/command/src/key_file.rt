@@ -1,4 +1,4 @@
-//! The signer of a key over the disk of its state file, and what the commands do with it.
+//! What the commands do with a key on the disk of its state file.
 
 ghost use Rattle.std.specs.Prelude.{◌≡◌, vec_capacity};
 ghost use Rattle.state_file.specs.FileStore.{disk_of};
@@ -64,8 +64,8 @@ pub fn retire<D: Disk + Drop>(alloc: Global, disk: D, upto: u32) -> (D, Result<(
     }
 }
 
-/// Makes a key of a version on a disk that has none, and gives the signer of it. A refusal hands the disk back. The
-/// progress is told of the tree that is made.
+/// Makes a key on a disk that has none, and gives its signer. A refusal hands the disk back. `progress` is told of the
+/// tree that is made.
 pub fn make<D: Disk + Drop, R: Source + Drop, P: TreeProgress>(
     alloc: Global,
     disk: D,
@@ -88,7 +88,7 @@ pub fn make<D: Disk + Drop, R: Source + Drop, P: TreeProgress>(
     }
 }
 
-// Signs a message under a name. On Ok `signature` has the signature.
+// On Ok `signature` has the signature.
 fn sign_with<S: Store, R: Source, M: Message, P: TreeProgress>(
     signer: &mut Signer<S, R>,
     name: &Name,
@@ -106,7 +106,7 @@ fn sign_with<S: Store, R: Source, M: Message, P: TreeProgress>(
 }
 
 /// Signs a message under a name with the key on a disk, and gives the disk back. On Ok `signature` has the signature.
-/// The progress is told of the trees that are made.
+/// `progress` is told of the trees that are made.
 pub fn sign<D: Disk + Drop, R: Source + Drop, M: Message, P: TreeProgress>(
     alloc: Global,
     disk: D,
@@ -129,8 +129,8 @@ pub fn sign<D: Disk + Drop, R: Source + Drop, M: Message, P: TreeProgress>(
     }
 }
 
-/// Serves the requests of an input with the key on a disk, each by a reply on the output, up to the input's end, and
-/// gives the disk back. The progress is told of the trees that are made.
+/// Answers each request of the input by a reply on the output, with the key on a disk, up to the input's end. Gives the
+/// disk back, and the number of replies. `progress` is told of the trees that are made.
 pub fn serve<D: Disk + Drop, R: Source + Drop, I: Message, W: Write, P: TreeProgress>(
     alloc: Global,
     disk: D,
@@ -152,7 +152,6 @@ pub fn serve<D: Disk + Drop, R: Source + Drop, I: Message, W: Write, P: TreeProg
     }
 }
 
-// What a serving ends with, as it is reported.
 fn serve_reported(served: Result<u64, ServeFault>) -> Result<u64, Refusal>
     ensures { result ≡ serve_reported served }
 {
@@ -194,7 +193,6 @@ pub fn list<D: Disk + Drop>(alloc: Global, disk: D) -> (D, Result<Listing, Refus
     }
 }
 
-// What an audit or a listing answers, as it is reported.
 fn reported<T>(audited: Result<T, AuditFault>) -> Result<T, Refusal>
     ensures { result ≡ audit_reported audited }
 {
@@ -204,7 +202,7 @@ fn reported<T>(audited: Result<T, AuditFault>) -> Result<T, Refusal>
     }
 }
 
-/// Migrates the records of a key from the old disk to the new one, and gives both back, with how many the new one has.
+/// Migrates a key's records from the old disk to the new one. Gives both back, and the new one's number of records.
 pub fn migrate<D: Disk + Drop>(alloc: Global, old: D, new: D) -> (D, D, Result<u32, Refusal>)
     ensures { MigratesOn D.Disk old new result.0 result.1 result.2 }
 {
@@ -212,7 +210,6 @@ pub fn migrate<D: Disk + Drop>(alloc: Global, old: D, new: D) -> (D, D, Result<u
     (old, new, migrate_reported(migrated))
 }
 
-// What a migration answers, as it is reported.
 fn migrate_reported(migrated: Result<u32, MigrateFault>) -> Result<u32, Refusal>
     ensures { result ≡ migrate_reported migrated }
 {

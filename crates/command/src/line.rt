@@ -62,10 +62,10 @@ impl<'a> Request<'a> {
     ghost use Rattle.command.specs.Program.{RefusesWord, ReportsTask};
     ghost use Rattle.command.specs.Streams.{output_seen, streams, taken};
 
-    /// Does what is requested, reports what came of it, and gives the exit status of the program. The progress is told
-    /// of the trees that are made.
+    /// Does what is requested, reports the answer, and gives the exit status. `progress` is told of the trees that are
+    /// made.
     ///
-    /// No command is inlined here: else the stack of each would hold the buffers of all.
+    /// No command is inlined: each stack frame would otherwise hold the buffers of all.
     pub fn fulfil<D: SignerFolder<'a>, I: Message, O: Output, E: Output, P: TreeProgress>(
         &self,
         alloc: Global,
@@ -105,27 +105,26 @@ impl<'a> Request<'a> {
     }
 }
 
-/// Why words in which `clap` finds nothing wrong request nothing.
+/// Why words that `clap` accepts request nothing.
 #[derive(Clone, Copy, Debug, PartialEq, Eq)]
 pub enum UsageFault {
-    /// No command was given.
+    /// No command.
     Command,
-    /// UPTO is no decimal number, or too great a one.
+    /// UPTO isn't a decimal number up to 2^25.
     Number,
     /// N of `--format` isn't 1 or 2.
     Format,
-    /// K of `--count` is no decimal number, or too great a one.
+    /// K of `--count` isn't a decimal number up to 2^31.
     Count,
     /// T of `--tag` isn't 64 hex digits.
     Tag,
-    /// One of `--count` and `--tag` was given without the other.
+    /// Only one of `--count` and `--tag`.
     Anchor,
-    /// A message was given without a signature.
+    /// A message without a signature.
     Pairs,
 }
 
 impl UsageFault {
-    // The kind of error that it is.
     fn kind(self) -> ErrorKind
         ensures { result ≡ usage_kind self }
     {
@@ -139,7 +138,7 @@ impl UsageFault {
         }
     }
 
-    // The command whose usage is shown with it.
+    // The command whose usage is shown.
     fn command<'a>(self, alloc: Global) -> Result<Command<'a>, AllocError> {
         match self {
             UsageFault::Command => hbsign(alloc),
@@ -152,7 +151,6 @@ impl UsageFault {
         }
     }
 
-    // What is said of it.
     fn message(self) -> &'static str {
         match self {
             UsageFault::Command => "no command was given",
@@ -166,20 +164,19 @@ impl UsageFault {
     }
 }
 
-/// The program's version, by contract that of `specs/Program.antt`. Manual and packages take it from `--version`.
+/// The program's version, which `specs/Program.antt` repeats. Manual and packages take it from `--version`.
 pub const VERSION: &str = "0.2.0";
 
-/// What reads lines, and counts how often it is refused memory.
+/// A reader of lines, which counts how often memory was refused.
 pub trait LineReader {
-    // how often memory was refused
     ghost refusals: { Self → ℕ };
 
-    /// Reads the words of a line, without the program's name. The fault is one that `clap` gives for these words, or a
-    /// usage fault, or there is no memory.
+    /// Reads the words of a line, without the program's name. A fault is one that `clap` gives for these words, a usage
+    /// fault, or refused memory (46).
     ///
-    /// No contract says that `clap` answers 46 only where it was refused memory itself, nor does one of the list of
-    /// files of `audit-given`. Which words a line with options has, and where these stand, is said by the specification
-    /// of `clap` alone. `help` before another word may be refused, or answered with help.
+    /// No contract says that 46 comes only where `clap`, or the list of `audit-given`'s files, was refused memory. The
+    /// specification of `clap` alone says which words options take, and where these may stand. `help` before another
+    /// word may be refused, or answered with help.
     fn read<'a, S: AsStr>(&mut self, words: &'a [S]) -> Result<Request<'a>, LineFault>
         ensures requests { (task : LineTask) → IsLineOf (map S.text words.now) task
             → MatchResult result (λ request. task_of request ≡ task) (λ fault. fault ≡ LineFault.OutOfMemory) }
@@ -195,7 +192,7 @@ pub trait LineReader {
         ensures counts { CountsRefusals result (refusals self.old) (refusals self.new) };
 }
 
-/// Reads lines as `clap` does.
+/// Reads lines with `clap`.
 #[derive(Drop)]
 pub struct ClapReader {
     alloc: Global,
@@ -224,7 +221,7 @@ impl LineReader for ClapReader {
     ghost refusals = { refusals_of };
 
     fn read<'a, S: AsStr>(&mut self, words: &'a [S]) -> Result<Request<'a>, LineFault> {
-        // Only the proof needs this use: it says how many words there are at most.
+        // For the prover: this use bounds the number of words.
         let _ = words.len();
         match read(self.alloc, words) {
             Ok(request) => Ok(request),
@@ -237,7 +234,6 @@ impl LineReader for ClapReader {
     }
 }
 
-// Reads the words of a line.
 fn read<'a, S: AsStr>(alloc: Global, words: &'a [S]) -> Result<Request<'a>, Error>
     ensures ok { IfOk result (λ _. fault_of hbsign_app (map S.text words.now) ≡ []) }
     ensures found { IfOk result (λ request.
@@ -255,7 +251,7 @@ fn read<'a, S: AsStr>(alloc: Global, words: &'a [S]) -> Result<Request<'a>, Erro
     }
 }
 
-// The program's commands.
+// The program with its commands, for `clap`.
 fn hbsign<'a>(alloc: Global) -> Result<Command<'a>, AllocError>
     ensures { IfOk result (λ command. app_of command ≡ hbsign_app) }
 {
@@ -272,7 +268,7 @@ fn hbsign<'a>(alloc: Global) -> Result<Command<'a>, AllocError>
         .subcommand(Public::command(alloc)?)
 }
 
-// The program, before its commands.
+// Without the commands.
 fn bare_hbsign<'a>(alloc: Global) -> Result<Command<'a>, AllocError>
     ensures { IfOk result (λ command. app_of command ≡ bare_app) }
 {
@@ -295,7 +291,7 @@ fn bare_hbsign<'a>(alloc: Global) -> Result<Command<'a>, AllocError>
     )
 }
 
-// The request: the subcommand that was used, with its words. Memory is wanted for the files of `audit-given`.
+// The request of the subcommand that was used. Only `audit-given` takes memory, for its list of files.
 fn find_request<'a>(
     alloc: Global,
     matches: &ArgMatches<'a>,
@@ -314,7 +310,7 @@ fn find_request<'a>(
     }
 }
 
-// The request of a subcommand that has as many values on each line, with its words.
+// The request of a subcommand with a fixed number of values.
 fn find_fixed_request<'a>(name: &str, words: &ArgMatches<'a>) -> Result<Request<'a>, UsageFault>
     ensures { task_or_fault result ≡ fixed_task_named name.now (rows_of (found_of words.now)) }
 {

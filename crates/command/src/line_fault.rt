@@ -14,28 +14,26 @@ use std::alloc::AllocError;
 /// Why a line gives no request.
 #[derive(Debug, Drop)]
 pub enum LineFault {
-    /// Help was requested. No line of its text can be taken for an answer's.
+    /// Help was requested. No line of its text can be taken for an answer: none begins with a letter from a to z.
     Help(String),
     /// The version was requested.
     Version,
     /// The line is wrong. The text says how, and isn't empty.
     Refused(String),
-    /// There is no memory.
+    /// Memory was refused.
     OutOfMemory,
 }
 
-// How the program is called.
 const USAGE: &str = "Usage: hbsign <COMMAND>\n";
 
-// What is said of a line of which nothing else is said.
+// For a wrong line, if `clap` gives no text.
 const REFUSED_LINE: &str = "error: this line can't be read\n";
 
 impl LineFault {
-    /// The fault of a line for which `clap` gives this error, which isn't that there is no memory; or that there is
-    /// none for its text.
+    /// The fault for an error of `clap` other than refused memory; `OutOfMemory` if there is no memory for its text.
     ///
-    /// Which text this is, is tested. A text of help that has the form is kept as it is, and only another one is
-    /// replaced (`help_or_usage`). A text of a refusal that isn't empty is kept, too (`text_or_refusal`).
+    /// Which text `clap` makes is tested. Help is replaced only if it could be taken for an answer (`help_or_usage`),
+    /// and a refusal only if it is empty (`text_or_refusal`).
     pub fn of<T: TextMaker>(texts: &mut T, error: &Error) -> LineFault
         requires { kind_of error.now ≢ ErrorKind.OutOfMemory }
         ensures kind { (result ≡ LineFault.OutOfMemory) ⊎ IsFaultOf result (kind_of error.now) }
@@ -48,7 +46,7 @@ impl LineFault {
         }
     }
 
-    // The same, with the text that `clap` makes for the error.
+    // As `of`, but refused memory is an error.
     fn with_text<T: TextMaker>(texts: &mut T, error: &Error) -> Result<LineFault, AllocError>
         requires { kind_of error.now ≢ ErrorKind.OutOfMemory }
         ensures kind { IfOk result (λ fault. IsFaultOf fault (kind_of error.now)) }
@@ -69,7 +67,7 @@ impl LineFault {
     }
 }
 
-// The text, or one that no answer's line can be taken for.
+// The usage in place of a text that could be taken for an answer.
 #[tactic(auto, unfolding(crate::specs::LineFault::has_lowercase_line))]
 fn help_or_usage<T: TextMaker>(texts: &mut T, text: String) -> Result<String, AllocError>
     ensures help { IfOk result (λ help. IsHelp (string_bytes help)) }
@@ -83,14 +81,13 @@ fn help_or_usage<T: TextMaker>(texts: &mut T, text: String) -> Result<String, Al
     }
 }
 
-// Whether a text begins with a capital letter.
 fn begins_with_capital(text: &str) -> bool
     ensures { IsTrue result ↔ BeginsWithCapital text.now }
 {
     matches!(text.as_bytes().first(), Some(b'A'..=b'Z'))
 }
 
-// Whether a line of a text begins with a letter from a to z.
+// Whether any line begins with a letter from a to z.
 fn has_lowercase_line(text: &[u8]) -> bool
     ensures { result ≡ has_lowercase_line 10 text.now }
 {
@@ -104,7 +101,7 @@ fn has_lowercase_line(text: &[u8]) -> bool
     false
 }
 
-// The text, or one that isn't empty.
+// A fixed text in place of an empty one.
 fn text_or_refusal<T: TextMaker>(texts: &mut T, text: String) -> Result<String, AllocError>
     ensures text { IfOk result (λ refusal. 0 < length (string_bytes refusal)) }
     ensures kept { 0 < length (string_bytes text)

@@ -42,7 +42,7 @@ impl<'a> ListState<'a> {
             .arg(required(alloc, "STATE", "State file, or a copy of it"))
     }
 
-    /// What the words say.
+    /// The words that `clap` matched; None if one is missing.
     pub fn of(matches: &ArgMatches<'a>) -> Option<Self>
         ensures { IsListState (first_value (found_of matches.now) (codes "STATE")) result }
     {
@@ -51,7 +51,7 @@ impl<'a> ListState<'a> {
         })
     }
 
-    /// Opens the state file for reading alone, and lists it.
+    /// Lists the state file, opened for reading alone and without a lock.
     #[inline(never)]
     pub fn answer<D: SignerFolder<'a>>(&self, alloc: Global, folder: &mut D) -> Answer
         ensures { ListsIn D.Disk.Disk (files_seen (D.content folder.old) D.is_opened (D.is_closed folder.new))
@@ -64,7 +64,6 @@ impl<'a> ListState<'a> {
     }
 }
 
-// What came of a listing, as an answer.
 fn answer_to(listed: Result<Listing, Refusal>) -> Answer
     ensures { result ≡ list_answer listed }
 {

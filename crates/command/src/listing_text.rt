@@ -1,4 +1,4 @@
-//! The texts of a listing: what types a key has, and what its records are.
+//! The texts of a listing: a key's spec, and a line for each record.
 
 ghost use Rattle.std.specs.Prelude.{◌≡◌, ◌++◌, OnOk, codes, decimal};
 ghost use Rattle.std.specs.Io.KnownBytes.{Appends};
@@ -32,7 +32,6 @@ pub fn write_spec<W: Write>(writer: &mut W, spec: &Spec) -> io::Result<()>
     }
 }
 
-// Writes the texts of pairs, with commas between them.
 fn write_pairs<W: Write>(writer: &mut W, pairs: &[LmsPair]) -> io::Result<()>
     ensures { OnOk result (Appends (W.contents writer.old) (W.contents writer.new) (levels_text pairs.now)) }
 {
@@ -42,7 +41,7 @@ fn write_pairs<W: Write>(writer: &mut W, pairs: &[LmsPair]) -> io::Result<()>
     Ok(())
 }
 
-// Writes the text of a level's pair, with a comma before it where it isn't the top one.
+// With a comma before it, except at the top level.
 fn write_next_pair<W: Write>(writer: &mut W, level: usize, pair: LmsPair) -> io::Result<()>
     ensures { OnOk result (Appends (W.contents writer.old) (W.contents writer.new)
         (after_comma level (pair_text pair))) }
@@ -53,7 +52,6 @@ fn write_next_pair<W: Write>(writer: &mut W, level: usize, pair: LmsPair) -> io:
     write_pair(writer, pair)
 }
 
-// Writes the text of a pair.
 fn write_pair<W: Write>(writer: &mut W, pair: LmsPair) -> io::Result<()>
     ensures { OnOk result (Appends (W.contents writer.old) (W.contents writer.new) (pair_text pair)) }
 {
@@ -105,7 +103,6 @@ pub fn write_entries<W: Write>(writer: &mut W, entries: &[Entry]) -> io::Result<
     Ok(())
 }
 
-// Writes the line of the record at a place.
 fn write_line<W: Write>(writer: &mut W, place: usize, entry: &Entry) -> io::Result<()>
     ensures { OnOk result (Appends (W.contents writer.old) (W.contents writer.new) (entry_line place entry.now)) }
 {
@@ -114,7 +111,6 @@ fn write_line<W: Write>(writer: &mut W, place: usize, entry: &Entry) -> io::Resu
     writer.write_all("\n".as_bytes())
 }
 
-// Writes what a record is.
 fn write_entry<W: Write>(writer: &mut W, entry: &Entry) -> io::Result<()>
     ensures { OnOk result (Appends (W.contents writer.old) (W.contents writer.new) (entry_text entry.now)) }
 {
@@ -131,7 +127,6 @@ fn write_entry<W: Write>(writer: &mut W, entry: &Entry) -> io::Result<()>
     }
 }
 
-// Writes a name and its leaf.
 fn write_name<W: Write>(writer: &mut W, name: &[u8], leaf: u32) -> io::Result<()>
     ensures { OnOk result (Appends (W.contents writer.old) (W.contents writer.new)
         (codes " name " ++ name.now ++ (codes " leaf " ++ decimal leaf))) }
@@ -141,7 +136,7 @@ fn write_name<W: Write>(writer: &mut W, name: &[u8], leaf: u32) -> io::Result<()
     write_number(writer, " leaf ", leaf)
 }
 
-// Writes the level of a new tree, and the leaf that signs it.
+// `leaf` signs the new tree.
 fn write_tree<W: Write>(writer: &mut W, level: u8, leaf: u32) -> io::Result<()>
     ensures { OnOk result (Appends (W.contents writer.old) (W.contents writer.new)
         ((codes " tree level " ++ decimal level) ++ (codes " leaf " ++ decimal leaf))) }
@@ -150,7 +145,6 @@ fn write_tree<W: Write>(writer: &mut W, level: u8, leaf: u32) -> io::Result<()>
     write_number(writer, " leaf ", leaf)
 }
 
-// Writes that the leaves below a number are given up.
 fn write_retired<W: Write>(writer: &mut W, upto: u32) -> io::Result<()>
     ensures { OnOk result (Appends (W.contents writer.old) (W.contents writer.new)
         (codes " retired upto " ++ decimal upto)) }
@@ -158,7 +152,6 @@ fn write_retired<W: Write>(writer: &mut W, upto: u32) -> io::Result<()>
     write_number(writer, " retired upto ", upto)
 }
 
-// Writes a word and a number.
 fn write_number<W: Write>(writer: &mut W, word: &str, number: u32) -> io::Result<()>
     ensures { OnOk result (Appends (W.contents writer.old) (W.contents writer.new) (word.now ++ decimal number)) }
 {

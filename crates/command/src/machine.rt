@@ -21,11 +21,11 @@ use std::io::Read;
 use std::marker::Model;
 use std::{fs, io};
 
-/// The files of a machine. What is in them isn't known.
+/// The files of a machine. Contracts don't know their content.
 ///
-/// No contract says that the machine opens the path it is given, that `open` hands out a file of which nothing was
-/// read, or that `read` reads once. The trace begins where the file is handed out, and of several reads in one call it
-/// has the one whose answer is given. Both are three lines of code, which are read and tested; so is that files are
+/// No contract says that the machine opens the path that it gets, that nothing was read yet of a file which `open`
+/// hands out, or that `read` reads once. The trace begins when the file is handed out. Of several reads in one call it
+/// would have the one whose answer is returned. These are a few lines of code, read and tested; so is that files are
 /// written by `replace`.
 #[derive(Drop)]
 pub struct Machine<'a, R> {
@@ -35,14 +35,13 @@ pub struct Machine<'a, R> {
     trace: Trace,
 }
 
-// Contracts see what happened to its files.
 impl<'a, R> Model for Machine<'a, R> {
     ghost Value = { List Happening };
 
     ghost view = { λ machine. machine.trace.events };
 }
 
-/// A file of a machine that is read. What fails of it is told.
+/// A file of a machine, open for reading. Standard error says what failed.
 #[derive(Drop)]
 pub struct MachineFile<'a> {
     role: Role,
@@ -58,14 +57,13 @@ impl OpenFile for MachineFile<'_> {
 }
 
 impl MachineFile<'_> {
-    // Reads into the buffer, and says what fails.
     fn read_told(&mut self, buffer: &mut [u8]) -> io::Result<usize>
         ensures bound { ReadsAtMost result buffer.new }
         ensures role { self.new.role ≡ self.old.role }
     {
         let answer = self.file.read(buffer);
         match &answer {
-            // Random bytes are never read up to an end that is looked for.
+            // Nobody looks for the end of random bytes, so it is a failure.
             Ok(0) if self.role == Role::Random => {
                 let reason = "it ended before the bytes that are wanted";
                 self.standard
@@ -86,7 +84,7 @@ impl Read for MachineFile<'_> {
     }
 }
 
-/// A file of a machine that is open to be written. What fails of it is told.
+/// A file of a machine, open for writing. Standard error says what failed.
 #[derive(Drop)]
 struct MachineTarget<'a, R> {
     rt: &'a R,
@@ -99,7 +97,7 @@ struct MachineTarget<'a, R> {
 }
 
 impl<'a, R: Files<File = File>> MachineTarget<'a, R> {
-    // Opens the file of this path for writing, which is made where there is none. What it has stays.
+    // Makes the file if there is none. Its content stays.
     fn open(rt: &'a R, standard: &'a Standard, path: &'a str) -> Result<Self, Refusal>
         ensures { IfErr result (λ refusal. refusal ≡ Refusal.FileFailed) }
     {
@@ -117,9 +115,9 @@ impl<'a, R: Files<File = File>> MachineTarget<'a, R> {
         })
     }
 
-    // Whether it has a key. It is locked first, and stays so until it is closed: no other process makes a key in it
-    // meanwhile. Where that holds the lock already, a key may be on its way. A file system that has no locks has no
-    // state file that could be locked, either.
+    // The lock is taken first, and held until the file is closed: no other process makes a key in it meanwhile. A
+    // process that holds the lock may be making a key. Where the file system has no locks, no state file can be locked
+    // either.
     fn holds_key(&self) -> Result<bool, Refusal> {
         let locked = self.file.try_lock();
         if self.begins_as_a_state_file()? {
@@ -132,8 +130,7 @@ impl<'a, R: Files<File = File>> MachineTarget<'a, R> {
         Ok(false)
     }
 
-    // Whether the file, which is opened again to be read, begins as a state file does. One without a byte, as one that
-    // was made just now, isn't opened.
+    // Opens the file again, for reading. An empty file, such as one that was made just now, isn't opened.
     fn begins_as_a_state_file(&self) -> Result<bool, Refusal> {
         let found = self
             .standard
@@ -220,7 +217,7 @@ impl<'a, R: Files<File = File>> Machine<'a, R> {
         }
     }
 
-    // Opens a file for reading, and remembers which one it is.
+    // Remembers the file, so that it is never overwritten.
     fn open_file(&mut self, role: Role, path: &'a str) -> Result<MachineFile<'a>, Refusal>
         ensures trace { self.new ≡ self.old ++ opening role path.now result ∷ [] }
         ensures role { IfOk result (λ file. file.role ≡ role) }
@@ -238,7 +235,7 @@ impl<'a, R: Files<File = File>> Machine<'a, R> {
         }
     }
 
-    // The same, without the note.
+    // As `open_file`, without the note in the trace.
     fn find_file(&mut self, role: Role, path: &'a str) -> Result<MachineFile<'a>, Refusal>
         ensures trace { self.new ≡ self.old }
         ensures role { IfOk result (λ file. file.role ≡ role) }
@@ -247,7 +244,7 @@ impl<'a, R: Files<File = File>> Machine<'a, R> {
         let standard = self.standard;
         let file = standard.told(path, "can't be opened", fs::open(&self.rt, path))?;
         let found = standard.told(path, "can't be opened", file.metadata())?;
-        // Random bytes that are a key's would be handed out with signatures.
+        // Bytes of a key, drawn as random, would be handed out with signatures.
         if role == Role::Random && found.is_file() {
             if standard.told(path, "can't be read", has_key(&file))? {
                 standard.tell_reason(path, "isn't read as random bytes", "it holds a key");
@@ -263,7 +260,7 @@ impl<'a, R: Files<File = File>> Machine<'a, R> {
         })
     }
 
-    // Writes these bytes to a file, in place of what it has, and says why it wasn't written, if so.
+    // Replaces a file's content. Standard error says why it wasn't written.
     fn write_file(&self, path: &str, bytes: &[u8]) -> Result<(), Refusal>
         ensures { IfErr result (λ refusal. refusal ≡ Refusal.FileFailed) }
     {
@@ -284,13 +281,13 @@ impl<'a, R: Files<File = File>> Machine<'a, R> {
                 self.standard
                     .tell_reason(path, "isn't written", "it holds a key");
             }
-            // What failed was told.
+            // Standard error says so already.
             Err(NotReplaced::Failed) => {}
         }
         Err(Refusal::FileFailed)
     }
 
-    // Remembers which file a state file is, and gives the disk over it.
+    // Remembers the file, so that it is never overwritten.
     fn disk_over(&mut self, file: StateFile<'a>) -> FileDisk<StateFile<'a>>
         ensures trace { self.new ≡ self.old }
         ensures file { file_of result ≡ file.entry }
@@ -337,7 +334,7 @@ impl<'a, R: Files<File = File>> SignerFolder<'a> for Machine<'a, R> {
 
     type Random = RngSource<RandomFile<MachineFile<'a>>>;
 
-    // nothing happened to it yet; what else holds of a disk over a file of the machine isn't known
+    // nothing happened to it yet; no more is known of a disk over a file of the machine
     ghost is_opened = { λ path disk. file_of disk ≡ opened_at path };
 
     ghost is_closed = { λ _ _. ⊤ };

@@ -9,20 +9,19 @@
 //! verified
 //! ```
 //!
-//! `program::run` is the whole program, over a reader of lines, a folder of files, an input and two outputs. It reads
-//! the line (`line`; `number` reads its numbers, `line_fault` is why one gives no request, and `texts` makes the text
-//! that says so), does what is requested (a module for each command: `make`, `sign`, `verify`, `retire`, `audit`,
-//! `audit_given`, `serve`, `migrate`, `list` and `public`, whose arguments `argument` has) and reports what came of it
-//! (`answer`, `refusal`; `listing_text` has the texts of a listing).
-//! `files` has the traits by which it meets files, `machine` those of a machine (which they are: `file_id`; how one is
-//! written in place of what it has: `target`; how one with a key is known: `key_start`), `standard` its standard
-//! streams and what is said there of a call that failed, `progress` the line that a terminal shows of long work,
-//! `output` is where the program writes, and `trace` is what contracts see of what it does to files. `key_file` is what
-//! the commands do with a signer on the disk of a state file, `signing` what they write once it has answered Ok,
-//! `state` a state file of the machine, `file_disk` the disk over it, and `random_file` random bytes of a file. The
-//! contract of `run`: which files are opened, read and written, in which order, which step a signer makes on the disk
-//! of the state file, that the line printed and the exit status are those of the right answer, and that the output of
-//! `serve` has the replies to its input.
+//! `program::run` is the whole program, over traits for what it meets: a reader of lines, a folder of files, an input
+//! and two outputs. Its contract says which files are opened, read and written, in which order, and which step a signer
+//! makes on the disk of a state file. It also says the line printed, the exit status, and the replies of `serve`.
+//!
+//! - the line: `line`, `argument` and `number`; where it gives no request, `line_fault` and `texts`
+//! - the commands: `make`, `sign`, `verify`, `retire`, `audit`, `audit_given`, `serve`, `migrate`, `list`, `public`
+//! - the answer: `answer`, `refusal` and `listing_text`, written to `output`
+//! - a signer: `key_file` over the disk of a state file, `signing` over any store
+//! - files: `files` has the traits, `trace` what contracts see of the calls
+//! - the machine: `machine`, `standard` (its streams, and what is said of failed calls), `state`, `file_disk` and
+//!   `random_file`; `file_id` (which file a path leads to), `target` (how a file is written), `key_start` (whether it
+//!   has a key)
+//! - `progress`: the line that a terminal shows of long work, in the `foreground` alone
 #![tactic(auto)]
 
 mod answer;
@@ -32,6 +31,7 @@ mod audit_given;
 mod file_disk;
 mod file_id;
 mod files;
+mod foreground;
 mod key_file;
 mod key_start;
 mod line;
@@ -79,7 +79,6 @@ fn main(rt: HostRuntime) -> ExitCode {
     })
 }
 
-// Runs the program over the machine's files and its standard streams.
 fn run(rt: &HostRuntime, standard: &Standard) -> u8 {
     let stderr = rt.stderr();
     let mut errors = Printer::new(StreamWriter {
@@ -92,9 +91,8 @@ fn run(rt: &HostRuntime, standard: &Standard) -> u8 {
         stream: &standard.output,
         writer: io::writer(rt),
     };
-    // An answer is written in one piece, so that a stop leaves all of it or nothing; only a listing that is longer than
-    // this buffer is written in several. The buffer is written once more when it is dropped, and refused then where a
-    // write has failed.
+    // A crash leaves an answer whole or not written: it is written in one piece, unless a listing is longer than this
+    // buffer. The buffer is written again when it is dropped; after a failed write, `StreamWriter` refuses that.
     let Ok(writer) = BufWriter::new(rt.alloc(), writer) else {
         return no_memory(rt, &mut errors);
     };
@@ -109,7 +107,6 @@ fn run(rt: &HostRuntime, standard: &Standard) -> u8 {
     }
 }
 
-// Does what the words of a line request.
 fn run_line<'a, O: Output, E: Output>(
     rt: &HostRuntime,
     standard: &'a Standard,
@@ -132,13 +129,12 @@ fn run_line<'a, O: Output, E: Output>(
     )
 }
 
-// Reports that there is no memory, without taking any. That the line is on the output for errors exactly where the
-// first word is `serve` is tested.
+// Takes no memory. Tested: the line is on standard error exactly if the first word is `serve`.
 fn no_memory<E: Output>(rt: &HostRuntime, errors: &mut E) -> u8 {
     program::report_no_memory(serves(rt), &mut Printer::new(io::writer(rt)), errors)
 }
 
-// Whether the line begins with the word `serve`.
+// Whether the first word is `serve`.
 fn serves(rt: &HostRuntime) -> bool {
     let mut word = [0; Serve::NAME.len() + 1];
     match rt.arg(1, &mut word) {

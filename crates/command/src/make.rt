@@ -24,11 +24,11 @@ use typecodes::Spec;
 /// The words of the line.
 #[derive(Clone, Copy, Debug)]
 pub struct Make<'a> {
-    /// The path of the state file, which is made where there is none.
+    /// The path of the state file, which is made if there is none.
     pub state: &'a str,
-    /// The path of the file that the public key is written to.
+    /// The path of the public key's file.
     pub public: &'a str,
-    /// Which kind of key it is, as `lms:H5/W8`.
+    /// The kind of key, as `lms:H5/W8`.
     pub spec: &'a str,
     /// The version of the state file.
     pub version: Version,
@@ -36,7 +36,6 @@ pub struct Make<'a> {
     pub random: &'a str,
 }
 
-// The format where the line names none.
 const DEFAULT_FORMAT: &str = "2";
 
 impl<'a> Make<'a> {
@@ -78,7 +77,7 @@ impl<'a> Make<'a> {
             .arg(random_file(alloc))
     }
 
-    /// What the words say.
+    /// The words that `clap` matched. `Format`: N isn't 1 or 2.
     pub fn of(matches: &ArgMatches<'a>) -> Result<Self, UsageFault>
         ensures { IsMake (first_value (found_of matches.now) (codes "STATE"))
             (first_value (found_of matches.now) (codes "PUBLIC")) (first_value (found_of matches.now) (codes "SPEC"))
@@ -102,7 +101,8 @@ impl<'a> Make<'a> {
         }
     }
 
-    /// Opens the state file, which is made where there is none, makes a key in it, and writes its public key.
+    /// Makes a key in the state file, which is made if there is none, and writes its public key. A bad spec (51) is
+    /// refused before any file is opened.
     #[inline(never)]
     pub fn answer<D: SignerFolder<'a>, P: TreeProgress>(
         &self,
@@ -127,7 +127,7 @@ impl<'a> Make<'a> {
         }
     }
 
-    // Makes a key on the disk of the state file, and writes its public key. The disk is given back.
+    // Opens the random bytes, and makes a key on this disk.
     fn make_on<D: SignerFolder<'a>, P: TreeProgress>(
         &self,
         alloc: Global,
@@ -146,7 +146,7 @@ impl<'a> Make<'a> {
         }
     }
 
-    // Makes a key on a disk, and then writes its public key. The disk is given back.
+    // Makes a key, and then writes its public key.
     fn make_key<D: SignerFolder<'a>, P: TreeProgress>(
         &self,
         alloc: Global,
@@ -169,7 +169,6 @@ impl<'a> Make<'a> {
     }
 }
 
-// The version that a format names, by its number: 1 or 2.
 fn read_format(text: &str) -> Option<Version>
     ensures { result ≡ format_in text.now }
 {

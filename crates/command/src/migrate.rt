@@ -20,7 +20,7 @@ use std::alloc::{AllocError, Global};
 pub struct Migrate<'a> {
     /// The path of the old state file, of version 1.
     pub old: &'a str,
-    /// The path of the new one, of version 2, which is made where there is none.
+    /// The path of the new one, of version 2, which is made if there is none.
     pub new: &'a str,
 }
 
@@ -51,7 +51,7 @@ impl<'a> Migrate<'a> {
             ))
     }
 
-    /// What the words say.
+    /// The words that `clap` matched; None if one is missing.
     pub fn of(matches: &ArgMatches<'a>) -> Option<Self>
         ensures { IsMigrate (first_value (found_of matches.now) (codes "OLD"))
             (first_value (found_of matches.now) (codes "NEW")) result }
@@ -62,7 +62,7 @@ impl<'a> Migrate<'a> {
         })
     }
 
-    /// Opens the old state file, then the new one, which is made where there is none, and migrates the records.
+    /// Opens the old state file, then the new one, which is made if there is none, and migrates the records.
     #[inline(never)]
     pub fn answer<D: SignerFolder<'a>>(&self, alloc: Global, folder: &mut D) -> Answer
         ensures { MigratesIn D.Disk.Disk (files_seen (D.content folder.old) D.is_opened (D.is_closed folder.new))
@@ -72,7 +72,7 @@ impl<'a> Migrate<'a> {
         self.migrate_from(alloc, folder, old)
     }
 
-    // Opens or makes the new state file, migrates the records of the old disk, and closes both.
+    // Closes both disks.
     fn migrate_from<D: SignerFolder<'a>>(
         &self,
         alloc: Global,
@@ -98,7 +98,6 @@ impl<'a> Migrate<'a> {
     }
 }
 
-// What came of a migration, as an answer.
 fn answer_to(migrated: Result<u32, Refusal>) -> Answer
     ensures { result ≡ migrate_answer migrated }
 {

@@ -3,7 +3,7 @@
 ghost use Rattle.std.specs.Prelude.{◌≡◌};
 ghost use Rattle.command.specs.Number.{number_in};
 
-/// The number that a text spells by digits alone, where there is one at least and the number is at most this.
+/// The number of a text of decimal digits. None if it is greater than `most`, or the text is empty or has another byte.
 pub fn read_number(text: &[u8], most: u32) -> Option<u32>
     ensures { result ≡ number_in most text.now }
 {

@@ -1,4 +1,4 @@
-//! Where the program writes, with a count of the texts that it couldn't write.
+//! Where the program writes, with a count of the texts that couldn't be written.
 
 ghost use Rattle.std.specs.Prelude.{◌≡◌, ℕ, OnOk};
 ghost use Rattle.std.specs.Io.KnownBytes.{Appends};
@@ -17,35 +17,35 @@ use typecodes::{Count, Spec};
 pub enum Part<'a> {
     /// These characters.
     Text(&'a str),
-    /// A number, by its decimal digits.
+    /// A number, in decimal.
     Number(u64),
     /// These bytes, as they are.
     Bytes(&'a [u8]),
-    /// These bytes, each by its two lower-case hex digits.
+    /// These bytes, in lower-case hex.
     Hex(&'a [u8]),
-    /// A line for each level, which says how many of its leaves are left, by these numbers; level 0 is the first.
+    /// A line for each level with its number of free leaves; level 0 is the first.
     Levels(&'a [u32]),
-    /// A line of a file whose records go on in one of this version; nothing where they don't.
+    /// A line with the version of the file in which the records go on; nothing for None.
     Moved(Option<u16>),
-    /// The types of a key, by the text of its spec.
+    /// The text of a key's spec.
     Spec(&'a Spec),
-    /// A line for each of a key's records, which says what it is; record 0 is the first.
+    /// A line for each of a key's records; record 0 is the first.
     Entries(&'a [Entry]),
 }
 
-/// What takes the texts of the program. As a writer it takes replies of `serve`, which aren't texts.
+/// A writer of the program's texts. As a `Write` it takes the replies of `serve`, which aren't texts.
 pub trait Output: Write {
-    // how many texts it couldn't write
+    // how many texts couldn't be written
     ghost failures: { Self → ℕ };
 
-    /// Writes the parts of a text one after another, and passes the text on. That it fails only where what it writes to
-    /// does, and doesn't keep the text back, is tested.
+    /// Writes the parts of a text in order, and flushes. Tested: it fails only where the writer below fails, and holds
+    /// no text back.
     fn print(&mut self, parts: &[Part<'_>]) -> io::Result<()>
         ensures { Prints (text_of parts.now) (taken_of (Self.contents self.old) (failures self.old))
             (taken_of (Self.contents self.new) (failures self.new)) result };
 }
 
-/// A writer, with its count.
+/// A writer, with its count of failures.
 #[derive(Drop)]
 pub struct Printer<W> {
     pub writer: W,
@@ -55,7 +55,7 @@ pub struct Printer<W> {
 impl<W: Write> Printer<W> {
     ghost use Rattle.command.specs.Streams.{failures_of};
 
-    /// Over a writer, of which nothing failed yet.
+    /// Over this writer; nothing failed yet.
     pub fn new(writer: W) -> Self
         ensures writer { result.writer ≡ writer }
         ensures failures { failures_of result ≡ 0 }
@@ -87,7 +87,7 @@ impl<W: Write> Output for Printer<W> {
     }
 }
 
-// Writes the parts of a text one after another, up to one that fails, and passes the text on.
+// Stops at the first part that fails.
 fn write_text<W: Write>(writer: &mut W, failures: &mut Count, parts: &[Part<'_>]) -> io::Result<()>
     ensures { Prints (text_of parts.now) (taken_of (W.contents writer.old) failures.old)
         (taken_of (W.contents writer.new) failures.new) result }
@@ -98,7 +98,6 @@ fn write_text<W: Write>(writer: &mut W, failures: &mut Count, parts: &[Part<'_>]
     counted(writer.flush(), failures)
 }
 
-// Writes a part.
 fn write_part<W: Write>(writer: &mut W, part: &Part<'_>) -> io::Result<()>
     ensures { OnOk result (Appends (W.contents writer.old) (W.contents writer.new) (part_text part.now)) }
 {
@@ -114,7 +113,6 @@ fn write_part<W: Write>(writer: &mut W, part: &Part<'_>) -> io::Result<()>
     }
 }
 
-// Writes the lines of levels.
 fn write_levels<W: Write>(writer: &mut W, left: &[u32]) -> io::Result<()>
     ensures { OnOk result (Appends (W.contents writer.old) (W.contents writer.new) (level_lines 0 left.now)) }
 {
@@ -124,7 +122,6 @@ fn write_levels<W: Write>(writer: &mut W, left: &[u32]) -> io::Result<()>
     Ok(())
 }
 
-// Writes the line of a level.
 fn write_level<W: Write>(writer: &mut W, level: usize, left: u32) -> io::Result<()>
     ensures { OnOk result (Appends (W.contents writer.old) (W.contents writer.new) (level_line level left)) }
 {
@@ -135,7 +132,6 @@ fn write_level<W: Write>(writer: &mut W, level: usize, left: u32) -> io::Result<
     writer.write_all("\n".as_bytes())
 }
 
-// Writes the line of a file whose records go on in another, if they do.
 fn write_moved<W: Write>(writer: &mut W, version: Option<u16>) -> io::Result<()>
     ensures { OnOk result (Appends (W.contents writer.old) (W.contents writer.new) (moved_line version)) }
 {
@@ -147,7 +143,7 @@ fn write_moved<W: Write>(writer: &mut W, version: Option<u16>) -> io::Result<()>
     writer.write_all("\n".as_bytes())
 }
 
-/// Writes bytes by their hex digits.
+/// Writes bytes in lower-case hex.
 pub fn write_hex<W: Write>(writer: &mut W, bytes: &[u8]) -> io::Result<()>
     ensures { OnOk result
         (Appends (W.contents writer.old) (W.contents writer.new) (encode_lower bytes.now)) }
@@ -161,7 +157,7 @@ pub fn write_hex<W: Write>(writer: &mut W, bytes: &[u8]) -> io::Result<()>
     Ok(())
 }
 
-/// What was answered, which is counted where it is a failure. No other function counts.
+/// Returns the answer, and counts it if it failed. No other function counts.
 pub fn counted<T, E>(answer: Result<T, E>, failures: &mut Count) -> Result<T, E>
     ensures answer { result ≡ answer }
     ensures counts { CountsFailure answer failures.old failures.new }

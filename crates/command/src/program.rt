@@ -1,4 +1,4 @@
-//! The whole program.
+//! The whole program: reads a line, does what it requests, and reports the answer.
 
 ghost use Rattle.std.specs.Prelude.{◌≡◌, ◌≢◌, ◌+◌, ◌<◌, ◌⊎◌, [], length, map, true};
 ghost use Rattle.command.specs.Files.{files_seen};
@@ -27,12 +27,11 @@ use typecodes::Message;
 /// The exit status of a line that is refused.
 pub const LINE_REFUSED: u8 = 2;
 
-/// Does what the words of a line request, without the program's name, and gives the exit status.
+/// Does what the words of a line, without the program's name, request. Gives the exit status.
 ///
-/// A line on the output reports what came of it. Of `serve` the output has replies and nothing else, also where serving
-/// fails: a line on `errors` then says why, or that there was no memory to read the line. A line that is refused is
-/// explained on `errors` alone, and status 2 is that of such a line, or of a name or a spec that is refused. What
-/// failed of the machine is told elsewhere, by the folder, the disk and the source that made the call. The progress is
+/// A line on the output reports the answer. For `serve` the output has replies alone: where serving fails, or there was
+/// no memory to read the line, a line on `errors` says so. A wrong line is explained on `errors` alone. Status 2 means
+/// a wrong line, name or spec. The folder, the disk and the source tell of their failed calls elsewhere. `progress` is
 /// told of the trees that are made, and changes nothing of all this.
 pub fn run<'a, L, D, S, I, O, E, P>(
     alloc: Global,
@@ -87,7 +86,6 @@ where
     }
 }
 
-// Whether a line begins with the word `serve`.
 fn begins_with_serve<S: AsStr>(words: &[S]) -> bool
     ensures { result ≡ begins_with_serve (map S.text words.now) }
 {
@@ -97,8 +95,7 @@ fn begins_with_serve<S: AsStr>(words: &[S]) -> bool
     }
 }
 
-// Reports why there is no request: the help or the version that was requested, what is wrong with the line, or that
-// there is no memory, which may be of a line that serves.
+// Prints the help or the version, what is wrong with the line, or that memory was refused.
 fn explain<O: Output, E: Output>(
     fault: &LineFault,
     serves: bool,
@@ -131,8 +128,8 @@ fn explain<O: Output, E: Output>(
     }
 }
 
-/// Reports that there is no memory to read a line: on the output, or of one that serves, whose output is for replies
-/// alone, on `errors`.
+/// Reports that memory was refused before the line was read: on the output, or for `serve`, whose output has replies
+/// alone, on `errors`. Gives the exit status.
 pub fn report_no_memory<O: Output, E: Output>(serves: bool, output: &mut O, errors: &mut E) -> u8
     ensures reports { ReportsOutOfMemory serves (taken O.contents O.failures output.old)
         (taken O.contents O.failures output.new)
@@ -146,7 +143,7 @@ pub fn report_no_memory<O: Output, E: Output>(serves: bool, output: &mut O, erro
     }
 }
 
-// Prints a text that was requested, of these parts.
+// Prints help or the version, and gives the exit status.
 fn print<O: Output>(parts: &[Part<'_>], output: &mut O) -> u8
     ensures { Helps (text_of parts.now) (taken O.contents O.failures output.old)
         (taken O.contents O.failures output.new) result }

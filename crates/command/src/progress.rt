@@ -1,7 +1,7 @@
-//! How far long work is: a line on a terminal, which is rewritten while trees are made, and erased at the end of each.
+//! The progress of long work: a line on a terminal, rewritten while trees are made, and erased at the end of each.
 //!
-//! What the line says of a tree is in contracts. When it is written, and that it is erased, depends on a clock and on a
-//! terminal, of which no contract speaks: tests/progress tests it.
+//! Contracts say what the line has. When it is drawn and erased depends on a clock and a terminal: tests/progress tests
+//! that.
 
 ghost use Rattle.std.specs.Prelude.{◌≡◌, ◌<◌, ◌≤◌, OnOk, IfOk};
 ghost use Rattle.std.specs.Io.KnownBytes.{Appends};
@@ -18,30 +18,33 @@ use std::io;
 use std::io::Write;
 use std::time::Clock;
 
-// The variable of the environment with which no line is written, unless it is empty.
+// The variable of the environment that turns the line off, unless it is empty.
 const QUIET: &str = "HBSIGN_QUIET";
 
-// How wide a terminal is whose width isn't known, and the greatest width that is believed.
+// The width of a terminal that doesn't tell its own, and the greatest width that is believed.
 const USUAL_COLUMNS: u32 = 80;
 
 const MOST_COLUMNS: u32 = 10_000;
 
-// So long, in milliseconds, after a tree's last leaf the tree of a lower level belongs to the same work.
+// A tree of a lower level that begins within this time after a tree's last leaf belongs to the same work; milliseconds.
 const LONGEST_PAUSE: u64 = 1_000;
 
-// The bytes of U+2588 and U+2591.
+// A longer time between two calls means that the process was stopped, as by ^Z; milliseconds. Eight leaves of W8, the
+// slowest, take 8 of them.
+const LONGEST_STEP: u64 = 2_000;
+
+// U+2588 and U+2591 in UTF-8.
 const FULL_BLOCK: &[u8; 3] = b"\xe2\x96\x88";
 
 const LIGHT_BLOCK: &[u8; 3] = b"\xe2\x96\x91";
 
-// How the line looks.
 #[derive(Clone, Copy)]
 struct Look {
     columns: u32,
     has_blocks: bool,
 }
 
-// A tree, of so many leaves, and when things happened, in milliseconds of the clock.
+// A tree and its number of leaves; times in milliseconds of the clock.
 #[derive(Clone, Copy)]
 struct Tree {
     level: u8,
@@ -49,23 +52,23 @@ struct Tree {
     // the work began with this tree or one above it
     work_begun: u64,
     begun: u64,
-    // of this tree or an earlier one
+    // the last call, and the last line, of this tree or an earlier one
     told: u64,
     shown: u64,
 }
 
-/// What shows how far the making of trees is, where standard error is a terminal.
+/// Shows the progress of trees, if standard error is a terminal.
 #[derive(Drop)]
 pub struct Bar<'a, R> {
     rt: R,
     standard: &'a Standard,
-    // nothing is shown without it
+    // None: nothing is shown
     look: Option<Look>,
     tree: Cell<Tree>,
 }
 
 impl<'a, R: Env + Clock> Bar<'a, R> {
-    /// One that was told of no tree yet. It looks as the environment asks for.
+    /// Told of no tree yet. TERM, HBSIGN_QUIET, COLUMNS and the locale decide how the line looks.
     pub fn new(rt: R, standard: &'a Standard) -> Self {
         let shows = standard.is_on_terminal && !is_dumb(&rt) && !is_quiet(&rt);
         let look = if shows { Some(look_in(&rt)) } else { None };
@@ -84,7 +87,7 @@ impl<'a, R: Env + Clock> Bar<'a, R> {
         }
     }
 
-    // The time, in milliseconds of the clock.
+    // Milliseconds of the clock.
     fn now(&self) -> Option<u64> {
         let Ok(time) = self.rt.monotonic() else {
             return None;
@@ -93,7 +96,6 @@ impl<'a, R: Env + Clock> Bar<'a, R> {
         Some(seconds.saturating_add(u64::from(time.subsec_millis())))
     }
 
-    // Writes the line of a tree of which so many leaves were made.
     fn show(&self, look: Look, tree: Tree, made: u32, now: u64) {
         let spent = u32::try_from(now.saturating_sub(tree.begun)).unwrap_or(u32::MAX);
         if made == 0 || made > tree.leaves {
@@ -135,6 +137,12 @@ impl<R: Env + Clock> TreeProgress for Bar<'_, R> {
             return;
         };
         let mut tree = self.tree.get();
+        let step = now.saturating_sub(tree.told);
+        if step > LONGEST_STEP {
+            // The stop doesn't count for the estimate, and others may have written on the terminal.
+            tree.begun = tree.begun.saturating_add(step);
+            self.standard.forget_line();
+        }
         tree.told = now;
         let made = u32::try_from(made).unwrap_or(u32::MAX);
         if made >= tree.leaves {
@@ -150,8 +158,7 @@ impl<R: Env + Clock> TreeProgress for Bar<'_, R> {
     }
 }
 
-// Whether a line is written now, at these times in milliseconds: from a second after the work began on, and 200
-// milliseconds after the last one was.
+// Whether a line is drawn now: a second after the work began, and then each 200 ms. Times in milliseconds.
 fn is_due(begun: u64, shown: u64, now: u64) -> bool
     ensures { result ≡ is_due begun shown now }
 {
@@ -161,7 +168,6 @@ fn is_due(begun: u64, shown: u64, now: u64) -> bool
     now.saturating_sub(shown) >= 200
 }
 
-// How much of the leaves was made, in percent.
 fn percent(made: u32, leaves: u32) -> u64
     requires { 0 < leaves }
     ensures { result ≡ percent made leaves }
@@ -169,8 +175,7 @@ fn percent(made: u32, leaves: u32) -> u64
     u64::from(made) * 100 / u64::from(leaves)
 }
 
-// In how many seconds the rest is made, where each leaf takes as long as those did that were made in so many
-// milliseconds.
+// The seconds that the other leaves take, if each takes as long as those that were made in `spent` milliseconds.
 fn seconds_left(spent: u32, made: u32, leaves: u32) -> u64
     requires some { 0 < made }
     requires few { made ≤ leaves }
@@ -180,7 +185,7 @@ fn seconds_left(spent: u32, made: u32, leaves: u32) -> u64
     left.div_ceil(1_000)
 }
 
-// The text of the line: what fits into the terminal, and a bar where there is room for one and a blank behind it.
+// The text that fits into the terminal, and a bar if there is room for it and a blank behind it.
 fn line_text(
     look: Look,
     level: u8,
@@ -198,7 +203,7 @@ fn line_text(
     Ok(text)
 }
 
-// Whether there is a bar behind a text of so many bytes, each of which is a character.
+// Whether a bar fits behind an ASCII text of `len` bytes.
 fn has_room(look: Look, len: usize) -> bool
     requires { len ≤ 256 }
     ensures { result ≡ has_room look.has_blocks look.columns len }
@@ -210,7 +215,7 @@ fn has_room(look: Look, len: usize) -> bool
     }
 }
 
-// The long text, or the short one where that leaves no blank behind it.
+// The long text, or the short one if the long one leaves no blank behind it.
 fn fitting_text(
     columns: u32,
     level: u8,
@@ -231,7 +236,6 @@ fn fitting_text(
     Ok(short)
 }
 
-// Writes which tree is made, and how far it is.
 fn write_long<W: Write>(
     writer: &mut W,
     level: u8,
@@ -274,7 +278,7 @@ fn write_short<W: Write>(writer: &mut W, made: u32, leaves: u32, left: u64) -> i
     writer.write_all(" s left".as_bytes())
 }
 
-// Writes a number with a comma between its thousands, up to a thousand millions.
+// Below 10^9, with a comma between thousands.
 fn write_grouped<W: Write>(writer: &mut W, number: u64) -> io::Result<()>
     ensures { OnOk result (Appends (W.contents writer.old) (W.contents writer.new) (grouped number)) }
 {
@@ -290,7 +294,7 @@ fn write_grouped<W: Write>(writer: &mut W, number: u64) -> io::Result<()>
     }
 }
 
-// Writes a comma and a number below a thousand, by three digits.
+// A comma and three digits.
 fn write_group<W: Write>(writer: &mut W, number: u64) -> io::Result<()>
     ensures { OnOk result (Appends (W.contents writer.old) (W.contents writer.new) (group number)) }
 {
@@ -298,7 +302,7 @@ fn write_group<W: Write>(writer: &mut W, number: u64) -> io::Result<()>
     writer.write_fmt(number)
 }
 
-// The comma, and the zeros that a number below a thousand lacks.
+// The comma, and the zeros before a number below a thousand.
 fn separator(number: u64) -> &'static str
     ensures { result.now ≡ separator number }
 {
@@ -311,7 +315,7 @@ fn separator(number: u64) -> &'static str
     }
 }
 
-// Writes a bar of ten blocks, of which one is full for each ten percent.
+// Ten blocks; each ten percent fill one.
 fn write_bar<W: Write>(writer: &mut W, percent: u64) -> io::Result<()>
     ensures { OnOk result (Appends (W.contents writer.old) (W.contents writer.new) (bar percent)) }
 {
@@ -321,7 +325,6 @@ fn write_bar<W: Write>(writer: &mut W, percent: u64) -> io::Result<()>
     write_times(writer, LIGHT_BLOCK, 10 - full)
 }
 
-// Writes the same bytes so many times.
 fn write_times<W: Write>(writer: &mut W, bytes: &[u8], count: u64) -> io::Result<()>
     ensures { OnOk result (Appends (W.contents writer.old) (W.contents writer.new) (times count bytes.now)) }
 {
@@ -331,28 +334,26 @@ fn write_times<W: Write>(writer: &mut W, bytes: &[u8], count: u64) -> io::Result
     Ok(())
 }
 
-// What a variable of the environment has; nothing where it isn't set, or is longer than the name of a locale.
+// A variable of the environment; empty if it isn't set, or longer than any name of a locale.
 fn variable<E: Env>(env: &E, name: &str) -> ArrayVec<u8, 64> {
     let mut buffer = [0; 64];
     let mut value = ArrayVec::new();
     if let Ok(len) = env.var(name, &mut buffer) {
-        // As many bytes fit.
+        // 64 bytes fit.
         let _ = value.write_all(&buffer[..len]);
     }
     value
 }
 
-// Whether the terminal can't rewrite a line.
+// A dumb terminal can't rewrite a line.
 fn is_dumb<E: Env>(env: &E) -> bool {
     variable(env, "TERM").as_slice() == "dumb".as_bytes()
 }
 
-// Whether no line is wanted.
 fn is_quiet<E: Env>(env: &E) -> bool {
     !matches!(env.var(QUIET, &mut [0]), Ok(0) | Err(FillError::NotPresent))
 }
 
-// How the line is to look.
 fn look_in<E: Env>(env: &E) -> Look {
     let columns = match read_number(variable(env, "COLUMNS").as_slice(), MOST_COLUMNS) {
         Some(columns) if columns > 0 => columns,
@@ -364,7 +365,7 @@ fn look_in<E: Env>(env: &E) -> Look {
     }
 }
 
-// Whether the locale has characters beyond ASCII in UTF-8: of these variables the first that is set decides.
+// Whether the locale is one of UTF-8. The first of these variables that is set decides.
 fn has_blocks<E: Env>(env: &E) -> bool {
     for name in ["LC_ALL", "LC_CTYPE", "LANG"] {
         let locale = variable(env, name);
@@ -375,7 +376,7 @@ fn has_blocks<E: Env>(env: &E) -> bool {
     false
 }
 
-// Whether a locale, as de_DE.UTF-8 or C.utf8, names UTF-8.
+// For example de_DE.UTF-8 or C.utf8.
 fn names_utf8(locale: &[u8]) -> bool {
     for start in 0..locale.len() {
         if begins_with_utf8(&locale[start..]) {
@@ -389,7 +390,7 @@ fn begins_with_utf8(text: &[u8]) -> bool {
     is_start(text, b"utf8") || is_start(text, b"utf-8")
 }
 
-// Whether a text begins with these lower-case bytes, in either case.
+// `start` is lower-case; the text may have either case.
 fn is_start(text: &[u8], start: &[u8]) -> bool {
     text.len() >= start.len() && text[..start.len()].eq_ignore_ascii_case(start)
 }

@@ -23,7 +23,7 @@ use std::alloc::{AllocError, Global};
 pub struct Public<'a> {
     /// The path of the state file.
     pub state: &'a str,
-    /// The path of the file that the public key is written to.
+    /// The path of the public key's file.
     pub public: &'a str,
 }
 
@@ -46,7 +46,7 @@ impl<'a> Public<'a> {
             .arg(required(alloc, "PUBLIC", "File that the public key is written to"))
     }
 
-    /// What the words say.
+    /// The words that `clap` matched; None if one is missing.
     pub fn of(matches: &ArgMatches<'a>) -> Option<Self>
         ensures { IsPublic (first_value (found_of matches.now) (codes "STATE"))
             (first_value (found_of matches.now) (codes "PUBLIC")) result }
@@ -57,7 +57,7 @@ impl<'a> Public<'a> {
         })
     }
 
-    /// Opens the state file for reading alone, audits it, and writes its public key.
+    /// Audits the state file, opened for reading alone and without a lock, and writes its public key.
     #[inline(never)]
     pub fn answer<D: SignerFolder<'a>>(&self, alloc: Global, folder: &mut D) -> Answer
         ensures { PublishesIn D.Disk.Disk (files_seen (D.content folder.old) D.is_opened (D.is_closed folder.new))
@@ -71,7 +71,6 @@ impl<'a> Public<'a> {
     }
 }
 
-// Writes the public key that an audit found, if it was accepted.
 fn publish_audited<W: Outlet>(
     outlet: &mut W,
     path: &str,
@@ -85,7 +84,6 @@ fn publish_audited<W: Outlet>(
     }
 }
 
-// What came of it, as an answer.
 fn answer_to(published: Result<ArrayVec<u8, 68>, Refusal>) -> Answer
     ensures { result ≡ public_answer published }
 {

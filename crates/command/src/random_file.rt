@@ -1,4 +1,4 @@
-//! The file of random bytes.
+//! The file of random bytes, as a source of draws.
 
 ghost use Rattle.std.specs.Prelude.{◌≡◌, []};
 ghost use Rattle.typecodes.specs.Message.{GivesText};
@@ -11,10 +11,10 @@ use std::io;
 use std::io::Read;
 use typecodes::{Message, read_full};
 
-/// The file of random bytes where a line names none: the system's random device.
+/// The default file of random bytes: the system's random device.
 pub const DEFAULT_RANDOM: &str = "/dev/urandom";
 
-/// A file of random bytes. It gives each of its bytes once, in their order, and none after its end.
+/// A file of random bytes. It gives each byte once, in order; a draw past its end fails.
 #[derive(Drop)]
 pub struct RandomFile<F> {
     file: F,
@@ -24,7 +24,7 @@ pub struct RandomFile<F> {
 impl<F: Read> RandomFile<F> {
     ghost use Rattle.command.specs.RandomFile.{random_file, random_trace};
 
-    /// The file, of which nothing was read yet.
+    /// Over this file; nothing was read yet.
     pub fn new(file: F) -> Self
         ensures file { random_file result ≡ file }
         ensures trace { random_trace result ≡ [] }
@@ -79,7 +79,7 @@ impl<F: Read> TryRng for RandomFile<F> {
     }
 }
 
-// Reads until the buffer is full. A file that ends before has no more random bytes.
+// Fails where the file ends before the buffer is full.
 fn draw<M: Message>(file: &mut M, into: &mut [u8]) -> Result<(), SourceFault>
     ensures { Draws M.transition into.new result file.old file.new }
 {

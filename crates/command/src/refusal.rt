@@ -18,7 +18,7 @@ use typecodes::{Cause, Refusal as SignatureRefusal};
 /// Why a command doesn't do what was requested.
 #[derive(Clone, Copy, Debug, PartialEq, Eq)]
 pub enum Refusal {
-    /// 2, 3 and 6: the bytes of a public key spell none.
+    /// 2, 3 and 6: the bytes are no public key.
     Key(KeyFault),
     /// 1 to 5, 10 to 12 and 14: a signature isn't verified.
     Signature(SignatureRefusal),
@@ -30,26 +30,25 @@ pub enum Refusal {
     Preparing(FormatFault),
     /// 26, 40 and 43 to 48: an audit doesn't accept the state file.
     Audit(AuditFault),
-    /// 46, 60 and 61: signatures that were given out aren't those of a key whose leaves sign once.
+    /// 46, 60 and 61: the check of given signatures fails.
     Given(GivenFault),
     /// 26, 40 to 46, 50 and 52: the records aren't migrated.
     Migration(MigrateFault),
-    /// 27, 35 and 36: the serving of requests breaks off.
+    /// 27, 35 and 36: serving ends before its input does.
     Serving(ServeFault),
-    /// 46: there is no memory.
+    /// 46: memory was refused.
     OutOfMemory,
-    /// 53: a file can't be opened, or the key's or the signature's can't be read.
+    /// 53: a file can't be opened, read or written, and no other number says so.
     FileFailed,
     /// 54: the state file is locked.
     Locked,
     /// 34: a name isn't 1 to 128 visible characters of ASCII.
     BadName,
-    /// 51: a spec isn't one of those that `Spec::parse` reads.
+    /// 51: a spec isn't one that `Spec::parse` reads.
     BadSpec,
 }
 
 impl Refusal {
-    // The number by which the refusal is reported.
     fn number(&self) -> u8
         ensures { result ≡ number_of self.now }
     {
@@ -72,7 +71,6 @@ impl Refusal {
         }
     }
 
-    // The name that follows the number.
     fn name(&self) -> &'static str
         ensures { result.now ≡ name_of self.now }
     {
@@ -99,7 +97,7 @@ impl Refusal {
         }
     }
 
-    // What follows the name: a word and a number, and maybe one more of each; or nothing.
+    // Up to two words with a number each, or nothing.
     fn detail(&self) -> [Part<'static>; 4]
         ensures { text_of result ≡ detail_of self.now }
     {
@@ -131,7 +129,7 @@ impl Refusal {
         }
     }
 
-    /// Its line with the end, in parts, which take no memory.
+    /// Its line, with the line's end. The parts take no memory.
     pub fn line(&self) -> [Part<'static>; 9]
         ensures { text_of result ≡ refusal_line self.now ++ codes "\n" }
     {
@@ -150,17 +148,14 @@ impl Refusal {
     }
 }
 
-// No text.
 const NONE: Part<'static> = Part::Text("");
 
-// A word and a number.
 fn number_detail(word: &'static str, number: u64) -> [Part<'static>; 4]
     ensures { text_of result ≡ word.now ++ decimal number }
 {
     [Part::Text(word), Part::Number(number), NONE, NONE]
 }
 
-// The name of a signer's fault.
 fn signer_name(fault: SignFault) -> &'static str
     ensures { result.now ≡ signer_name_of fault }
 {
@@ -185,7 +180,6 @@ fn signer_name(fault: SignFault) -> &'static str
     }
 }
 
-// The number of a fault of finding a state file's records.
 fn open_number(fault: OpenFault) -> u8
     ensures { result ≡ open_number_of fault }
 {
@@ -198,7 +192,6 @@ fn open_number(fault: OpenFault) -> u8
     }
 }
 
-// The name of a fault of finding a state file's records.
 fn open_name(fault: OpenFault) -> &'static str
     ensures { result.now ≡ open_name_of fault }
 {
@@ -211,7 +204,6 @@ fn open_name(fault: OpenFault) -> &'static str
     }
 }
 
-// The number of a fault of preparing a state file.
 fn format_number(fault: FormatFault) -> u8
     ensures { result ≡ format_number_of fault }
 {
@@ -222,7 +214,6 @@ fn format_number(fault: FormatFault) -> u8
     }
 }
 
-// The name of a fault of preparing a state file.
 fn format_name(fault: FormatFault) -> &'static str
     ensures { result.now ≡ format_name_of fault }
 {
@@ -233,7 +224,6 @@ fn format_name(fault: FormatFault) -> &'static str
     }
 }
 
-// The name of an audit's fault.
 fn audit_name(fault: AuditFault) -> &'static str
     ensures { result.now ≡ audit_name_of fault }
 {
@@ -249,7 +239,6 @@ fn audit_name(fault: AuditFault) -> &'static str
     }
 }
 
-// The name of a fault of signatures that were given out.
 fn given_name(fault: GivenFault) -> &'static str
     ensures { result.now ≡ given_name_of fault }
 {
@@ -260,7 +249,6 @@ fn given_name(fault: GivenFault) -> &'static str
     }
 }
 
-// The name of a migration's fault.
 fn migrate_name(fault: MigrateFault) -> &'static str
     ensures { result.now ≡ migrate_name_of fault }
 {
@@ -278,7 +266,6 @@ fn migrate_name(fault: MigrateFault) -> &'static str
     }
 }
 
-// The name of what breaks off a serving of requests.
 fn serve_name(fault: ServeFault) -> &'static str
     ensures { result.now ≡ serve_name_of fault }
 {
@@ -289,7 +276,6 @@ fn serve_name(fault: ServeFault) -> &'static str
     }
 }
 
-// The name of a fault.
 fn fault_name(cause: Cause) -> &'static str
     ensures { result.now ≡ fault_name_of cause }
 {
@@ -302,7 +288,7 @@ fn fault_name(cause: Cause) -> &'static str
     }
 }
 
-/// 46 exactly where the error's kind says that memory was refused, and 53 for every other failure of a file.
+/// 46 for an error of kind `OutOfMemory`, 53 for any other.
 impl From<io::Error> for Refusal {
     ghost from_gives = { λ error refusal. refusal ≡ refusal_of (error_kind error) };
 

@@ -25,7 +25,7 @@ pub struct Retire<'a> {
     pub upto: u32,
 }
 
-// The leaves of the greatest tree.
+// The leaves of a tree of height 25, 2^25.
 const MOST_LEAVES: u32 = 33_554_432;
 
 impl<'a> Retire<'a> {
@@ -57,7 +57,7 @@ impl<'a> Retire<'a> {
             ))
     }
 
-    /// What the words say.
+    /// The words that `clap` matched. `Number`: UPTO isn't a decimal number up to 2^25.
     pub fn of(matches: &ArgMatches<'a>) -> Result<Self, UsageFault>
         ensures { IsRetire (first_value (found_of matches.now) (codes "STATE"))
             (first_value (found_of matches.now) (codes "UPTO")) result }

@@ -53,7 +53,7 @@ impl<'a> Serve<'a> {
             .arg(random_file(alloc))
     }
 
-    /// What the words say.
+    /// The words that `clap` matched; None if one is missing.
     pub fn of(matches: &ArgMatches<'a>) -> Option<Self>
         ensures { IsServe (first_value (found_of matches.now) (codes "STATE"))
             (first_value (found_of matches.now) (codes "random")) result }
@@ -64,8 +64,8 @@ impl<'a> Serve<'a> {
         })
     }
 
-    /// Opens the state file, and answers the requests of an input with its key, each by a reply on the output, up to
-    /// the input's end: with how many replies, or why it ended before.
+    /// Opens the state file, and answers each request of the input by a reply on the output, up to the input's end.
+    /// Gives the number of replies, or why it ended before.
     #[inline(never)]
     pub fn answer<D: SignerFolder<'a>, I: Message, W: Write, P: TreeProgress>(
         &self,
@@ -86,8 +86,7 @@ impl<'a> Serve<'a> {
         served
     }
 
-    // Opens the file of random bytes, and answers the requests with the key on the disk of the state file. The disk is
-    // given back.
+    // Opens the random bytes, then serves on this disk.
     fn serve_on<D: SignerFolder<'a>, I: Message, W: Write, P: TreeProgress>(
         &self,
         alloc: Global,

@@ -29,7 +29,7 @@ pub struct Sign<'a> {
     pub name: &'a str,
     /// The path of the message's file.
     pub message: &'a str,
-    /// The path of the file that the signature is written to.
+    /// The path of the signature's file.
     pub out: &'a str,
     /// The path of the file of random bytes.
     pub random: &'a str,
@@ -70,7 +70,7 @@ impl<'a> Sign<'a> {
             .arg(random_file(alloc))
     }
 
-    /// What the words say.
+    /// The words that `clap` matched; None if one is missing.
     pub fn of(matches: &ArgMatches<'a>) -> Option<Self>
         ensures { IsSign (first_value (found_of matches.now) (codes "STATE"))
             (first_value (found_of matches.now) (codes "NAME")) (first_value (found_of matches.now) (codes "MESSAGE"))
@@ -86,7 +86,8 @@ impl<'a> Sign<'a> {
         })
     }
 
-    /// Opens the state file, signs the message with its key, and writes the signature.
+    /// Signs the message with the key of the state file, and writes the signature. A bad name (34) is refused before
+    /// any file is opened.
     #[inline(never)]
     pub fn answer<D: SignerFolder<'a>, P: TreeProgress>(
         &self,
@@ -111,7 +112,7 @@ impl<'a> Sign<'a> {
         }
     }
 
-    // Signs the message on the disk of the state file, and writes the signature. The disk is given back.
+    // Opens the message and the random bytes, then signs on this disk.
     fn sign_on<D: SignerFolder<'a>, P: TreeProgress>(
         &self,
         alloc: Global,
@@ -142,7 +143,6 @@ impl<'a> Sign<'a> {
         }
     }
 
-    // Opens the files of the message and of random bytes.
     fn open_files<D: SignerFolder<'a>>(
         &self,
         folder: &mut D,
@@ -156,7 +156,7 @@ impl<'a> Sign<'a> {
     }
 }
 
-// Signs the message of a file on a disk, and writes the signature. The disk is given back.
+// Signs, and then writes the signature.
 fn sign_file<'a, D: SignerFolder<'a>, P: TreeProgress>(
     alloc: Global,
     folder: &mut D,
@@ -188,7 +188,7 @@ fn sign_file<'a, D: SignerFolder<'a>, P: TreeProgress>(
     }
 }
 
-// Signs the message of a file on a disk. The disk is given back, and on Ok `signature` has the signature.
+// On Ok `signature` has the signature.
 fn read_and_sign<'a, D: SignerFolder<'a>, P: TreeProgress>(
     alloc: Global,
     folder: &mut D,
@@ -218,7 +218,7 @@ fn read_and_sign<'a, D: SignerFolder<'a>, P: TreeProgress>(
         progress,
     );
     let FileReader { folder, .. } = reader;
-    // Only the proof needs this use: it says what the reader noted.
+    // For the prover: this use tells what the reader noted.
     let _ = &*folder;
     (disk, signed)
 }

@@ -1,4 +1,4 @@
-//! What the commands do with a signer over any store, and what they write once it has answered Ok.
+//! What the commands do with a signer over any store, and what they write after its Ok.
 
 ghost use Rattle.std.specs.Prelude.{Ok};
 ghost use Rattle.sign_core.specs.Records.{key_in};
@@ -11,8 +11,8 @@ use arrayvec::ArrayVec;
 use sign_core::{AnyPublic, Signer, Source};
 use state_file::Store;
 
-/// Writes a signature to its file, and gives its size. Where the file can't be written, what was recorded stays, and
-/// the same request gives the same signature again.
+/// Writes a signature to its file, and gives its size in bytes. If that fails (53), the record stays, and the same
+/// request gives the same signature again.
 pub fn deliver<W: Outlet>(outlet: &mut W, path: &str, signature: &[u8]) -> Result<usize, Refusal>
     ensures { Delivers (Ok signature.now) path.now (W.trace outlet.old) (W.trace outlet.new) result }
 {
@@ -20,7 +20,7 @@ pub fn deliver<W: Outlet>(outlet: &mut W, path: &str, signature: &[u8]) -> Resul
     Ok(signature.len())
 }
 
-/// Writes the public key of a signer to its file, and gives its bytes.
+/// Writes a signer's public key to its file, and gives its 56 to 68 bytes.
 pub fn publish<S: Store, R: Source, W: Outlet>(
     signer: &Signer<S, R>,
     outlet: &mut W,
@@ -31,7 +31,7 @@ pub fn publish<S: Store, R: Source, W: Outlet>(
     write_public(&signer.public_key(), outlet, path)
 }
 
-/// Writes a public key to its file, and gives its bytes.
+/// Writes a public key to its file, and gives its 56 to 68 bytes.
 pub fn write_public<W: Outlet>(
     public: &AnyPublic,
     outlet: &mut W,

@@ -1,9 +1,9 @@
-//! The standard streams of the process, and what standard error says of calls of the system that failed, and of a work
-//! that isn't done yet.
+//! The process's standard streams, and what standard error says of failed calls of the system and of long work.
 
 ghost use Rattle.std.specs.Prelude.{◌≡◌, IfErr};
 
 use crate::file_id::FileId;
+use crate::foreground::Foreground;
 use crate::key_start::has_key;
 use crate::refusal::Refusal;
 use arrayvec::{ArrayString, ArrayVec};
@@ -15,18 +15,23 @@ use std::os::fd::AsFd;
 use std::os::unix::fs::FileTypeExt;
 use std::{fmt, fs, io};
 
-/// A standard stream that is written to: which file of the machine it is, where this can be found out.
+// DECSC and DECRC of a VT100: the first saves the cursor's place, the second moves it back there.
+const SAVE_CURSOR: &[u8; 2] = b"\x1b7";
+
+const RESTORE_CURSOR: &[u8; 2] = b"\x1b8";
+
+/// Standard output or standard error: which file of the machine it is, if this is known.
 #[derive(Drop)]
 pub struct Stream {
     id: Option<FileId>,
-    // nothing more is written to it: it is a file with a key, or an output of which a write failed
+    // nothing more is written to it: it is a file with a key, or an output where a write failed
     is_shut: Cell<bool>,
     ends_at_failure: bool,
 }
 
 impl Stream {
-    // The one that this path of the system leads to. A device that is no terminal takes each text by itself, as the
-    // null device does, and counts as no file. Nothing is written to a file with a key.
+    // The stream at this path. A device other than a terminal, such as /dev/null, counts as no file. A file with a key
+    // is shut from the beginning.
     fn of<R: Files<File = File>>(
         rt: &R,
         path: &str,
@@ -49,18 +54,17 @@ impl Stream {
         }
     }
 
-    /// Which file it is, where this could be found out.
+    /// The file that it is, if known.
     pub fn id(&self) -> Option<FileId> {
         self.id
     }
 
-    /// Whether it is this file.
     pub fn is(&self, id: FileId) -> bool {
         self.id == Some(id)
     }
 }
 
-// Whether a path leads to a file with a key, as far as this can be seen.
+// False if the file can't be read.
 fn leads_to_key<R: Files<File = File>>(rt: &R, path: &str) -> bool {
     match fs::open(rt, path) {
         Ok(file) => has_key(&file).unwrap_or(false),
@@ -68,9 +72,8 @@ fn leads_to_key<R: Files<File = File>>(rt: &R, path: &str) -> bool {
     }
 }
 
-/// A writer to a standard stream. It refuses each write to a file with a key, and to an output of which a write failed,
-/// so that a line which couldn't be written isn't written later. Before it writes anything, a line that stands for a
-/// moment is erased.
+/// A writer to a standard stream. It refuses to write to a file with a key, and to an output where a write failed, so
+/// that the lost line isn't written later. It erases a line of progress first.
 #[derive(Drop)]
 pub struct StreamWriter<'a, W> {
     pub standard: &'a Standard,
@@ -98,28 +101,27 @@ impl<W: Write> Write for StreamWriter<'_, W> {
     }
 }
 
-/// The standard streams. None of them is closed: a file that is opened later is none of them.
+/// The standard streams. None of them is closed, so no file that is opened later takes their descriptors.
 #[derive(Drop)]
 pub struct Standard {
-    /// Standard output.
     pub output: Stream,
-    /// Standard error.
     pub errors: Stream,
     /// Whether standard error is a terminal.
     pub is_on_terminal: bool,
-    // whether a line stands on it for a moment, with the cursor at its end
+    foreground: Foreground,
+    // whether a line of progress is on the screen; the terminal has saved the place where it begins
     has_line: Cell<bool>,
     stderr: Stderr,
-    // The null device in place of each stream that was closed, held as long as this is.
+    // in place of each closed stream, as long as this value lives
     _null_devices: [Option<File>; 3],
 }
 
 impl Standard {
-    /// Takes the standard streams before any file is opened. In place of one that was closed there is the null device,
-    /// opened for reading: it has no input, and refuses output.
+    /// Called before any file is opened. In place of a closed stream it opens /dev/null for reading, which has no input
+    /// and refuses output.
     pub fn take(rt: &HostRuntime) -> io::Result<Self> {
         let stderr = rt.stderr();
-        // A file that is opened gets the least descriptor that is free, so each device takes the place it is for.
+        // A new file gets the lowest free descriptor, so each device gets its stream's.
         let input = null_device(rt, &rt.stdin())?;
         let output = null_device(rt, &rt.stdout())?;
         let errors = null_device(rt, &stderr)?;
@@ -128,22 +130,23 @@ impl Standard {
             output: Stream::of(rt, "/proc/self/fd/1", rt.stdout().is_terminal(), true),
             errors: Stream::of(rt, "/proc/self/fd/2", is_on_terminal, false),
             is_on_terminal,
+            foreground: Foreground::watch(rt, is_on_terminal),
             has_line: Cell::new(false),
             stderr,
             _null_devices: [input, output, errors],
         })
     }
 
-    /// Says on standard error what failed with the file of this path: what was tried, and the system's reason.
+    /// Says on standard error what was tried with the file of this path, and the system's reason why it failed.
     pub fn tell(&self, path: &str, tried: &str, error: &io::Error) {
         let mut text = ArrayString::<256>::new();
         let _ = write!(text, "{error}");
-        // The number of the error stands behind the text.
+        // Without the number of the error.
         let reason = text.as_str().split(" (os error").next();
         self.tell_reason(path, tried, reason.unwrap_or(""));
     }
 
-    /// The same for a reason of this program's own.
+    /// As `tell`, for a reason of this program's own.
     pub fn tell_reason(&self, path: &str, tried: &str, reason: &str) {
         let mut line = Line {
             text: ArrayString::new(),
@@ -157,32 +160,47 @@ impl Standard {
         let _ = line.pass_on();
     }
 
-    /// Whether a line stands on the terminal for a moment.
+    /// Whether a line of progress is on the screen.
     pub fn has_line(&self) -> bool {
         self.has_line.get()
     }
 
-    /// Writes a line on the terminal that stands for a moment, in place of one that stands there. It ends at the
-    /// terminal's last column, whatever the text has behind that.
+    /// Draws a line of progress behind the cursor, in place of the one before. The terminal cuts it at its last column.
+    /// In the background nothing is drawn, and the line before is forgotten.
     pub fn show_line(&self, text: &[u8]) {
-        self.has_line.set(true);
+        if !self.foreground.is_held() {
+            return self.forget_line();
+        }
         let mut line = ArrayVec::<u8, 512>::new();
-        // A longer text, of which there is none, is cut.
-        let _ = line.write_all(b"\r\x1b[K\x1b[?7l");
+        // Every text fits.
+        let _ = line.write_all(if self.has_line.get() {
+            RESTORE_CURSOR
+        } else {
+            SAVE_CURSOR
+        });
+        let _ = line.write_all(b"\x1b[K\x1b[?7l");
         let _ = line.write_all(text);
         let _ = line.write_all(b" \x1b[?7h");
+        self.has_line.set(true);
         self.write_to_terminal(line.as_slice());
     }
 
-    /// Erases that line, if there is one.
+    /// Erases the line of progress, and moves the cursor back to where it was.
     pub fn erase_line(&self) {
         if self.has_line.get() {
-            self.has_line.set(false);
-            self.write_to_terminal(b"\r\x1b[K");
+            self.forget_line();
+            if self.foreground.is_held() {
+                self.write_to_terminal(b"\x1b8\x1b[K");
+            }
         }
     }
 
-    // Writes to standard error, in one piece where the system takes it so, unless it is a file with a key.
+    /// Leaves the line of progress as it is. The next one begins at the cursor.
+    pub fn forget_line(&self) {
+        self.has_line.set(false);
+    }
+
+    // In one piece, where the system takes it so.
     fn write_to_terminal(&self, bytes: &[u8]) {
         if !self.errors.is_shut.get() {
             let mut stderr = self.stderr;
@@ -190,7 +208,7 @@ impl Standard {
         }
     }
 
-    /// The answer of a call of the system on the file of this path. Where it failed, standard error says so.
+    /// The answer of a call of the system on the file of this path. Standard error says why it failed (53).
     pub fn told<T>(&self, path: &str, tried: &str, answer: io::Result<T>) -> Result<T, Refusal>
         ensures { IfErr result (λ refusal. refusal ≡ Refusal.FileFailed) }
     {
@@ -203,7 +221,7 @@ impl Standard {
         }
     }
 
-    /// Refuses a state file that is standard output or standard error. From then on nothing is written to that stream.
+    /// Refuses a state file that is standard output or standard error (53), and shuts that stream.
     pub fn refuse_state(&self, path: &str, id: FileId) -> Result<(), Refusal>
         ensures { IfErr result (λ refusal. refusal ≡ Refusal.FileFailed) }
     {
@@ -228,7 +246,7 @@ impl Standard {
     }
 }
 
-// The null device, opened for reading, if this stream is closed.
+// /dev/null, opened for reading, if this stream is closed.
 fn null_device<S: AsFd>(rt: &HostRuntime, stream: &S) -> io::Result<Option<File>> {
     if stream.as_fd().try_clone_to_owned().is_ok() {
         return Ok(None);
@@ -236,7 +254,7 @@ fn null_device<S: AsFd>(rt: &HostRuntime, stream: &S) -> io::Result<Option<File>
     Ok(Some(fs::open(rt, "/dev/null")?))
 }
 
-/// The standard input. What fails of it is told.
+/// Standard input. Standard error says what failed.
 #[derive(Drop)]
 pub struct Input<'a, R> {
     pub standard: &'a Standard,
@@ -255,7 +273,7 @@ impl<R: Read> Read for Input<'_, R> {
     }
 }
 
-// A line that is gathered, so that one of usual length is written in one piece.
+// Gathers a line, so that one of usual length is written in one piece.
 #[derive(Drop)]
 struct Line<W> {
     text: ArrayString<1024>,
@@ -263,7 +281,6 @@ struct Line<W> {
 }
 
 impl<W: Write> Line<W> {
-    // Writes what was gathered.
     fn pass_on(&mut self) -> io::Result<()> {
         self.writer.write_all(self.text.as_bytes())?;
         self.text.clear();
@@ -283,7 +300,7 @@ impl<W: Write> fmt::Write for Line<W> {
     }
 }
 
-// A path of which control characters are shown by two hex digits each, so that it can't change the terminal.
+// A path with its control characters as hex digits, so that it can't change the terminal.
 #[derive(Clone, Copy)]
 struct Escaped<'a>(&'a str);
 

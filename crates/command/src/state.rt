@@ -1,4 +1,4 @@
-//! A state file of the machine: how it is opened, locked, and kept from other users. What fails of it is told.
+//! A state file of the machine: opening, locking, its mode. Standard error says what failed.
 
 ghost use Rattle.std.specs.Prelude.{◌≡◌, ◌++◌, ◌∷◌, [], List, length, IfErr};
 ghost use Rattle.std.specs.Io.{ReadsAtMost};
@@ -19,38 +19,38 @@ use std::os::unix::fs::{FileExt, OpenOptionsExt, PermissionsExt};
 use std::path::Path;
 use std::{fs, io};
 
-// The mode of a file that its owner alone may read and write.
+// Only the owner may read and write.
 const PRIVATE: u32 = 0o600;
 
-// The bytes of a state file with a key and no record after it.
+// The bytes of a state file that holds only the key.
 const KEY_ALONE: u64 = 257;
 
-// The bytes from a gate to the next one.
+// The bytes from one gate to the next.
 const SLOT: u64 = 256;
 
-// A gate whose slot has a record, as the first byte of a state file that has a key.
+// The first byte of a state file that has a key.
 const OPEN_GATE: u8 = 0xA5;
 
-// A gate of this program whose slot has none.
+// The closed gate that this program writes; any value but 0xA5 closes a gate.
 const CLOSED_GATE: u8 = 0;
 
 /// What a state file is opened for.
 #[derive(Clone, Copy, Debug, PartialEq, Eq)]
 pub enum Access {
-    /// To be read alone.
+    /// Reading alone.
     Read,
-    /// To be read and written.
+    /// Reading and writing.
     ReadAndWrite,
 }
 
-/// A state file of the machine that is open.
+/// An open state file of the machine.
 ///
-/// That these are the calls of the system that it notes is read, and tests count its syncs. What follows is tested or
-/// read, as no contract of the standard library speaks of it. The file is a regular one and no standard stream, and
-/// only `open_or_make` makes it and sets its mode. A locked one is 54, and the folder is synced.
+/// That it notes the calls of the system as they are made is read, and tests count its syncs. The rest here is tested
+/// or read, since no contract of the standard library speaks of it. The file is a regular one and no standard stream.
+/// Only `open_or_make` makes it, sets its mode and syncs its folder. A file that is locked already is refused with 54.
 ///
-/// Another process may append to a file that isn't locked here. It is shown as it was when its length was asked: a gate
-/// that was opened since then, of a slot that wasn't whole, reads as closed. A file that is read alone counts as synced
+/// Another process may append to a file that isn't locked here. It is shown as it was when its length was last asked: a
+/// gate opened since then, whose slot wasn't whole, reads as closed. A file opened for reading alone counts as synced
 /// where its file system knows no sync.
 #[derive(Drop)]
 pub struct StateFile<'a> {
@@ -59,13 +59,12 @@ pub struct StateFile<'a> {
     id: FileId,
     access: Access,
     is_locked: bool,
-    // How many bytes it had when this was last asked.
+    // In bytes, when it was last asked.
     length: u64,
     standard: &'a Standard,
     trace: Trace,
 }
 
-// Contracts see its path, and what happened to it.
 impl<'a> Model for StateFile<'a> {
     ghost use Rattle.command.specs.FileDisk.{OpenedState};
 
@@ -75,7 +74,8 @@ impl<'a> Model for StateFile<'a> {
 }
 
 impl<'a> StateFile<'a> {
-    /// Opens the state file at this path, and locks it without waiting. It has to be a regular file, and is never made.
+    /// Opens the state file at this path, and locks it without waiting. It is never made. 54: it is locked. 53: it
+    /// isn't a regular file, it is a standard stream, or a call failed.
     pub fn open<R: Files<File = File>>(
         rt: &R,
         standard: &'a Standard,
@@ -88,7 +88,7 @@ impl<'a> StateFile<'a> {
         StateFile::lock(standard, path, file, access)
     }
 
-    /// Opens it for reading alone, as `open` does, and doesn't lock it.
+    /// As `open`, for reading alone and without a lock.
     pub fn open_unlocked<R: Files<File = File>>(
         rt: &R,
         standard: &'a Standard,
@@ -100,9 +100,8 @@ impl<'a> StateFile<'a> {
         StateFile::take(standard, path, file, Access::Read)
     }
 
-    /// Opens it for reading and writing, and makes it where there is none. Where it may take the new content, its owner
-    /// alone may read and write it from then on. Its folder is synced, so that the file's name stays: it may have been
-    /// made by a run that was stopped.
+    /// As `open`, for reading and writing; makes the file if there is none. If it may take the new content, its mode
+    /// becomes 0600. The folder is synced even if the file was there: a run that crashed may have made it.
     pub fn open_or_make<R: Files<File = File>>(
         rt: &R,
         standard: &'a Standard,
@@ -133,7 +132,7 @@ impl<'a> StateFile<'a> {
         Ok(file)
     }
 
-    // The file that was opened, if it is a regular one and no standard stream. Nothing happened to it yet.
+    // The opened file, if it is a regular one and no standard stream. Its trace is empty.
     fn take(
         standard: &'a Standard,
         path: &'a str,
@@ -160,7 +159,7 @@ impl<'a> StateFile<'a> {
         })
     }
 
-    // The same, locked for this process alone.
+    // As `take`, with the lock.
     fn lock(
         standard: &'a Standard,
         path: &'a str,
@@ -190,7 +189,7 @@ impl<'a> StateFile<'a> {
         }
     }
 
-    // Lets its owner alone read and write it, if it may take this content: one that is refused later keeps its mode.
+    // Sets mode 0600 if it may take this content: a file that is refused later keeps its mode.
     fn make_private(&self, content: NewContent) -> Result<(), Refusal>
         ensures { IfErr result (λ refusal. refusal ≡ Refusal.FileFailed) }
     {
@@ -201,7 +200,7 @@ impl<'a> StateFile<'a> {
         self.standard.told(self.path, "its mode can't be set", set)
     }
 
-    // Whether it has fewer bytes than a key, or a closed gate and as many; records take the place of more bytes, too.
+    // Whether it is shorter than a key, or its first gate is closed. A key also can't replace more than 257 bytes.
     fn may_take(&self, content: NewContent) -> Result<bool, Refusal>
         ensures { IfErr result (λ refusal. refusal ≡ Refusal.FileFailed) }
     {
@@ -226,8 +225,7 @@ impl<'a> StateFile<'a> {
         self.id
     }
 
-    // Reads as the system does. A gate that another process has opened since the length was asked reads as closed,
-    // since its slot wasn't whole then.
+    // A gate that another process opened since the length was asked reads as closed: its slot wasn't whole then.
     fn read_as_it_was(&self, at: u64, into: &mut [u8]) -> io::Result<usize>
         ensures { ReadsAtMost result into.new }
     {
@@ -250,7 +248,7 @@ impl<'a> StateFile<'a> {
         }
     }
 
-    // Syncs it. A file that is read alone is as good as synced where its file system knows no sync.
+    // A file opened for reading alone counts as synced where its file system knows no sync.
     fn synced(&self) -> io::Result<()> {
         match self.file.sync_data() {
             Err(error) if self.access == Access::Read && error.kind() == ErrorKind::InvalidInput =>
@@ -259,7 +257,7 @@ impl<'a> StateFile<'a> {
         }
     }
 
-    // The answer of a call of the system. Where it failed, standard error says so.
+    // Returns the answer. Standard error says what failed.
     fn told<T>(&self, tried: &str, answer: io::Result<T>) -> io::Result<T>
         ensures { result ≡ answer }
     {
@@ -270,7 +268,6 @@ impl<'a> StateFile<'a> {
     }
 }
 
-// The regular file at this path, opened for this.
 fn open_regular<R: Files<File = File>>(
     rt: &R,
     standard: &Standard,
@@ -279,7 +276,7 @@ fn open_regular<R: Files<File = File>>(
 ) -> Result<File, Refusal>
     ensures { IfErr result (λ refusal. refusal ≡ Refusal.FileFailed) }
 {
-    // It is looked at before it is opened, too: opening a device may do something.
+    // Checked before opening, too: opening a device may do something.
     let found = standard.told(path, "can't be opened", fs::metadata(rt, path))?;
     if !found.is_file() {
         return Err(not_regular(standard, path));
@@ -291,7 +288,6 @@ fn open_regular<R: Files<File = File>>(
     standard.told(path, "can't be opened", opened)
 }
 
-// Says that the file of this path is no regular file.
 fn not_regular(standard: &Standard, path: &str) -> Refusal
     ensures { result ≡ Refusal.FileFailed }
 {
@@ -353,7 +349,6 @@ impl OffsetFile for StateFile<'_> {
     }
 }
 
-// Syncs the folder in which the file of this path stands.
 fn sync_folder<R: Files<File = File>>(
     rt: &R,
     standard: &Standard,
@@ -366,7 +361,6 @@ fn sync_folder<R: Files<File = File>>(
     standard.told(folder, "can't be synced", opened.sync_all())
 }
 
-// The folder in which the file of this path stands.
 fn folder_of(path: &str) -> &str {
     match Path::new(path).parent() {
         Some(folder) if !folder.as_str().is_empty() => folder.as_str(),

@@ -1,4 +1,4 @@
-//! A file that gets new bytes in place of what it has. It is judged once it is open, and cut only then.
+//! A file whose content is replaced. It is judged once it is open, and cut only then.
 
 ghost use Rattle.std.specs.Prelude.{◌≡◌, ◌++◌, ◌∷◌, [], List, Bool, Some};
 ghost use Rattle.std.specs.List.{list_any};
@@ -9,13 +9,12 @@ ghost use Rattle.command.specs.declared.file_id.FileId.{FileId as File};
 use crate::file_id::{FileId, KeptFiles};
 use crate::refusal::Refusal;
 
-/// A file that is open for writing. Its content is as it was. That a machine's file makes the calls that it notes is
-/// read and tested.
+/// A file open for writing, with its old content. That a machine's file makes the calls that it notes is read and
+/// tested.
 pub trait Target {
-    // which file it is
     ghost id: { Self → File };
 
-    // whether it is a regular file, which may have a key and can be cut
+    // a regular file may have a key, and can be cut
     ghost is_regular: { Self → Bool };
 
     // what was done with it, in order
@@ -29,7 +28,7 @@ pub trait Target {
     fn is_regular(&self) -> bool
         ensures { result ≡ is_regular self.now };
 
-    /// Looks whether it has a key: whether it begins as a state file does, whatever its first gate is.
+    /// Whether it begins as a state file with a key does, whatever its first gate is.
     fn has_key(&mut self) -> Result<bool, Refusal>
         ensures { acts self.new ≡ acts self.old ++ looking result ∷ [] };
 
@@ -37,7 +36,7 @@ pub trait Target {
     fn cut(&mut self) -> Result<(), Refusal>
         ensures { acts self.new ≡ acts self.old ++ cutting result ∷ [] };
 
-    /// Writes these bytes, all of them, from its beginning on.
+    /// Writes all of these bytes, from its beginning on.
     fn write_all(&mut self, bytes: &[u8]) -> Result<(), Refusal>
         ensures { acts self.new ≡ acts self.old ++ writing_all bytes.now result ∷ [] };
 }
@@ -45,7 +44,7 @@ pub trait Target {
 /// Why a file wasn't written.
 #[derive(Clone, Copy, Debug, PartialEq, Eq)]
 pub enum NotReplaced {
-    /// It is one of those that are never written over.
+    /// It is one of the files that are never overwritten.
     Kept,
     /// It has a key.
     HasKey,
@@ -53,7 +52,7 @@ pub enum NotReplaced {
     Failed,
 }
 
-/// Writes these bytes in place of what the file has. One that is kept, or a regular one that has a key, isn't changed.
+/// Replaces the file's content by these bytes. A kept file, or a regular one that has a key, isn't changed.
 pub fn replace<T: Target>(target: &mut T, kept: &KeptFiles, bytes: &[u8]) -> Result<(), NotReplaced>
     ensures { Replaces (list_any (λ file. ⟦<Option<FileId> as PartialEq>⟧.eq file (Some (T.id target.old))) kept.now)
         (T.is_regular target.old) bytes.now result (T.acts target.old) (T.acts target.new) }
@@ -70,7 +69,7 @@ pub fn replace<T: Target>(target: &mut T, kept: &KeptFiles, bytes: &[u8]) -> Res
     }
 }
 
-// Cuts a regular file to no bytes, if it has no key.
+// Cuts the file, if it has no key.
 fn make_empty<T: Target>(target: &mut T) -> Result<(), NotReplaced>
     ensures { MakesEmpty result (T.acts target.old) (T.acts target.new) }
 {

@@ -8,9 +8,8 @@ use clap::Error;
 use std::alloc::{AllocError, Global};
 use typecodes::Count;
 
-/// What makes texts in memory.
+/// A maker of texts, which counts how often memory was refused.
 pub trait TextMaker {
-    // how often memory was refused
     ghost refusals: { Self → ℕ };
 
     /// The text that `clap` makes for an error.
@@ -23,7 +22,7 @@ pub trait TextMaker {
         ensures counts { CountsFailure result (refusals self.old) (refusals self.new) };
 }
 
-/// Makes texts in the memory of the program.
+/// Texts in the program's memory.
 #[derive(Drop)]
 pub struct Texts {
     alloc: Global,

@@ -9,13 +9,13 @@ use std::io;
 use std::io::ErrorKind;
 use std::marker::Model;
 
-/// What keeps, for contracts, what happened to files.
+/// Has a trace of what happened to files, for contracts.
 pub trait Traced {
-    // what happened to files, in order
+    // in order
     ghost trace: { Self → List Happening };
 }
 
-/// Which of a command's files it is.
+/// Which of a command's files.
 #[derive(Clone, Copy, Debug, PartialEq, Eq)]
 pub enum Role {
     /// The state file.
@@ -30,7 +30,7 @@ pub enum Role {
     Random,
 }
 
-/// What happens to a file. It may lend the bytes of a state file, and isn't printed.
+/// What happened to a file. It may borrow a state file's bytes, so it has no `Debug`.
 #[derive(Clone, Copy)]
 pub enum Event<'a> {
     /// It is opened, by this path.
@@ -41,7 +41,7 @@ pub enum Event<'a> {
     OpenedToRead(&'a str),
     /// The state file of this path is opened for reading alone, and isn't locked.
     OpenedUnlocked(&'a str),
-    /// The state file of this path is opened, and was made where there was none.
+    /// The state file of this path is opened, and was made if there was none.
     Made(&'a str),
     /// It can't be opened or made.
     NotMade(&'a str),
@@ -53,15 +53,15 @@ pub enum Event<'a> {
     Failed(Role, ErrorKind),
     /// The length is requested.
     Measured(Result<u64, ErrorKind>),
-    /// A read at this offset, for so many bytes, gives these.
+    /// A read at this offset, for this number of bytes, gives these.
     ReadAt(u64, usize, Result<&'a [u8], ErrorKind>),
     /// A write of these bytes at this offset takes the first of them.
     WrittenAt(u64, &'a [u8], Result<&'a [u8], ErrorKind>),
     /// What was written is synced.
     Synced(Result<(), ErrorKind>),
-    /// It was looked whether the file that is open to be written has a key.
+    /// Whether the file that is open for writing has a key.
     Looked(bool),
-    /// This couldn't be seen.
+    /// That couldn't be read.
     NotLooked,
     /// It is cut to no bytes.
     Cut,
@@ -69,11 +69,11 @@ pub enum Event<'a> {
     NotCut,
     /// These bytes are written to it, from its beginning on.
     Wrote(&'a [u8]),
-    /// Not all of them are.
+    /// Not all of these bytes are written.
     NotWrote,
     /// The file of this path has these bytes and no others.
     Written(Role, &'a str, &'a [u8]),
-    /// It isn't written, or a call to open or write it failed. What it has isn't known.
+    /// It isn't written, or a call to open or write it failed. Its content isn't known.
     NotWritten(Role, &'a str),
 }
 
@@ -83,7 +83,7 @@ pub struct Trace {
     pub ghost events: { List Happening },
 }
 
-// The list takes no bytes, so the tactics find no proof of the two functions: they are proved by hand.
+// The list takes no bytes, so the tactics find no proof of `new` and `and`: they are proved by hand.
 impl Model for Trace {
     ghost also_owns = { λ _. ftrue };
 }
@@ -92,14 +92,14 @@ impl Trace {
     ghost use Rattle.typecodes.specs.Message.{read_outcome};
     ghost use Rattle.command.specs.Trace.{ReadsOnce, happening_of};
 
-    /// Nothing happened.
+    /// An empty trace.
     pub fn new() -> Trace
         ensures { result.events ≡ [] }
     {
         Trace {}
     }
 
-    /// The same, and this event after it.
+    /// This trace, and this event after it.
     pub fn and(&self, _event: &Event<'_>) -> Trace
         ensures { result.events ≡ self.now.events ++ happening_of _event.now ∷ [] }
     {

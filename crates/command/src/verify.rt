@@ -61,7 +61,7 @@ impl<'a> Verify<'a> {
             .arg(required(alloc, "SIGNATURE", "File of the signature"))
     }
 
-    /// The files that the words name.
+    /// The words that `clap` matched; None if one is missing.
     pub fn of(matches: &ArgMatches<'a>) -> Option<Self>
         ensures found { IsSome result ↔ (IsSome (first_value (found_of matches.now) (codes "PUBLIC")))
             × (IsSome (first_value (found_of matches.now) (codes "MESSAGE")))
@@ -80,7 +80,7 @@ impl<'a> Verify<'a> {
         })
     }
 
-    /// Opens the files in the order of the line, up to one that can't be opened.
+    /// Opens the files in the order of the line, up to the first that can't be opened (53).
     pub fn open<D: LineFiles<'a>>(&self, folder: &mut D) -> Result<Opened<D::File>, Refusal>
         ensures opens { OpensInTurn self.now.public.now self.now.message.now self.now.signature.now result
             (D.trace folder.old) (D.trace folder.new) }
@@ -99,10 +99,10 @@ impl<'a> Verify<'a> {
         })
     }
 
-    /// Opens the files, reads them, and judges what is in them.
+    /// Reads the files, and verifies the signature.
     ///
-    /// 53 comes where a file couldn't be opened, where a read of the key or the signature failed of another kind than
-    /// refused memory, or after 2^60 bytes. 46 comes only where such a read failed of this kind.
+    /// 53: a file couldn't be opened, or a read of the key or the signature failed or went past 2^60 bytes. 46: such a
+    /// read was refused memory.
     #[inline(never)]
     pub fn answer<D: LineFiles<'a>>(&self, folder: &mut D) -> Answer
         ensures { VerifiesIn (D.content folder.old) self.now.public.now self.now.message.now self.now.signature.now
@@ -118,7 +118,7 @@ impl<'a> Verify<'a> {
     }
 }
 
-// Reads the key and the signature, and judges the message by them, which is read only where no refusal comes before it.
+// The message is read last, and only if no refusal comes before.
 fn judge_files<D: Folder>(
     folder: &mut D,
     public: &mut D::File,
@@ -139,13 +139,13 @@ fn judge_files<D: Folder>(
     };
     let answer = judge(key, &mut message, &bytes[..n]);
     let FileReader { folder, .. } = message;
-    // Only the proof needs this use: it says what the reader noted.
+    // For the prover: this use tells what the reader noted.
     let _ = &*folder;
     answer
 }
 
-/// Whether the bytes of a signature sign the message under the public key that was read, or why there is
-/// none. The first bytes of a signature decide: see `DECISIVE`.
+/// Verifies a signature of the message under the public key that was read, or refuses with that key's fault. Only the
+/// first bytes of a signature decide: see `DECISIVE`.
 pub fn judge<M: Message>(
     key: Result<AnyPublic, KeyFault>,
     message: &mut M,

@@ -2,7 +2,7 @@ use Rattle.std.proofs.Common.{ap, ◌∙◌, true}
 use Rattle.clap.specs.Simple.{App, app_of_fields}
 use Rattle.command.proofs.line.bare_hbsign.Goals as goal
 
--- what each setting changes of what `clap` is asked for
+-- what each setting changes in the command
 abbrev with_version : App → App
 with_version app = record app { top = record app.top { has_version = true } }
 

@@ -11,7 +11,7 @@ use Rattle.command.proofs.listing_text.write_pairs.Goals as goal
 pub loop-level-init : goal.loop-level-init
 loop-level-init g c = pairs_begin (g.W.Write.contents c.args.writer.now)
 
--- what a read past the end is taken to give
+-- the default of an index past the end
 abbrev some_pair : LmsPair
 some_pair = record { tree = H5; ots = W1 }
 

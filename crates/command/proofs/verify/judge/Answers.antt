@@ -8,7 +8,6 @@ use Rattle.command.proofs.MessageReading.{no-key-leaves}
 use Rattle.typecodes.proofs.Messages.{some_content}
 use Rattle.command.proofs.verify.judge.Goals as goal
 
--- the bytes spell no key
 pub returns-in_err-key-clause-judges : goal.returns-in_err-key-clause-judges
 returns-in_err-key-clause-judges g c p s reads decides =
     let (m, fits) = some_content (g.M.Message.remaining c.args.message.now) in (
@@ -20,7 +19,6 @@ returns-in_err-key-clause-judges g c p s reads decides =
           c.in_err-key.field-0.0 c.from_residual.result c.map_err.ensures.cases c.in_err-key.was c.from_residual.ensures.1,
     )
 
--- the message is verified
 pub returns-in-Ok-clause-judges : goal.returns-in-Ok-clause-judges
 returns-in-Ok-clause-judges g c p s reads decides =
     let spelled = read_key p c.in_ok-key.key c.args.key c.map_err.result reads c.map_err.ensures.cases c.in_ok-key.was in
@@ -34,7 +32,6 @@ returns-in-Ok-clause-judges g c p s reads decides =
 pub returns-in-Ok-clause-no_key : goal.returns-in-Ok-clause-no_key
 returns-in-Ok-clause-no_key g c = has_key c.in_ok-key.key c.args.key c.map_err.result _ c.map_err.ensures.cases c.in_ok-key.was
 
--- or refused
 pub returns-in-Err-clause-judges : goal.returns-in-Err-clause-judges
 returns-in-Err-clause-judges g c p s reads decides =
     let spelled = read_key p c.in_ok-key.key c.args.key c.map_err.result reads c.map_err.ensures.cases c.in_ok-key.was in
