@@ -28,14 +28,18 @@ import org.bouncycastle.pqc.crypto.xmss.XMSSPublicKeyParameters;
 import org.bouncycastle.pqc.crypto.xmss.XMSSSigner;
 
 /**
- * What Bouncy Castle says of signatures, and how long it takes. The first word is what is wanted.
+ * Bouncy Castle's verdicts and times. The first word is the task; times are the processor's, in milliseconds.
  *
- * <p>verify: for each line of the input, the paths of a public key, a message and a signature with tabs between them,
- * it prints `verified` or `refused`. time-verify PUBLIC MESSAGE SIGNATURE HASHES: the milliseconds of a verification,
- * and of as many bare hashes of 55 bytes. time-sign lms:H10/W8 or xmss:10: the milliseconds of making a key, and of
- * signing by it as it is read from its bytes, at its first leaf and at its 500th. time-session SPEC COUNT, for
- * lms:H10/W8, lms:H10/W4 and xmss:10: the milliseconds of making a key, and of one of so many signatures by it as it
- * is kept. Times are those of the processor.
+ * <p>verify: each input line has the paths of a public key, a message and a signature, with tabs between them; it
+ * prints `verified` or `refused`.
+ *
+ * <p>time-verify PUBLIC MESSAGE SIGNATURE HASHES: one verification, and this many bare hashes of 55 bytes.
+ *
+ * <p>time-sign SPEC, lms:H10/W8 or xmss:10: making a key, and signing with it once it is read from its bytes, at leaf 0
+ * and at leaf 499.
+ *
+ * <p>time-session SPEC COUNT, lms:H10/W8, lms:H10/W4 or xmss:10: making a key, and one of COUNT signatures by it while
+ * it stays in memory.
  */
 public class BouncyCastle {
     static final byte[] MESSAGE = {1};
@@ -58,7 +62,7 @@ public class BouncyCastle {
         }
     }
 
-    /** Bytes that it can't read as a key or a signature are refused, too. */
+    /** Refuses bytes that don't decode, too. */
     static boolean verifies(byte[] key, byte[] message, byte[] signature) {
         try {
             return verifier(key).verifySignature(message, signature);
@@ -88,7 +92,7 @@ public class BouncyCastle {
         System.out.println(verify + " " + bare);
     }
 
-    /** The shortest time of three keys, and for each place of three signings. */
+    /** The shortest time of three keys, and of three signings at each of two leaves. */
     static void timeSign(Key key) throws IOException {
         double make = Double.MAX_VALUE;
         double first = Double.MAX_VALUE;
@@ -103,7 +107,7 @@ public class BouncyCastle {
         System.out.println(make + " " + first + " " + later);
     }
 
-    /** The shortest time of three keys, and of one of the first signatures of each. */
+    /** The shortest time of three keys, and of a signature in the shortest of three sessions. */
     static void timeSession(String spec, int count) {
         double make = Double.MAX_VALUE;
         double sign = Double.MAX_VALUE;
@@ -120,7 +124,7 @@ public class BouncyCastle {
         System.out.println(make + " " + sign);
     }
 
-    /** A key that is kept in memory, and signs. */
+    /** A key in memory that signs. */
     interface Session {
         void sign();
     }
@@ -162,15 +166,15 @@ public class BouncyCastle {
         return shortest;
     }
 
-    /** A kind of key: how one is made, and how the one that was made signs after it was read from its bytes. */
+    /** A kind of key: how one is made, and how it signs once it is read from its bytes. */
     interface Key {
         void make() throws IOException;
 
-        /** What reads the key's bytes, with so many leaves used, and signs. */
+        /** Reads the key's bytes, with this many leaves used, and signs. */
         Supplier<byte[]> at(int leaves) throws IOException;
     }
 
-    /** LMS of H10/W8. What it keeps of the tree isn't in its bytes. */
+    /** LMS of H10/W8. Its bytes have no nodes of the tree. */
     static class LmsKey implements Key {
         byte[] bytes;
 
@@ -202,7 +206,7 @@ public class BouncyCastle {
         }
     }
 
-    /** XMSS of height 10. What it keeps of the tree is in its bytes. */
+    /** XMSS of height 10. Its bytes have the nodes that it keeps. */
     static class XmssKey implements Key {
         final XMSSParameters parameters = new XMSSParameters(10, new SHA256Digest());
         byte[] bytes;

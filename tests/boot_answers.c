@@ -1,8 +1,8 @@
 /*
- * What the calls of include/hbs_verify.h answer for the files of each line of standard input: a public key, a message
- * and a signature, parted by tabs. It prints for each the answer of hbs_verify, of hbs_message_prefix, and of
- * hbs_verify_digest for the SHA-256 of the bytes that this wrote and the message, each as number:detail, and the bytes
- * in hex. Where there is a refusal before the message, the digest is one of zeros.
+ * The answers of include/hbs_verify.h for the files of each input line: a public key, a message and a signature, with
+ * tabs between them. A line of output has the answers of hbs_verify, hbs_message_prefix and hbs_verify_digest as
+ * number:detail, and the prefix in hex. The digest is the SHA-256 of prefix and message, or zeros where the prefix is
+ * refused.
  */
 #include <stdio.h>
 #include <stdlib.h>

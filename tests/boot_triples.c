@@ -4,9 +4,9 @@
  *
  *     boot_triples COUNT (PUBLIC MESSAGE SIGNATURE) ..
  *
- * What is given ends where a page begins that can't be read, or begins where one ends, or lies in memory of its own
- * size that the address sanitizer watches. Of each fifth triple the library answers by the message's digest, too. It
- * prints how many triples had each number, and each triple whose answers differ.
+ * A part ends where an unreadable page begins, begins where one ends, or has memory of its own size that the address
+ * sanitizer watches. For each fifth triple the library also answers by the message's digest. It prints how many triples
+ * had each number, and each triple whose answers differ.
  */
 #define _DEFAULT_SOURCE
 #include <stdio.h>
@@ -17,7 +17,7 @@
 #include "../boot/sha256.h"
 #include "hbs_verify.h"
 
-/* The verifiers that the program has, in an archive that is made for this test, and those of boot/plain.c. */
+/* The program's verifiers, from an archive built for this test, and the one of boot/plain.c. */
 uint64_t program_verify(const uint8_t *, size_t, const uint8_t *, size_t, const uint8_t *, size_t);
 uint64_t plain_verify(const uint8_t *, size_t, const uint8_t *, size_t, const uint8_t *, size_t);
 
@@ -33,14 +33,14 @@ typedef struct {
     size_t length;
 } content;
 
-/* The pages in which a part stands, between two that can't be read, and its own memory. */
+/* The pages for a part, between two unreadable ones, and memory of the part's own size. */
 typedef struct {
     uint8_t *pages, *own;
 } place;
 
 static uint64_t state = 0x9e3779b97f4a7c15;
 
-/* The next number below a bound, of a fixed sequence (xorshift64*). */
+/* The next number of a fixed sequence (xorshift64*), below a bound. */
 static size_t below(size_t bound) {
     state ^= state >> 12;
     state ^= state << 25;
@@ -68,7 +68,7 @@ static place new_place(void) {
     return it;
 }
 
-/* Puts a part where nothing before or after it can be read. */
+/* Puts a part where a read past an end, or one before its beginning, is caught. */
 static content put_into(place *at, const content *it, size_t turn) {
     content placed = {at->pages, it->length};
     free(at->own);
@@ -86,7 +86,7 @@ static void change_byte(content *it) {
     if (it->length > 0) it->bytes[below(it->length)] ^= (uint8_t)(1 + below(255));
 }
 
-/* A field of four bytes becomes a small number, as codes, indexes and levels are. */
+/* Sets a field of four bytes to a small number, as codes, indexes and levels are. */
 static void set_field(content *it) {
     if (it->length < 4) return;
     size_t at = below(4) ? below((it->length < 64 ? it->length : 64) / 4) * 4 : below(it->length / 4) * 4;
@@ -105,7 +105,7 @@ static void lengthen(content *it) {
     }
 }
 
-/* Changes a triple, of which another one may give a part. */
+/* Changes a triple; a part may become another triple's. */
 static void change(content *parts, const content *other) {
     size_t which = below(4) ? SIGNATURE : below(PARTS);
     switch (below(10)) {
@@ -134,16 +134,15 @@ static void change(content *parts, const content *other) {
     }
 }
 
-/* Whether an answer is a refusal that is known before the message is hashed: all are but those of types and roots. */
+/* Whether an answer is a refusal before the message is hashed: all but other types and a wrong root are. */
 static int is_early(uint64_t answer) {
     const uint64_t number = HBS_NUMBER(answer);
     return number != HBS_VERIFIED && number != HBS_TYPE_MISMATCH && number != HBS_ROOT_MISMATCH;
 }
 
 /*
- * The library's answer by the message's digest, or its refusal before the message is hashed; UINT64_MAX where this is
- * none of these that come before, or one that should have come. What it writes ends where a page begins that can't be
- * read, and so does the digest.
+ * The library's answer by the message's digest, or its refusal before the message is hashed. UINT64_MAX where a refusal
+ * comes too early or too late. The prefix and the digest end where an unreadable page begins.
  */
 static uint64_t by_digest(const content *it, uint8_t *end) {
     const content key = it[KEY], message = it[MESSAGE], signature = it[SIGNATURE];
@@ -160,7 +159,7 @@ static uint64_t by_digest(const content *it, uint8_t *end) {
     return is_early(answer) ? UINT64_MAX : answer;
 }
 
-/* Gives a triple to each verifier, and says where their answers differ. */
+/* Gives a triple to each verifier, and prints answers that differ. */
 static int differs(size_t turn, const content *it, uint8_t *end, size_t *seen) {
     const content key = it[KEY], message = it[MESSAGE], signature = it[SIGNATURE];
     const uint64_t library = hbs_verify(key.bytes, key.length, message.bytes, message.length, signature.bytes,

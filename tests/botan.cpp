@@ -1,9 +1,9 @@
-// What Botan 2 says of signatures of XMSS, and how long it takes. The first word is what is wanted:
-// verify: for each line of the input, the paths of a public key, a message and a signature with tabs between them, it
-// prints `verified` or `refused`. time-verify PUBLIC MESSAGE SIGNATURE: the milliseconds of a verification. time-sign:
-// the milliseconds of making a key of height 10, and of signing by it at its first leaf and at its 500th. time-session
-// COUNT: the milliseconds of making such a key, and of one of so many signatures by it as it is kept. Times are those
-// of the processor.
+// Botan 2's verdicts and times for XMSS. The first word is the task; times are the processor's, in milliseconds.
+// - verify: each input line has the paths of a public key, a message and a signature, with tabs between them; it prints
+//   `verified` or `refused`.
+// - time-verify PUBLIC MESSAGE SIGNATURE: one verification.
+// - time-sign: making a key of height 10, and signing with it at leaf 0 and at leaf 499.
+// - time-session COUNT: making such a key, and one of COUNT signatures by it while it stays in memory.
 #include <algorithm>
 #include <botan/auto_rng.h>
 #include <botan/pubkey.h>
@@ -23,7 +23,7 @@ static std::vector<uint8_t> read(const std::string &path)
     return {std::istreambuf_iterator<char>(file), std::istreambuf_iterator<char>()};
 }
 
-// The shortest time of some runs, in milliseconds.
+// The shortest time of these runs, in milliseconds.
 static double shortest(int rounds, const std::function<void()> &run)
 {
     double least = 1e9;
@@ -35,7 +35,7 @@ static double shortest(int rounds, const std::function<void()> &run)
     return least;
 }
 
-// Bytes that it can't read as a key or a signature are refused, too.
+// Refuses bytes that don't decode, too.
 static bool verifies(const std::string &key, const std::string &message, const std::string &signature)
 {
     try {
@@ -82,7 +82,6 @@ static void time_sign()
     std::printf("%f %f %f\n", make, first, later);
 }
 
-// The milliseconds of making a key, and of one of so many signatures by it as it is kept.
 static void time_session(int count)
 {
     Botan::AutoSeeded_RNG random;

@@ -1,13 +1,13 @@
-/* Makes calls that read and write files do a part of what is asked of them, or fail, in a program that it is loaded
-   before (LD_PRELOAD).
+/* Makes a program's calls that read and write files do only a part, or fail. It is loaded by LD_PRELOAD.
 
-   PLANS has a plan for each of some files, parted by semicolons: the path of the file, `r` for the calls that read it
-   or `w` for those that write it, and words for these calls in turn, all parted by commas. A number is how many bytes
-   a call does at most, where 0 is the end of what is read, or of the room; `all` is as many as are asked for;
-   `failed`, `interrupted` and `memory` are the errors EIO, EINTR and ENOMEM. What the last word says holds for all
-   later calls, too. In the place of `r` and `w`, `t` turns what is read: with an offset and a number after it a read at
-   this offset gives other bytes, once there were so many reads of it. The files are told apart by what they are, so
-   that a plan holds of a standard stream as well. */
+   PLANS has plans for files, with semicolons between them: PATH,r,WORD,.. for reads, or PATH,w,WORD,.. for writes. The
+   words hold for these calls in turn, and the last one also for all later calls:
+   - a number: the most bytes of a call; 0 is the end of the input, or of the room.
+   - `all`: as many bytes as are asked for.
+   - `failed`, `interrupted`, `memory`: the errors EIO, EINTR, ENOMEM.
+
+   PATH,t,OFFSET,COUNT changes what is read: after COUNT reads at this offset the next ones give other bytes. Files are
+   recognized by their device and inode, so a plan holds for a standard stream, too. */
 #define _GNU_SOURCE
 #include <dlfcn.h>
 #include <errno.h>
@@ -21,7 +21,7 @@ enum { MOST_PLANS = 8 };
 struct plan {
     const char *path;
     char kind;
-    /* the words that are left */
+    /* the remaining words */
     char *words;
     long reads;
 };
@@ -47,7 +47,7 @@ static void begin(void)
     }
 }
 
-/* The plan of the calls of a kind on a file, if there is one. */
+/* The plan for this kind of calls on a file, if there is one. */
 static struct plan *plan_of(int file, char kind)
 {
     struct stat found, planned;
@@ -61,7 +61,7 @@ static struct plan *plan_of(int file, char kind)
     return NULL;
 }
 
-/* How many of so many bytes the next call of a kind on a file does; -1 where it fails, with its error. */
+/* How many of `size` bytes the next call of this kind does; -1 where it fails, with errno set. */
 static ssize_t size_of(int file, char kind, size_t size)
 {
     struct plan *plan = plan_of(file, kind);
@@ -82,7 +82,7 @@ static ssize_t size_of(int file, char kind, size_t size)
     return -1;
 }
 
-/* Turns what was read at an offset of a file, where a plan has that. */
+/* Changes what was read at an offset of a file, if a plan says so. */
 static void turn(int file, void *into, ssize_t size, long long at)
 {
     struct plan *plan = plan_of(file, 't');

@@ -1,11 +1,11 @@
-/* Counts the growths of memory of a program that it is loaded before (LD_PRELOAD), and refuses some.
+/* Counts a program's growths of memory (calls of malloc and realloc), and refuses some. It is loaded by LD_PRELOAD.
 
-   With a number in REFUSE it refuses the growth of that number alone, and makes the file that REFUSED names when it
-   does. With `each` in REFUSE it refuses each growth in turn, from the first one on, in a copy of the process that goes
-   on from there: to the process itself none is refused. So no part of a run is repeated that comes before the growth.
-   What the copy of growth N prints comes into the file N of the folder that REFUSED names, which is there before the
-   copy is; as many copies run at once as JOBS says, and a process that exits does so after all of them. Where GROWTHS
-   names a file, the process leaves there how many growths it had, as it exits. */
+   - REFUSE=N: growth N alone is refused, and the file REFUSED is then made.
+   - REFUSE=each: each growth is refused in turn, from the first on, in a copy of the process that goes on from there.
+     So nothing before a growth runs twice, and none is refused to the process itself. The output of the copy for growth
+     N goes to the file N in the folder REFUSED, which is made before the copy. JOBS copies run at once, and a process
+     exits after all of its copies.
+   - GROWTHS=FILE: the process writes its number of growths to FILE when it exits. */
 #define _GNU_SOURCE
 #include <dlfcn.h>
 #include <fcntl.h>
@@ -45,7 +45,7 @@ static void make_file(const char *path)
         close(file);
 }
 
-/* Whether this process is the copy in which the growth is refused. */
+/* Makes a copy of the process, and says whether this one is the copy, in which the growth is refused. */
 static int is_copy(void)
 {
     const char *folder = getenv("REFUSED");
@@ -86,7 +86,6 @@ static int is_refused(void)
     return 1;
 }
 
-/* What the process does at its end. */
 __attribute__((destructor)) static void end(void)
 {
     const char *path = getenv("GROWTHS");

@@ -1,20 +1,20 @@
 """The formulas of RFC 8554 and RFC 8391, and the state file, the signer and the frames of docs/FORMATS.md and
-docs/REFUSALS.md, in plain Python over hashlib alone. Expected values of tests come from here and not from any program
-that they test. Numbers are big-endian.
+docs/REFUSALS.md, in plain Python over hashlib. Tests take expected values from here, not from a tested program. Numbers
+are big-endian.
 """
 import hashlib
 
 H = hashlib.sha256
-# one-time types by their code: bits of a digit, chains, shift of the checksum (RFC 8554 4.1)
+# one-time types by code: bits of a digit, chains, shift of the checksum (RFC 8554 4.1)
 WIDTHS = {1: (1, 265, 7), 2: (2, 133, 6), 3: (4, 67, 4), 4: (8, 34, 0)}
-# heights by the code of a tree (RFC 8554 5.1), and of XMSS (RFC 8391 5.3)
+# heights by code: of LMS trees (RFC 8554 5.1), and of XMSS (RFC 8391 5.3)
 HEIGHTS = {5: 5, 6: 10, 7: 15, 8: 20, 9: 25}
 XMSS_HEIGHTS = {1: 10, 2: 16, 3: 20}
 LMS, HSS, XMSS = 1, 2, 3
-# the versions of the state file, with the most bytes that a name has in a file of it
+# the most bytes of a name, by the version of the state file
 LONGEST_NAME = {1: 64, 2: 128}
 NEWEST = 2
-# the nodes of the trees that were made, by their secrets
+# the nodes of all trees so far, by their secrets
 MADE = {}
 
 
@@ -42,7 +42,7 @@ def sha256(*parts):
 
 
 def pair_of(text):
-    """The codes of a tree and its one-time type, of a text such as H5/W8."""
+    """The codes of a text such as H5/W8: the tree's and the one-time type's."""
     height, width = text.split("/")
     tree = {f"H{height}": code for code, height in HEIGHTS.items()}[height]
     return tree, {f"W{values[0]}": code for code, values in WIDTHS.items()}[width]
@@ -60,12 +60,12 @@ def digits_of(values, digest):
 
 
 def node_path(levels, leaf):
-    """The siblings on the way from a leaf to the root, of the nodes of a tree by height."""
+    """The siblings on the way from a leaf to the root, by the tree's nodes of each height."""
     return b"".join(levels[height][leaf >> height ^ 1] for height in range(len(levels) - 1))
 
 
 class LmsTree:
-    """A tree of LMS by its secret (RFC 8554 4, 5 and Appendix A). Its nodes are made when they are needed."""
+    """A tree of LMS by its secret (RFC 8554 4, 5 and Appendix A). Its nodes are made when needed."""
     def __init__(self, pair, identifier, seed):
         self.pair, self.identifier, self.seed = pair, identifier, seed
         self.height, self.values = HEIGHTS[pair[0]], WIDTHS[pair[1]]
@@ -132,7 +132,7 @@ def xmss_digits(digest):
 
 
 class XmssTree:
-    """A tree of XMSS by its secret (RFC 8391 2 to 4.1), whose private values are those of docs/FORMATS.md."""
+    """A tree of XMSS by its secret (RFC 8391 2 to 4.1), with the private values of docs/FORMATS.md."""
     def __init__(self, code, secret, prf_key, seed):
         self.code, self.secret, self.prf_key, self.seed = code, secret, prf_key, seed
         self.height = XMSS_HEIGHTS[code]
@@ -142,7 +142,7 @@ class XmssTree:
         return 2**self.height
 
     def mask(self, *words):
-        """PRF of an address: its type and four words; layer and tree are 0."""
+        """PRF of an address with this type and four words; layer and tree are 0."""
         hasher = self.keyed.copy()
         hasher.update(bytes(12) + b"".join(map(u32, words)))
         return hasher.digest()
@@ -165,7 +165,7 @@ class XmssTree:
         return self.l_tree(leaf, [self.climbed(leaf, i, 0, 15, self.private_value(leaf, i)) for i in range(67)])
 
     def l_tree(self, leaf, values):
-        """The root of the values of a leaf, of which an odd last one goes up unchanged (RFC 8391 4.1.5)."""
+        """The root of a leaf's values. An odd last one goes up unchanged (RFC 8391 4.1.5)."""
         height = 0
         while len(values) > 1:
             above = [self.join(1, leaf, height, i // 2, values[i], values[i + 1]) for i in range(0, len(values) - 1, 2)]
@@ -204,7 +204,7 @@ class XmssTree:
         return u32(leaf) + self.randomizer(leaf) + b"".join(values) + node_path(self.nodes(), leaf)
 
 
-# ---- the records of a state file, as the bytes 1 to 223 of their slots
+# ---- the records of a state file, as bytes 1 to 223 of their slots
 
 
 def body(kind, *fields):
@@ -224,7 +224,7 @@ def extend_body(level, parent_leaf, identifier, seed, randomizer, digest, root):
 
 
 def bound_body(name, leaf, randomizer, digest, version=NEWEST):
-    """A name's record in a file of a version, in which the fields after the name stand behind the longest name."""
+    """A Bound in a file of a version: the fields after the name stand behind room for the longest name."""
     return body(3, u8(len(name)), name + bytes(LONGEST_NAME[version] - len(name)), u32(leaf), randomizer, digest)
 
 
@@ -237,7 +237,7 @@ def moved_body(version=2):
 
 
 def state_file(bodies):
-    """The content of a file with these records, their tags, and the closed gate after the last."""
+    """A file's content: these records, their tags, and a closed gate after the last."""
     content, tag = b"", bytes(32)
     for each in bodies:
         tag = sha256(tag, each)
@@ -252,11 +252,11 @@ def last_tag(bodies):
     return tag
 
 
-# ---- the records that a state file has
+# ---- reading a state file
 
 
 def part(record, first, last):
-    """The bytes `first` to `last` of a slot, by its record, which begins with byte 1."""
+    """Bytes `first` to `last` of a slot. Its record begins with byte 1."""
     return record[first - 1:last]
 
 
@@ -277,8 +277,8 @@ def pairs_of(record):
 
 
 def is_key(record, version):
-    """Whether bytes of kind 1 spell a Key of a version: known types for its levels, and zeros where its scheme has no
-    field."""
+    """Whether a record of kind 1 spells a Key of a version: its levels have known types, and bytes that its scheme
+    doesn't use are zeros."""
     scheme, levels, pairs = record[11], record[12], pairs_of(record)
     if part(record, 2, 11) != b"HBSSTATE" + u16(version) or any(part(record, 222, 223)):
         return False
@@ -291,7 +291,7 @@ def is_key(record, version):
 
 
 def is_record(record, version):
-    """Whether the bytes 1 to 223 of a slot spell a record of a version."""
+    """Whether bytes 1 to 223 of a slot spell a record of a version."""
     kind, size, longest = record[0], record[1], LONGEST_NAME[version]
     if kind == 1:
         return is_key(record, version)
@@ -306,13 +306,13 @@ def is_record(record, version):
 
 
 def holds_key(content):
-    """Whether a file begins like a state file, whatever its gate 0 is: nothing is written over it as PUBLIC or OUT."""
+    """Whether a file begins like a state file, whatever gate 0 is: PUBLIC and OUT aren't written over it."""
     return content[1:10] == b"\x01HBSSTATE"
 
 
 def records_of(content):
-    """The records of a state file up to its first closed gate, or the first fault that an opening finds (40 to 43). All
-    are of the version that the first says."""
+    """The records of a state file up to its first closed gate, all in the version of the first. Refuses with the first
+    fault of an opening (40 to 43)."""
     if len(content) < 257 or content[0] != 0xA5:
         raise Refused(40)
     if not holds_key(content):
@@ -332,7 +332,7 @@ def records_of(content):
 
 
 class Tape:
-    """A source of random bytes that ends."""
+    """A finite source of random bytes."""
     def __init__(self, content):
         self.content = content
 
@@ -344,7 +344,7 @@ class Tape:
 
 
 class Current:
-    """A current tree: its record, its secret, what the record says of its root, and its next leaf."""
+    """A current tree: its record, its secret, the recorded root, and the next leaf."""
     def __init__(self, slot, tree, root):
         self.slot, self.tree, self.root, self.next = slot, tree, root, 0
         self.parent = None
@@ -357,8 +357,7 @@ class Current:
 
 
 class Signer:
-    """A key with its records (docs/FORMATS.md), in the scheme of its spec, for a file of a version. `limit` is how many
-    records it takes."""
+    """A key with its records (docs/FORMATS.md), by a spec, for a file of a version. `limit` is the most records."""
     def __init__(self, spec, tape, version=NEWEST, limit=2**31):
         kind, text = spec.split(":")
         self.scheme = {"lms": LMS, "hss": HSS, "xmss": XMSS}[kind]
@@ -376,7 +375,7 @@ class Signer:
         self.begin(record, tree, tree.root(), limit)
 
     def begin(self, record, tree, root, limit=2**31):
-        """A key of one record, whose root may be another than its tree's."""
+        """A key of one record. Its root needn't be its tree's."""
         self.limit = limit
         self.version = number(record, 10, 11)
         self.bodies = [record]
@@ -387,7 +386,7 @@ class Signer:
 
     @classmethod
     def of(cls, bodies):
-        """The key that has the records of a file; 44 at the first at which they stop being legal."""
+        """The key with the records of a file; 44 at the first one that isn't legal."""
         key = cls.__new__(cls)
         record = bodies[0]
         key.scheme = record[11]
@@ -405,7 +404,7 @@ class Signer:
         return key
 
     def takes(self, record):
-        """Adds a record of a file, where it is legal as the next one."""
+        """Adds a record of a file, if it is legal as the next one."""
         kind, bottom = record[0], self.current[-1]
         if self.has_moved or kind == 1:
             return False
@@ -456,7 +455,7 @@ class Signer:
         return lines + (["moved 2"] if self.has_moved else [])
 
     def spec(self):
-        """The text of the key's types."""
+        """The spec of the key."""
         if self.scheme == XMSS:
             return f"xmss:{XMSS_HEIGHTS[self.pairs[0][0]]}"
         pairs = ",".join(f"H{HEIGHTS[tree]}/W{WIDTHS[ots][0]}" for tree, ots in self.pairs)
@@ -469,7 +468,7 @@ class Signer:
         return lines + [f"{place} {self.listed(record)}" for place, record in enumerate(self.bodies)]
 
     def listed(self, record):
-        """What a listing says of a record."""
+        """The words of a listing for a record."""
         kind = record[0]
         if kind == 2:
             return f"tree level {record[1]} leaf {number(record, 3, 6)}"
@@ -486,7 +485,7 @@ class Signer:
             raise Refused(30)
 
     def check(self, chain):
-        """Refuses the first tree from the top whose root, or whose record's digest, isn't that of its secret."""
+        """Refuses the first tree from the top with a recorded root or digest that its secret doesn't give."""
         for at in chain:
             if at.root != at.tree.root():
                 raise Refused(28, at.slot)
@@ -496,7 +495,7 @@ class Signer:
                     raise Refused(28, at.slot)
 
     def extend(self, level, tape):
-        """A new tree at a level, signed by the next leaf of the level above."""
+        """A new tree at a level, whose key the next leaf of the level above signs."""
         parent = self.current[level - 1]
         identifier = tape.draw(16)
         if identifier in self.identifiers:
@@ -522,7 +521,7 @@ class Signer:
         return chain
 
     def signature(self, name):
-        """The signature of a bound name, by its record and those of the trees above it."""
+        """A bound name's signature, by its record and the records of the trees above."""
         at, leaf, randomizer, digest = self.bound[name]
         written = at.tree.signature(leaf, randomizer, digest)
         while at.parent:
@@ -532,7 +531,7 @@ class Signer:
         return (u32(len(self.pairs) - 1) if self.scheme == HSS else b"") + written
 
     def sign(self, name, message, tape):
-        """Signs a message, which is None where it can't be read."""
+        """Signs a message, which is None if it can't be read."""
         if self.has_moved:
             raise Refused(31)
         if name in self.bound:
@@ -578,7 +577,7 @@ class Signer:
             bottom.next = upto
 
     def move(self):
-        """The record that says that the records go on in another file, where its version has one."""
+        """Adds a Moved, if the version has one, and says whether it did."""
         if self.version != 1:
             return False
         self.bodies.append(moved_body())
@@ -586,11 +585,11 @@ class Signer:
         return True
 
 
-# ---- migrations: the records of a file of version 1 go on in one of version 2
+# ---- migrations from a file of version 1 to one of version 2
 
 
 def written_over(content, data):
-    """A file whose first bytes were written over. What stands behind them stays."""
+    """A file whose first bytes are written over. The bytes behind them stay."""
     return data + content[len(data):]
 
 
@@ -602,7 +601,7 @@ def carried(record):
 
 
 def sealed(old):
-    """What an old file has from then on that it signs no more: its records, and a Moved as the last."""
+    """An old file that signs no more: its records, and a Moved as the last."""
     key = Signer.of(records_of(old))
     if key.has_moved:
         return old
@@ -611,12 +610,12 @@ def sealed(old):
 
 
 def filled(old, new):
-    """What a new file has in the end: the records of an old one but its Moved, and what stood behind their place."""
+    """A new file in the end: the old records without the Moved, and the bytes that stood behind their place."""
     return written_over(new, state_file([carried(record) for record in records_of(old) if record[0] != 5]))
 
 
 def migrated(old, new):
-    """What an old and a new file have after a migration, and how many records the new one has."""
+    """The old and the new file after a migration, and the number of the new one's records."""
     if Signer.of(records_of(old)).version != 1:
         raise Refused(42)
     if len(new) >= 257 and new[0] == 0xA5:
@@ -641,7 +640,7 @@ def reply(number, content=b""):
 
 
 def answer(signer, tape, name, message):
-    """The reply to a request, and its number. The message is None where the input ends inside it."""
+    """The reply to a request, and its number. The message is None if the input ends inside it."""
     if not is_name(name):
         return reply(34), 34
     try:
@@ -651,7 +650,7 @@ def answer(signer, tape, name, message):
 
 
 def served(signer, tape, given):
-    """What `serve` writes for an input, and the number of the refusal that it ends with, 0 where it ends well."""
+    """The output of `serve` for an input, and the number of the refusal at its end, or 0."""
     written, at = b"", 0
     while at < len(given):
         size = given[at]
@@ -661,7 +660,7 @@ def served(signer, tape, given):
         at += 1 + size + 4
         length = int.from_bytes(given[at - 4:at], "big")
         is_whole = at + length <= len(given)
-        # a refusal before the message is read comes first; the rest of the message is skipped then
+        # a refusal before the message is read comes first; the message is then skipped
         written += answer(signer, tape, name, given[at:at + length] if is_whole else None)[0]
         if not is_whole:
             return written, 27
@@ -669,7 +668,7 @@ def served(signer, tape, given):
     return written, 0
 
 
-# ---- verification: the line that belongs to a public key, a message and a signature
+# ---- verification: the line for a public key, a message and a signature
 
 
 class Invalid(Exception):
@@ -677,7 +676,7 @@ class Invalid(Exception):
 
 
 class Fields:
-    """Reads bytes from the left, field by field, from a place on."""
+    """Reads bytes field by field, from a place on."""
     def __init__(self, data, at=0):
         self.data, self.at = data, at
 

@@ -1,8 +1,7 @@
-//! Tests of the signer's library: of `sign_core`, `key_audit` and the disk in memory of `state_file`, by what these
-//! crates show.
+//! Tests of `sign_core`, `key_audit` and `state_file`'s disk in memory, by their public interfaces.
 //!
-//! A crate that has a test is proved once without its tests and once with them. So these three have none, and this one
-//! has no code. What the built program can be asked is said by its own tests.
+//! A crate with a test of its own is proved twice, without its tests and with them. So these three have none, and this
+//! one has no code. The built program has tests of its own (`tests/run`).
 #![tactic(auto)]
 
 #[cfg(test)]

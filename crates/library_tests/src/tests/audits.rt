@@ -1,4 +1,4 @@
-//! A key whose disk fails or stops at each call, and calls that take no memory.
+//! A key whose disk fails or crashes at each call, and calls that allocate nothing.
 
 use key_audit::{Anchor, AuditFault, Given, GivenFault, audit, check_given};
 use sign_core::{AnyPublic, Signer, Source, SourceFault};
@@ -10,7 +10,7 @@ mod fixed;
 mod room;
 mod script;
 
-// A source that gives one number in each byte of a draw, and the next one at the next draw.
+// Fills a draw with one number, and the next draw with the next number.
 #[derive(Drop)]
 struct Numbers {
     next: u8,
@@ -30,7 +30,6 @@ impl Source for Numbers {
     }
 }
 
-// The signer of a new key in a store, by this source.
 fn created<S: Store + Drop, R: Source + Drop>(
     alloc: Global,
     spec: &str,
@@ -43,7 +42,6 @@ fn created<S: Store + Drop, R: Source + Drop>(
     Signer::create_in(alloc, Version::One, Spec::parse(spec).ok()?, store, random).ok()
 }
 
-// Signs a message of this byte under a name.
 fn sign_byte<S: Store, R: Source>(
     signer: &mut Signer<S, R>,
     name: &[u8],

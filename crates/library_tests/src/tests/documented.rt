@@ -5,8 +5,7 @@ use state_file::{MemoryStore, Store};
 use std::alloc::Global;
 use typecodes::{Name, Spec};
 
-// The example of the crate's documentation, in this store and with this source: the store after a signature that
-// verifies, of a key that is read as it is written.
+// The store after a signature that verifies, of a key that reads back as written.
 fn signed_in<S: Store + Drop, R: Source + Drop>(alloc: Global, store: S, random: R) -> Option<S> {
     if store.limit() == 0 {
         return None;
@@ -27,13 +26,13 @@ fn signed_in<S: Store + Drop, R: Source + Drop>(alloc: Global, store: S, random:
     }
 }
 
-// How many leaves are left in the key that is opened then.
+// The leaves left once the key is opened again.
 fn left_in<S: Store + Drop, R: Source + Drop>(alloc: Global, store: S, random: R) -> Option<u32> {
     let signer = Signer::open(alloc, store, random).ok()?;
     signer.left().as_slice().first().copied()
 }
 
-// The same of an empty store in memory, and a tape.
+// The whole example, in memory and by a tape.
 fn as_documented(alloc: Global) -> Option<u32> {
     let random = [7; 80];
     let store = MemoryStore::with_limit(alloc, 100);

@@ -1,9 +1,8 @@
-//! The texts of a store's faults and of a migration's, with the numbers of these.
+//! The texts of a store's faults, and the numbers and texts of a migration's.
 
 use state_file::{MigrateFault, StoreFault};
 use std::alloc::Global;
 
-// Whether a store's fault is printed so.
 fn is_printed(alloc: Global, fault: StoreFault, text: &str) -> bool {
     match format!(in alloc; "{fault}") {
         Ok(printed) => printed.as_str() == text,
@@ -30,7 +29,6 @@ fn faults_are_printed(rt: HostRuntime) {
     }
 }
 
-// Whether a migration's fault is printed so, after its number.
 fn is_numbered(alloc: Global, fault: MigrateFault, text: &str) -> bool {
     match format!(in alloc; "{} {fault}", fault.number()) {
         Ok(printed) => printed.as_str() == text,

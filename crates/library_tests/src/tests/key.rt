@@ -1,5 +1,5 @@
-//! Public keys and their signatures, which take no memory. Which lengths and fields a key has is said by the tests of
-//! the built program, `tests/conformance`.
+//! Public keys and their signatures, which allocate nothing: `tests/run` counts that. `tests/conformance` tests which
+//! lengths and fields a key has.
 
 use hss::HssPublic;
 use lms::LmsPublic;
@@ -22,13 +22,12 @@ const XMSS: XmssPublic = XmssPublic {
     seed: [4; 32],
 };
 
-// A key of so many levels.
 fn of_levels(count: u8) -> Option<AnyPublic> {
     let levels = LevelCount::new(count)?;
     Some(AnyPublic::Hss(HssPublic { levels, top: LMS }))
 }
 
-// How long the spelling of a key is, where it begins with these bytes and is read as the key.
+// The length of a written key, if it begins with these bytes and reads back as the key.
 fn spelled(key: Option<AnyPublic>, first: &[u8]) -> Option<usize> {
     let key = key?;
     let bytes = key.write();
@@ -40,7 +39,7 @@ fn spelled(key: Option<AnyPublic>, first: &[u8]) -> Option<usize> {
     Some(bytes.len())
 }
 
-// The first bytes are those of the standards' layouts: the codes, and for HSS the levels before them.
+// The first bytes are the standards' codes, and for HSS the number of levels before them.
 #[test]
 fn keys_are_read_as_they_are_written(rt: HostRuntime) {
     let lms = Some(AnyPublic::Lms(LMS));
@@ -50,14 +49,15 @@ fn keys_are_read_as_they_are_written(rt: HostRuntime) {
     assert!(rt; spelled(xmss, &[0, 0, 0, 2, 3, 3, 3, 3, 3, 3]) == Some(68));
 }
 
-// What zeros are as a signature of a message under a key, and how much of the message is left then.
+// The verdict on zeros as a signature under a key, and how much of the message is then unread.
 fn zeros_under(key: Option<AnyPublic>, zeros: &[u8]) -> Option<(Result<(), Refusal>, usize)> {
     let mut message = b"message".as_slice();
     let answer = verify_any(&key?, &mut message, zeros);
     Some((answer, message.len()))
 }
 
-// Each scheme reads the signature first. As one of XMSS of height 16, zeros lead to another root.
+// Each scheme reads the signature before the message. Zeros decode as an XMSS signature of height 16, with another
+// root.
 #[test]
 fn each_scheme_verifies(rt: HostRuntime) {
     let cut = Err(Refusal::Unreadable(ReadFault {

@@ -3,10 +3,10 @@
 use state_file::{Disk, DiskFault, MemoryDisk, Pick};
 use std::alloc::Global;
 
-// A call of a disk and what it answers, a plan of one that is refused, or what a stop leaves by a pick.
+// A call and its answer, a plan of a failing call, or what a crash leaves by a pick.
 enum Step<'a> {
     Len(Result<u64, DiskFault>),
-    // the bytes read from an offset on
+    // an offset, and the bytes that are there
     Read(u64, &'a [u8]),
     // a read of two bytes
     ReadFails(u64, DiskFault),
@@ -17,7 +17,6 @@ enum Step<'a> {
     Leaves(Pick, &'a [u8]),
 }
 
-// A read gives what is there.
 const READS: &[Step<'static>] = &[
     Step::Len(Ok(3)),
     Step::Read(1, &[2, 3]),
@@ -25,7 +24,6 @@ const READS: &[Step<'static>] = &[
     Step::ReadFails(u64::MAX, DiskFault::PastEnd),
 ];
 
-// A read gives what was written.
 const READS_WRITTEN: &[Step<'static>] = &[
     Step::Write(2, &[9, 8, 7], Ok(())),
     Step::Read(0, &[1, 2, 9, 8, 7]),
@@ -41,7 +39,7 @@ const WRITES_PAST_THE_END: &[Step<'static>] = &[
     Step::Leaves(Pick::Fill(7), &[1, 7, 7, 7, 7, 7, 7, 7, 7]),
 ];
 
-// What was not synced may be left in any way by a stop.
+// A crash may leave anything in ranges written since the last sync.
 const STOPS_UNSYNCED: &[Step<'static>] = &[
     Step::Write(1, &[8], Ok(())),
     Step::Write(2, &[9, 9, 9], Ok(())),
@@ -50,7 +48,7 @@ const STOPS_UNSYNCED: &[Step<'static>] = &[
     Step::Leaves(Pick::Fill(7), &[1, 7, 7, 7, 7]),
 ];
 
-// What was synced is left by a stop.
+// A crash keeps what was synced.
 const STOPS_SYNCED: &[Step<'static>] = &[
     Step::Write(1, &[8, 9, 9, 9], Ok(())),
     Step::Sync(Ok(())),
@@ -60,7 +58,7 @@ const STOPS_SYNCED: &[Step<'static>] = &[
     Step::Leaves(Pick::Fill(7), &[7, 8, 9, 9, 9]),
 ];
 
-// A write that fails has written its first half, and its whole range is open.
+// A failed write has written its first half, and a crash may leave anything in its whole range.
 const FAILS_IN_A_WRITE: &[Step<'static>] = &[
     Step::FailAt(2),
     Step::Len(Ok(3)),
@@ -71,7 +69,7 @@ const FAILS_IN_A_WRITE: &[Step<'static>] = &[
     Step::Leaves(Pick::Fill(0), &[7, 8, 3]),
 ];
 
-// The n-th call fails once.
+// The n-th call fails once, and 0 cancels that.
 const FAILS_ONCE: &[Step<'static>] = &[
     Step::FailAt(1),
     Step::Sync(Err(DiskFault::Failed)),
@@ -83,7 +81,7 @@ const FAILS_ONCE: &[Step<'static>] = &[
     Step::Len(Ok(3)),
 ];
 
-// All calls after a stop are refused, and the range of a refused write doesn't count.
+// From a crash on all calls fail, and the range of a failed write stays as it was.
 const STOPS_FOR_GOOD: &[Step<'static>] = &[
     Step::StopAt(2),
     Step::Write(0, &[7], Ok(())),
@@ -96,7 +94,7 @@ const STOPS_FOR_GOOD: &[Step<'static>] = &[
     Step::Leaves(Pick::Fill(5), &[5, 2, 3]),
 ];
 
-// Takes a step, and says whether all is as it says.
+// Takes a step, and says whether its answer is the expected one.
 fn take(disk: &mut MemoryDisk, step: &Step<'_>) -> bool {
     match step {
         Step::Len(wanted) => disk.len() == *wanted,
@@ -125,7 +123,7 @@ fn take(disk: &mut MemoryDisk, step: &Step<'_>) -> bool {
     }
 }
 
-// The first step, on a disk with these bytes, after which not all is as the step says.
+// The index of the first wrong step, on a disk with these bytes.
 fn first_wrong(alloc: Global, bytes: &[u8], steps: &[Step<'_>]) -> Option<Option<usize>> {
     let mut disk = MemoryDisk::of(alloc, bytes).ok()?;
     for (k, step) in steps.iter().enumerate() {
@@ -136,7 +134,6 @@ fn first_wrong(alloc: Global, bytes: &[u8], steps: &[Step<'_>]) -> Option<Option
     Some(None)
 }
 
-// The bytes of a disk, and steps on it.
 const RUNS: &[(&[u8], &[Step<'static>])] = &[
     (&[1, 2, 3], READS),
     (&[1, 2, 3], READS_WRITTEN),
@@ -155,7 +152,7 @@ fn steps_are_taken(rt: HostRuntime) {
     }
 }
 
-// A disk of three bytes, and how often memory was refused to it.
+// A disk of three bytes, and how often memory was refused to its creation.
 fn made(alloc: Global) -> Option<(MemoryDisk, u32)> {
     match MemoryDisk::of(alloc, &[1, 2, 3]) {
         Ok(disk) => Some((disk, 0)),
@@ -163,7 +160,7 @@ fn made(alloc: Global) -> Option<(MemoryDisk, u32)> {
     }
 }
 
-// How often a write past the end is refused, which changes nothing. It is done at the second try.
+// How often memory is refused to a write past the end, which then changes nothing. None where the second try fails.
 fn written(disk: &mut MemoryDisk) -> Option<u32> {
     if disk.write_at(2, &[9, 8, 7]).is_ok() {
         return Some(0);
@@ -175,7 +172,7 @@ fn written(disk: &mut MemoryDisk) -> Option<u32> {
     Some(1)
 }
 
-// The same of a sync.
+// As `written`, for a sync.
 fn synced(disk: &mut MemoryDisk) -> Option<u32> {
     if disk.sync().is_ok() {
         return Some(0);
@@ -184,7 +181,7 @@ fn synced(disk: &mut MemoryDisk) -> Option<u32> {
     Some(1)
 }
 
-// What a stop leaves of a disk, and how often memory was refused to it.
+// What a crash leaves of a disk, and how often memory was refused to `stop`.
 fn left(disk: &MemoryDisk) -> Option<(Vec<u8>, u32)> {
     match disk.stop(Pick::Old) {
         Ok(left) => Some((left, 0)),
@@ -192,8 +189,8 @@ fn left(disk: &MemoryDisk) -> Option<(Vec<u8>, u32)> {
     }
 }
 
-// How often memory is refused to a disk that is made, written, synced and stopped. None where a second try is refused,
-// too, or what was synced isn't left.
+// How often memory is refused to a disk that is made, written and synced, and then crashes. None where a second try
+// fails, or a synced byte is lost.
 fn refusals_of(alloc: Global) -> Option<u32> {
     let (mut disk, made) = made(alloc)?;
     let written = written(&mut disk)?;
@@ -207,13 +204,13 @@ fn refusals_of(alloc: Global) -> Option<u32> {
         .checked_add(stopped)
 }
 
-// `tests/run` runs this with each growth of memory refused in turn.
+// `tests/run` runs this with each allocation refused in turn.
 #[test]
 fn growths_are_refused_at_last(rt: HostRuntime) {
     assert!(rt; matches!(refusals_of(rt.alloc()), Some(0 | 1)));
 }
 
-// It passes only where none is.
+// This passes only where none is refused.
 #[test]
 fn growths_are_refused_at_first(rt: HostRuntime) {
     assert!(rt; refusals_of(rt.alloc()) == Some(0));

@@ -1,19 +1,18 @@
-//! Migrations that fail or are stopped at each call of either disk. What others come to is said by the tests of the
-//! built program, `tests/conformance`.
+//! Migrations that fail or crash at each call of either disk. All others are tested by `tests/conformance`.
 
 use crate::tests::signer::{Entry, with_records};
 use sign_core::{Signer, Source, TapeSource, migrate_key};
 use state_file::{Disk, FileStore, MemoryDisk, MigrateFault, Pick, Store, Version};
 use std::alloc::Global;
 
-// The file of these records, and of some more.
+// The file of `entries` and, after them, `more`.
 fn file_of(alloc: Global, entries: &[Entry], more: &[Entry]) -> Option<Vec<u8>> {
     let store = FileStore::format(MemoryDisk::of(alloc, &[]).ok()?).ok()?;
     let store = with_records(with_records(store, entries)?, more)?;
     store.into_disk().stop(Pick::New).ok()
 }
 
-// What two files are after a migration, and what it answers.
+// Both files after a migration, and its answer.
 #[derive(Drop)]
 struct Migration {
     old: Vec<u8>,
@@ -21,7 +20,6 @@ struct Migration {
     answer: Result<u32, MigrateFault>,
 }
 
-// A migration from one file to another.
 fn migrated(alloc: Global, old: &[u8], new: &[u8]) -> Option<Migration> {
     let old = MemoryDisk::of(alloc, old).ok()?;
     let new = MemoryDisk::of(alloc, new).ok()?;
@@ -33,7 +31,7 @@ fn migrated(alloc: Global, old: &[u8], new: &[u8]) -> Option<Migration> {
     })
 }
 
-// Records of version 1, and how they stand in version 2.
+// Records of version 1, and the same in version 2.
 const CARRIED: (&[Entry], &[Entry]) = (
     &[Entry::Key(Version::One), Entry::Bound(3, 0)],
     &[Entry::Key(Version::Two), Entry::Bound(3, 0)],
@@ -47,7 +45,7 @@ const PICKS: [Pick; 5] = [
     Pick::Fill(0xFF),
 ];
 
-// Whether a disk has a key that can sign: one that retires nothing where it is asked to.
+// Whether a disk has a key that can sign. `retire(0)` asks that without retiring a leaf.
 fn can_sign<D: Disk + Drop, R: Source + Drop>(alloc: Global, disk: D, random: R) -> bool {
     let Ok(store) = FileStore::open(disk) else {
         return false;
@@ -58,8 +56,8 @@ fn can_sign<D: Disk + Drop, R: Source + Drop>(alloc: Global, disk: D, random: R)
     signer.retire(0).is_ok()
 }
 
-// Whether what a mishap left isn't two files that can sign, and a migration from the beginning leaves what is wanted:
-// it comes to its end, or finds that this stands at the new place.
+// Whether a mishap left at most one file that can sign, and another migration leaves the files `wanted`. It succeeds,
+// or finds the key at the new place.
 fn ends_well(alloc: Global, old: &[u8], new: &[u8], wanted: (&[u8], &[u8])) -> Option<bool> {
     let old_signs = can_sign(
         alloc,
@@ -82,7 +80,7 @@ fn ends_well(alloc: Global, old: &[u8], new: &[u8], wanted: (&[u8], &[u8])) -> O
     Some(is_done && done.old.as_slice() == wanted.0 && done.new.starts_with(wanted.1))
 }
 
-// A disk of a file with a mishap at a call, which is refused, or before which the power goes; with none for call 0.
+// A disk of a file with a mishap at this call: it fails, or the power goes before it. Call 0 has none.
 fn disk_with_mishap(alloc: Global, file: &[u8], call: u32, stops: bool) -> Option<MemoryDisk> {
     let mut disk = MemoryDisk::of(alloc, file).ok()?;
     if stops {
@@ -93,8 +91,8 @@ fn disk_with_mishap(alloc: Global, file: &[u8], call: u32, stops: bool) -> Optio
     Some(disk)
 }
 
-// Whether a migration with a mishap at a call of the old disk, or of the new one, is survived: all that it may leave
-// ends well. None where the migration comes to its end, which makes fewer calls.
+// Whether all that a migration with a mishap at these calls may leave ends well. `Some(None)` where the migration
+// makes fewer calls, and succeeds.
 fn survives(
     alloc: Global,
     place: &[u8],
@@ -124,7 +122,7 @@ fn survives(
     Some(Some(true))
 }
 
-// How many calls of a disk a migration makes, where a mishap at any of them is survived.
+// How many calls of a disk a migration makes. None where a mishap at one doesn't end well.
 fn count_survived(alloc: Global, place: &[u8], of_old: bool) -> Option<u32> {
     for call in 1..100u32 {
         let calls = if of_old { (call, 0) } else { (0, call) };
@@ -139,8 +137,8 @@ fn count_survived(alloc: Global, place: &[u8], of_old: bool) -> Option<u32> {
     None
 }
 
-// The calls of the new disk: a sync and the length; where that is short the zero gate and a sync, else the gate is
-// read; the two slots, a sync; the gate, a sync.
+// The calls of the new disk: sync, length; of a short file the zero gate and a sync, else a read of the gate; two
+// slots, sync; gate, sync.
 #[test]
 fn mishaps_never_leave_two_files_that_sign(rt: HostRuntime) {
     assert!(rt; count_survived(rt.alloc(), &[], false) == Some(9));

@@ -1,6 +1,6 @@
-//! Exchanges of frames over inputs and outputs that fail, or give and take little at a time, each against the same one
-//! over an input that is there as a whole and an output that takes all. What these lead to is said by the tests of the
-//! built program, `tests/conformance` and `tests/serving`.
+//! Exchanges of frames over inputs and outputs that fail, or give and take few bytes at a time. Each is compared with
+//! the same exchange over a whole input and an output that takes all. The replies to whole inputs are tested by
+//! `tests/conformance` and `tests/serving`.
 
 use crate::tests::signer::{LMS, created_by, seen_from};
 use sign_core::{ServeFault, Signer, Source, serve};
@@ -14,9 +14,8 @@ mod inputs;
 mod memory;
 mod outputs;
 
-// An input, of which a read gives at most so many bytes. It ends after them or fails there. It may claim so many bytes
-// more, which its reads say that they gave, and write none of. Where its failure is an interruption, it goes on after
-// it with bytes that it claims.
+// Gives `rest`, at most `most` bytes at a time, and then ends or fails. Before that its reads may claim `claims` bytes
+// that they don't write. After an interruption it claims bytes without end.
 #[derive(Drop)]
 struct Input<'a> {
     rest: &'a [u8],
@@ -48,7 +47,6 @@ impl Read for Input<'_> {
     }
 }
 
-// An input that gives as much as is wanted, and ends then.
 fn input_of(bytes: &[u8]) -> Input<'_> {
     Input {
         rest: bytes,
@@ -59,7 +57,7 @@ fn input_of(bytes: &[u8]) -> Input<'_> {
     }
 }
 
-// What a call of an output does otherwise: it fails, takes nothing, or is interrupted.
+// What the odd call of an output does.
 #[derive(Clone, Copy, PartialEq)]
 enum Odd {
     Fails,
@@ -67,8 +65,7 @@ enum Odd {
     IsInterrupted,
 }
 
-// An output of which a write takes at most so many bytes. The call after so many, a write or a flush, is odd. It counts
-// its calls.
+// Takes at most `most` bytes at a write. The call after `before` others, a write or a flush, is odd.
 #[derive(Drop)]
 struct Output {
     taken: Vec<u8>,
@@ -78,7 +75,6 @@ struct Output {
     calls: u32,
 }
 
-// An output that takes all.
 fn taking_all(alloc: Global) -> Output {
     Output {
         taken: Vec::new(alloc),
@@ -90,7 +86,7 @@ fn taking_all(alloc: Global) -> Output {
 }
 
 impl Output {
-    // Whether this call is the odd one.
+    // Counts a call, and says whether it is the odd one.
     fn is_odd(&mut self) -> bool {
         let is_odd = self.calls == self.before;
         self.calls = self.calls.wrapping_add(1);
@@ -112,7 +108,7 @@ impl Write for Output {
         Ok(n)
     }
 
-    // It takes nothing in any case.
+    // A flush takes no bytes in any case.
     fn flush(&mut self) -> io::Result<()> {
         if !self.is_odd() {
             return Ok(());
@@ -125,10 +121,10 @@ impl Write for Output {
     }
 }
 
-// What an exchange ends with; and how many leaves the key has then, and what its source gives next.
+// An exchange's answer, the key's free leaves afterwards, and the next number of its source.
 type End = (Result<u64, ServeFault>, u32, u8);
 
-// How an exchange ends with a signer, of whose leaves so many are retired; and how many are left then.
+// An exchange's answer once `retired` leaves are retired, and the free leaves afterwards.
 fn served<S: Store, R: Source>(
     alloc: Global,
     signer: &mut Signer<S, R>,
@@ -141,7 +137,7 @@ fn served<S: Store, R: Source>(
     Some((end, signer.left().as_slice().first().copied()?))
 }
 
-// How one ends with a new key in this store.
+// As `served`, by a new key in this store.
 fn end_in<S: Store + Drop>(
     alloc: Global,
     store: S,
@@ -162,7 +158,7 @@ fn end_of(alloc: Global, retired: u32, input: &mut Input<'_>, output: &mut Outpu
     end_in(alloc, store, retired, input, output)
 }
 
-// The same of an exchange over these bytes, and what is written.
+// The end of an exchange over a whole input, and its replies.
 fn whole(alloc: Global, retired: u32, bytes: &[u8]) -> Option<(End, Vec<u8>)> {
     let mut output = taking_all(alloc);
     let end = end_of(alloc, retired, &mut input_of(bytes), &mut output)?;

@@ -18,7 +18,7 @@ pub(crate) use records::{Entry, with_records};
 pub(crate) use steps::{Seen, created_by, seen_from};
 use steps::{Step, begins, goes_on, has_records, lived, name_of};
 
-// Keys whose trees are quickly made.
+// Specs whose trees are quickly made.
 pub(crate) const LMS: &str = "lms:H5/W1";
 
 const TWO: &str = "hss:H5/W1,H5/W1";

@@ -1,14 +1,13 @@
-//! Calls that take no memory. Of each pair of tests the first one prepares what the second one then calls, and both
-//! have as many growths of memory. `tests/run` counts them from outside.
+//! Calls that allocate nothing. Of each pair of tests the first only prepares, and the second also makes the calls.
+//! `tests/run` counts the allocations of both, which must be equal.
 
 use super::room::Room;
 use super::*;
 use sign_core::{ServeFault, SignFault, serve};
 use state_file::{FormatFault, OpenFault, Record, StoreFault};
 
-// What an opening finds where a byte of a file of two records is another one, and why no key is made there: the Key's
-// gate, its kind, and the first byte of its version and of its tag; the kind and the first byte of the tag of the
-// record after it.
+// The offset of a changed byte in a file of two records, and the faults of `open` and `format`. The bytes are the Key's
+// gate and kind, the first ones of its version and tag, and the next record's kind and first byte of the tag.
 const CHANGED: [(u64, OpenFault, FormatFault); 6] = [
     (0, OpenFault::NoKey, FormatFault::NotKeyFile),
     (1, OpenFault::NotKeyFile, FormatFault::KeyThere),
@@ -18,7 +17,7 @@ const CHANGED: [(u64, OpenFault, FormatFault); 6] = [
     (480, OpenFault::Damaged(1), FormatFault::KeyThere),
 ];
 
-// The disk after one of these changes, which is found and then undone.
+// Changes a byte, checks both faults, and changes it back.
 fn changed_back<D: Disk + Drop>(
     disk: D,
     (at, opening, making): (u64, OpenFault, FormatFault),
@@ -37,7 +36,6 @@ fn changed_back<D: Disk + Drop>(
     Some(disk)
 }
 
-// The disk after all of them.
 fn changed_in_turn<D: Disk + Drop>(disk: D) -> Option<D> {
     let mut disk = disk;
     for change in &CHANGED {
@@ -46,7 +44,7 @@ fn changed_in_turn<D: Disk + Drop>(disk: D) -> Option<D> {
     Some(disk)
 }
 
-// Adds a record that retires all leaves to a store of a key.
+// Appends a Retire of all 32 leaves. None where the store has no key.
 fn added<D: Disk + Drop>(store: &mut FileStore<D>) -> Option<Result<(), StoreFault>> {
     if store.count() == 0 {
         return None;
@@ -54,14 +52,13 @@ fn added<D: Disk + Drop>(store: &mut FileStore<D>) -> Option<Result<(), StoreFau
     Some(store.append(&Record::Retire { upto: 32 }))
 }
 
-// Whether a store has stopped: nothing of it is read then, and nothing added.
 fn has_stopped<D: Disk + Drop>(store: &mut FileStore<D>) -> bool {
     let is_tagged = store.count() == 0 || store.tag_at(0) != Err(StoreFault::Stopped);
     let is_read = store.load(0) != Err(StoreFault::Stopped);
     !is_tagged && !is_read && added(store) == Some(Err(StoreFault::Stopped))
 }
 
-// Whether a disk that has room for seven records refuses another one, and its store has stopped then, also for audits.
+// The disk has room for seven records. The append of an eighth stops the store, also for audits.
 fn stops_when_full<D: Disk + Drop>(alloc: Global, disk: D) -> Option<bool> {
     let mut store = FileStore::open(disk).ok()?;
     for _ in store.count()..7 {
@@ -72,8 +69,8 @@ fn stops_when_full<D: Disk + Drop>(alloc: Global, disk: D) -> Option<bool> {
     Some(is_full && has_stopped(&mut store) && !is_audited)
 }
 
-// The disk after the records of a key, whose leaves are all retired, are read again, and whether they are right: no key
-// is made where one is.
+// Reads a Key and a Retire again, tries all of CHANGED, and is refused a second key. The disk, and whether all was
+// right.
 fn opened_again<D: Disk + Drop>(disk: D) -> Option<(D, bool)> {
     let mut store = FileStore::open(disk).ok()?;
     if store.count() != 2 {
@@ -90,13 +87,11 @@ fn opened_again<D: Disk + Drop>(disk: D) -> Option<(D, bool)> {
     Some((refused.given, is_right))
 }
 
-// Whether a key is read as it is written.
 fn is_read_again(public: &AnyPublic) -> bool {
     AnyPublic::read(public.write().as_slice()) == Ok(*public)
 }
 
-// Whether a signer has so many leaves left, caches of its first three levels where it should, and a public key that is
-// read again.
+// `left` has the free leaves of each level, `caches` says which of levels 0 to 2 have a cache.
 fn has<S: Store, R: Source>(signer: &Signer<S, R>, left: &[u32], caches: [bool; 3]) -> bool {
     let is_cached = [
         signer.cache_leaves(0).is_some(),
@@ -107,7 +102,7 @@ fn has<S: Store, R: Source>(signer: &Signer<S, R>, left: &[u32], caches: [bool; 
     is_read && is_cached == caches && signer.left().as_slice() == left
 }
 
-// Whether the signer of a new key of one tree signs nothing after its leaves were retired; and the store then.
+// A new key of one tree, all of whose leaves are retired: its store, and whether it signs nothing.
 fn retired<S: Store + Drop>(alloc: Global, store: S) -> Option<(S, bool)> {
     let name = Name::new(b"fw-1").ok()?;
     let mut out = Vec::new(alloc);
@@ -120,7 +115,7 @@ fn retired<S: Store + Drop>(alloc: Global, store: S) -> Option<(S, bool)> {
     Some((signer.into_store(), is_right))
 }
 
-// Whether a key is made so on a disk.
+// Makes a key on a disk, reads it again, and fills the disk.
 fn is_kept_on<D: Disk + Drop>(alloc: Global, disk: Option<D>) -> Option<bool> {
     let (store, is_right) = retired(alloc, FileStore::format(disk?).ok()?)?;
     let mut disk = store.into_disk();
@@ -141,13 +136,11 @@ fn a_key_is_made_in_a_room(rt: HostRuntime) {
     assert!(rt; is_kept_on(rt.alloc(), room) == Some(true));
 }
 
-// A store for a new key.
 fn new_store(alloc: Global) -> Option<FileStore<MemoryDisk>> {
     FileStore::format(MemoryDisk::of(alloc, &[]).ok()?).ok()
 }
 
-// Signs the byte 1 under a name. Where the tree that did so is to be replaced, its leaves are retired, and the byte 2
-// is signed under a second name.
+// Signs byte 1 as fw-1. If `replaces`, retires the lowest tree's leaves, so that a new tree signs byte 2 as fw-2.
 fn sign_names<S: Store, R: Source>(
     signer: &mut Signer<S, R>,
     replaces: bool,
@@ -165,8 +158,8 @@ fn sign_names<S: Store, R: Source>(
 // The replies 21, 34 and 27.
 const REFUSED: &[u8] = b"\x15\0\0\0\0\x22\0\0\0\0\x1b\0\0\0\0";
 
-// Whether a signer of one name refuses what it should; also in frames: another message under that name, a name that is
-// none, and that name with one byte of two that are announced.
+// Whether a signer of fw-1 refuses another message under this name, and a retire beyond the tree. In frames: that
+// message, an empty name, and a message that is cut after one byte of two.
 fn is_refused<S: Store, R: Source>(
     alloc: Global,
     signer: &mut Signer<S, R>,
@@ -185,8 +178,8 @@ fn is_refused<S: Store, R: Source>(
     Some(changed == Err(SignFault::Changed) && is_retired && is_so && is_served && is_replied)
 }
 
-// Whether both names have their signatures again, and no cache makes a leaf for that: the first name's tree has no
-// cache any more, and the leaf of the second name is in the block that its tree's cache keeps.
+// Whether both names get their signatures again, and no cache makes a leaf. The first name's tree has no cache any
+// more; the second name's leaf is in the block that its tree's cache keeps.
 fn are_repeated<S: Store, R: Source>(
     signer: &mut Signer<S, R>,
     (first, second): (&[u8], &[u8]),
@@ -200,7 +193,7 @@ fn are_repeated<S: Store, R: Source>(
     is_so && is_first && is_second && is_made
 }
 
-// Whether a signer of two levels signs so, and where that is tried, answers other requests then.
+// Signs, and if `is_tried` also makes the requests that allocate nothing.
 fn signs<S: Store, R: Source>(
     alloc: Global,
     signer: &mut Signer<S, R>,
@@ -219,7 +212,7 @@ fn signs<S: Store, R: Source>(
     }
 }
 
-// The same of a new key in a store.
+// As `signs`, by a new key.
 fn signs_in<S: Store + Drop>(
     alloc: Global,
     store: Option<S>,

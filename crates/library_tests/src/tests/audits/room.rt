@@ -1,4 +1,4 @@
-//! A disk in room that was made before.
+//! A disk in a buffer of fixed size, whose calls allocate nothing.
 
 ghost use Rattle.std.specs.Prelude.{[], false, ⊤};
 ghost use Rattle.state_file.specs.Disk.{settled};
@@ -7,18 +7,18 @@ use super::*;
 use state_file::DiskFault;
 use typecodes::Count;
 
-// A disk that says nothing of stops.
+// It isn't honest: no law says what a crash leaves.
 #[derive(Drop)]
 pub(super) struct Room {
     bytes: Vec<u8>,
-    // how many of them are there
+    // how many of them the file has
     size: usize,
     failures: Count,
     past_ends: Count,
 }
 
 impl Room {
-    // A disk without a byte, and room for 2000.
+    // An empty file, with room for 2000 bytes.
     pub(super) fn of(alloc: Global) -> Option<Self> {
         let mut bytes = Vec::new(alloc);
         bytes.resize(2000, 0).ok()?;
@@ -31,7 +31,7 @@ impl Room {
     }
 }
 
-// Copies the bytes from an offset on, where as many are there.
+// None where `bytes` end before `into` is full.
 fn copy_from(bytes: &[u8], at: u64, into: &mut [u8]) -> Option<()> {
     let start = usize::try_from(at).ok()?;
     let part = bytes.get(start..start.checked_add(into.len())?)?;
@@ -42,7 +42,7 @@ fn copy_from(bytes: &[u8], at: u64, into: &mut [u8]) -> Option<()> {
     Some(())
 }
 
-// Copies bytes to an offset, where there is room for them, and gives where they end.
+// The end of the copied bytes; None where there is no room for them.
 fn copy_into(room: &mut [u8], at: u64, bytes: &[u8]) -> Option<usize> {
     let start = usize::try_from(at).ok()?;
     let end = start.checked_add(bytes.len())?;

@@ -1,14 +1,13 @@
-//! A key of two levels whose disk fails, or stops, at each of its calls in turn. What that leaves is audited, and the
-//! script is run again with the same names and messages: no leaf signs twice, and no name has two signatures. The
-//! script is run in two forms: with a signer that is opened for each step, and with one that stays open until a step
-//! doesn't come to its end.
+//! A key of two levels whose disk fails, or crashes, at each of its calls in turn. What that leaves is audited, and the
+//! script runs again with the same names and messages: no leaf signs twice, and no name has two signatures. The script
+//! runs in two forms: with a signer opened for each step, and with one that stays open until a step fails.
 
 use super::*;
 use state_file::{OpenFault, Pick};
 use std::slice;
 
-// What an audit answers, but for the key and the tag: how many records there are, how many leaves are free at the top,
-// and whether the records go on elsewhere.
+// An audit's answer: the number of records, the top tree's free leaves, and the version of the file that carries the
+// records on, if one does.
 type Audited = Result<(u32, Option<u32>, Option<u16>), AuditFault>;
 
 fn audited<D: Disk + Drop>(
@@ -26,7 +25,7 @@ fn audited<D: Disk + Drop>(
     }
 }
 
-// What two audits of a disk answer, or why it isn't opened.
+// Two audits of one open file, or why it isn't opened.
 fn audited_twice<D: Disk + Drop>(
     alloc: Global,
     disk: D,
@@ -41,7 +40,7 @@ fn audited_twice<D: Disk + Drop>(
     }
 }
 
-// The anchor of a file when it had so many records, or one that counts none, with the first slot's tag.
+// The anchor of a file's first `count` records. For 0 it has the first slot's tag.
 fn anchor_in(file: &[u8], count: usize) -> Option<Anchor> {
     let slot = count.saturating_sub(1);
     let mut tag = [0; 32];
@@ -50,7 +49,7 @@ fn anchor_in(file: &[u8], count: usize) -> Option<Anchor> {
     Some(Anchor { count, tag })
 }
 
-// What is done: the key is made, a letter is signed as its own name, or leaves are retired.
+// `Sign` signs a letter as its own name.
 enum Step {
     Create,
     Sign(u8),
@@ -74,7 +73,7 @@ const PICKS: [Pick; 5] = [
     Pick::Fill(0xFF),
 ];
 
-// Why no signer is there: there is no empty file, the file isn't opened, or the signer isn't.
+// Which call failed: the store's `format` or `open`, or the signer's `create` or `open`.
 #[derive(Clone, Copy)]
 enum Closed {
     Format,
@@ -82,7 +81,7 @@ enum Closed {
     Signer,
 }
 
-// The signer of a disk that has a key, whose source begins with this number. Else the disk, and why not.
+// The signer of a disk with a key, or the disk and why not. Its draws begin with the number `next`.
 fn open_on<D: Disk + Drop>(
     alloc: Global,
     disk: D,
@@ -100,8 +99,7 @@ fn open_on<D: Disk + Drop>(
     }
 }
 
-// The signer of a key that is made on a disk, whose source begins with this number. Else the disk, and why there is no
-// key.
+// As `open_on`, by a new key.
 fn create_on<D: Disk + Drop>(
     alloc: Global,
     spec: &str,
@@ -122,7 +120,6 @@ fn create_on<D: Disk + Drop>(
     }
 }
 
-// Signs a letter under itself, and adds what was signed.
 fn sign_letter<S: Store, R: Source>(
     alloc: Global,
     signer: &mut Signer<S, R>,
@@ -136,7 +133,7 @@ fn sign_letter<S: Store, R: Source>(
     given.push(Given { message, signature }).ok()
 }
 
-// Takes a step, and adds the signature that it gives. None where it doesn't come to its end.
+// None where the step fails. `begin_on` has made the key.
 fn do_step<S: Store, R: Source>(
     alloc: Global,
     signer: &mut Signer<S, R>,
@@ -150,8 +147,7 @@ fn do_step<S: Store, R: Source>(
     }
 }
 
-// The signer of a disk, whose source begins with this number; where no key is, of one that is made if this is the first
-// step. Else the disk.
+// The signer of a disk, by a new key where there is none and the first step is Create. Else the disk.
 fn begin_on<D: Disk + Drop>(
     alloc: Global,
     disk: D,
@@ -176,8 +172,7 @@ fn begin_on<D: Disk + Drop>(
     }
 }
 
-// Takes steps by one signer, up to the first that doesn't come to its end, and adds the signatures that they give. The
-// store afterwards, and how many steps came to their end.
+// Takes steps by one signer, up to the first that fails. The store afterwards, and how many steps were done.
 fn do_steps<S: Store + Drop, R: Source + Drop>(
     alloc: Global,
     signer: Signer<S, R>,
@@ -193,8 +188,8 @@ fn do_steps<S: Store + Drop, R: Source + Drop>(
     (signer.into_store(), steps.len())
 }
 
-// One life of a disk, in which these steps are taken: the disk afterwards, and how many of them came to their end. The
-// signatures that they gave are added. A key is made where none is and the first step makes one.
+// One life of a disk: one signer takes these steps, up to the first that fails. The disk afterwards, and how many steps
+// were done.
 fn live<D: Disk + Drop>(
     alloc: Global,
     disk: D,
@@ -211,14 +206,13 @@ fn live<D: Disk + Drop>(
     }
 }
 
-// A run without a mishap: the file before each step and how many signatures were given before it, and these signatures.
+// A run without a mishap: the file before each step with the number of earlier signatures, and all signatures.
 #[derive(Drop)]
 struct Run {
     files: Vec<(Vec<u8>, usize)>,
     given: Vec<Given>,
 }
 
-// Copies of signatures.
 fn copies_of(alloc: Global, before: &[Given]) -> Option<Vec<Given>> {
     let mut given = Vec::new(alloc);
     for earlier in before {
@@ -229,8 +223,8 @@ fn copies_of(alloc: Global, before: &[Given]) -> Option<Vec<Given>> {
     Some(given)
 }
 
-// The steps of the script, each of which comes to its end in a life of its own, after some signatures that were given
-// before. Their sources begin with this number, and with one more by 8 for each.
+// Runs the script without a mishap, each step in a life of its own. `before` are earlier signatures. The draws of step
+// i begin with the number `next` + 8 * i.
 fn run_script(
     alloc: Global,
     disk: MemoryDisk,
@@ -252,7 +246,7 @@ fn run_script(
     Some((disk, Run { files, given }))
 }
 
-// A disk of a file with a mishap at a call, which is refused, or before which the power goes.
+// A disk of a file with a mishap at this call: it fails, or the power goes before it.
 fn disk_with_mishap(alloc: Global, file: &[u8], call: u32, stops: bool) -> Option<MemoryDisk> {
     let mut disk = MemoryDisk::of(alloc, file).ok()?;
     if stops {
@@ -263,7 +257,7 @@ fn disk_with_mishap(alloc: Global, file: &[u8], call: u32, stops: bool) -> Optio
     Some(disk)
 }
 
-// The disk, where it can't be opened, and not for want of a key.
+// The disk, if opening fails for another reason than that there is no key.
 fn not_opened<D: Disk + Drop>(alloc: Global, disk: D) -> Option<D> {
     match open_on(alloc, disk, 0) {
         Ok(_signer) => None,
@@ -277,7 +271,7 @@ fn not_opened<D: Disk + Drop>(alloc: Global, disk: D) -> Option<D> {
     }
 }
 
-// Whether a mishap at any call of a reopening leaves the file as it is.
+// Whether a mishap at any call of an opening leaves the file as it is.
 fn lasts(alloc: Global, file: &Vec<u8>, stops: bool) -> Option<bool> {
     for call in 1..200u32 {
         match not_opened(alloc, disk_with_mishap(alloc, file, call, stops)?) {
@@ -294,8 +288,8 @@ fn lasts(alloc: Global, file: &Vec<u8>, stops: bool) -> Option<bool> {
     None
 }
 
-// The whole script on a file, after some signatures that were given before, in one life or in one for each step: the
-// disk afterwards, and all signatures.
+// Runs the whole script on a file, in one life or in one for each step: the disk afterwards, and all signatures, also
+// the earlier ones `before`.
 fn run_again(
     alloc: Global,
     file: &[u8],
@@ -316,8 +310,8 @@ fn run_again(
     }
 }
 
-// Whether the whole script comes to its end on a file, with the report that is wanted then, and all signatures, those
-// of before, too, are those of a key whose leaves sign once, and signatures of one message are one.
+// Whether the whole script is done on a file, and an audit then has the right counts. All signatures, also the earlier
+// ones, pass `check_given`, and no message has two different ones.
 fn ends_well(alloc: Global, file: &[u8], before: &[Given], in_one_life: bool) -> Option<bool> {
     let (disk, given) = run_again(alloc, file, before, in_one_life)?;
     for a in &given {
@@ -332,8 +326,8 @@ fn ends_well(alloc: Global, file: &[u8], before: &[Given], in_one_life: bool) ->
     Some(is_reported && check_given(alloc, &report.public, &given).is_ok())
 }
 
-// Whether a content that a mishap in a step left goes on well. An audit accepts it, or finds no key where none was
-// before; it lasts where the reopening of it has a mishap, too; and the script comes to its end on it.
+// Whether a key goes on well from what a mishap left. An audit accepts it, or finds no key where none was before. A
+// second mishap, while it is opened, changes nothing. The script ends well on it.
 fn goes_on_well(
     alloc: Global,
     content: &Vec<u8>,
@@ -351,7 +345,7 @@ fn goes_on_well(
     Some(is_audited && is_kept && ends_well(alloc, content, before, in_one_life)?)
 }
 
-// The contents that a mishap at each call of a step may leave, each of them once, and how many calls the step makes.
+// The contents that a mishap at any call of a step may leave, without repeats, and how many calls the step makes.
 fn left_in(alloc: Global, file: &[u8], place: usize) -> Option<(Vec<Vec<u8>>, u32)> {
     let doing = SCRIPT.get(place)?;
     let mut seen = Vec::new(alloc);
@@ -375,8 +369,7 @@ fn left_in(alloc: Global, file: &[u8], place: usize) -> Option<(Vec<Vec<u8>>, u3
     None
 }
 
-// How many calls of the disk a step makes, where each mishap at any of them is survived: each content that it may leave
-// goes on well.
+// How many disk calls a step makes. None where a mishap at one may leave a content that doesn't go on well.
 fn survives(alloc: Global, place: usize) -> Option<u32> {
     let (_, well) = run_script(alloc, MemoryDisk::of(alloc, &[]).ok()?, 0, &[])?;
     let (file, count) = well.files.get(place)?;
@@ -391,7 +384,7 @@ fn survives(alloc: Global, place: usize) -> Option<u32> {
     Some(calls)
 }
 
-// The anchor of the records that stand after so many steps of one life; none before the first.
+// The anchor after the first `done` steps in one life; none after 0.
 fn anchor_after(alloc: Global, done: usize) -> Option<Option<Anchor>> {
     if done == 0 {
         return Some(None);
@@ -403,8 +396,7 @@ fn anchor_after(alloc: Global, done: usize) -> Option<Option<Anchor>> {
     Some(anchor_in(&file, file.len() / 256))
 }
 
-// Whether each content that a disk may leave, after so many steps came to their end, goes on well. Those that were seen
-// before aren't tried again.
+// Whether each content that a disk may leave after `done` steps goes on well. A content in `seen` isn't tried again.
 fn each_goes_on_well(
     alloc: Global,
     disk: &MemoryDisk,
@@ -425,8 +417,8 @@ fn each_goes_on_well(
     Some(true)
 }
 
-// How many calls of the disk the script makes by one signer, which stays open until a mishap, where each mishap at any
-// of them is survived: it is opened again on what that may leave, and runs the script to its end.
+// How many disk calls the script makes in one life. None where a mishap at one may leave a content that doesn't go on
+// well.
 fn survives_in_one_life(alloc: Global) -> Option<u32> {
     let mut seen = Vec::new(alloc);
     for call in 1..100u32 {
@@ -445,8 +437,8 @@ fn survives_in_one_life(alloc: Global) -> Option<u32> {
     None
 }
 
-// An opening of n records makes 5 + 3 * n calls, a signer's 3 * n - 1 more, and each append 4. The first life looks for
-// a key by 2, and prepares the place by 4.
+// An opening of n records makes 5 + 3 * n calls, a signer's 3 * n - 1 more, and an append 4. The first life looks for a
+// key by 2 calls, and prepares the place by 4.
 #[test]
 fn a_create_survives(rt: HostRuntime) {
     assert!(rt; survives(rt.alloc(), 0) == Some(10));

@@ -1,12 +1,11 @@
-//! Inputs in pieces, inputs that fail or are interrupted, and reads that say that they gave bytes.
+//! Inputs in pieces, inputs that fail or are interrupted, and reads that claim bytes without writing them.
 
 use super::*;
 
-// Two requests of one name, with another message each.
+// Two requests with one name and different messages.
 const CHANGED: [u8; 20] = *b"\x04fw-1\0\0\0\x01\x01\x04fw-1\0\0\0\x01\x02";
 
-// A way of giving an input: how many bytes at a time, with a failure at the end or without, and whether that is an
-// interruption.
+// How an input comes: how many bytes at a time, whether it fails at the end, and whether that is an interruption.
 type Way = (usize, bool, bool);
 
 const WAYS: [Way; 8] = [
@@ -20,7 +19,7 @@ const WAYS: [Way; 8] = [
     (usize::MAX, true, true),
 ];
 
-// Those of each beginning of an input.
+// The ways of each prefix of an input.
 const FEW_WAYS: [Way; 4] = [
     (1, false, false),
     (usize::MAX, true, false),
@@ -28,8 +27,8 @@ const FEW_WAYS: [Way; 4] = [
     (usize::MAX, true, true),
 ];
 
-// Whether bytes come to what they lead to, whichever of these ways they are given. Where reads fail after them 27 is
-// replied, in the place of 35 where they end inside a frame.
+// Whether an input has its usual answers in each of these ways. Where its reads fail the last reply is 27, in place of
+// the 35 of an input that ends inside a frame.
 fn are_right_ways(alloc: Global, retired: u32, bytes: &[u8], ways: &[Way]) -> Option<bool> {
     let ((end, left, next), replies) = whole(alloc, retired, bytes)?;
     let read = if end == Err(ServeFault::FrameCut) {
@@ -60,8 +59,8 @@ fn are_right_ways(alloc: Global, retired: u32, bytes: &[u8], ways: &[Way]) -> Op
     Some(true)
 }
 
-// Whether a beginning of the two requests, after which reads say that they gave the rest and write none of it, comes to
-// what zeros in the place of the rest lead to.
+// Whether the first `len` bytes of CHANGED, followed by reads that claim the rest, have the answers of zeros in its
+// place.
 fn is_right_claim(alloc: Global, len: usize) -> Option<bool> {
     let mut bytes = CHANGED;
     bytes.get_mut(len..)?.fill(0);
@@ -73,8 +72,8 @@ fn is_right_claim(alloc: Global, len: usize) -> Option<bool> {
     Some(came == end && output.taken.as_slice() == replies.as_slice())
 }
 
-// The beginnings of frames, and how long their messages are: a name that takes the last leaf; names that find none, and
-// one that is none, whose messages are skipped; the first name with another message of more than two pieces; and again.
+// Heads of frames, and the sizes of their messages. fw-1 takes the last leaf, so fw-2's message is skipped, as is a bad
+// name's. Then fw-1 has another message, of more than two pieces; at last fw-2 and fw-1 come again.
 const REQUESTS: [(&[u8], usize); 6] = [
     (b"\x04fw-1\0\0\0\xc8", 200),
     (b"\x04fw-2\0\0\x9c\x40", 40_000),
@@ -84,7 +83,6 @@ const REQUESTS: [(&[u8], usize); 6] = [
     (b"\x04fw-1\0\0\0\xc8", 200),
 ];
 
-// Whether these requests are right, in each way of giving them.
 fn are_right_requests(alloc: Global) -> Option<bool> {
     let mut frames = Vec::new(alloc);
     for (head, size) in &REQUESTS {

@@ -1,16 +1,16 @@
-//! A long message takes no more memory than a short one, and serving takes none besides what signing takes, however
-//! much the frames claim: each of these tests has as many growths of memory. They are counted from outside. In each the
-//! frames, with the message, and what is written are made in one growth each.
+//! A long message takes no more allocations than a short one, and serving no more than signing, whatever sizes the
+//! frames claim. `tests/run` counts that all these tests have equally many. Each test makes its frames in one
+//! allocation, and its output in another.
 
 use super::*;
 
-// Where the message of a frame begins.
+// The message's offset in a frame of fw-1.
 const MESSAGE: usize = 9;
 
-// What follows the request: the same name with another message, and a frame that claims 2^32 - 1 bytes.
+// The frames after the request: the same name with another message, and a message that claims 2^32 - 1 bytes.
 const CLAIMED: &[u8] = b"\x04fw-1\0\0\0\x01\x01\0\xff\xff\xff\xffabc";
 
-// The request of a message of so many zeros, and these frames.
+// The request for a message of `size` zeros, and CLAIMED.
 fn frames_with(alloc: Global, size: u32) -> Option<Vec<u8>> {
     let mut frames = Vec::with_capacity(alloc, 70_000).ok()?;
     frames.extend_from_slice(b"\x04fw-1").ok()?;
@@ -20,8 +20,8 @@ fn frames_with(alloc: Global, size: u32) -> Option<Vec<u8>> {
     Some(frames)
 }
 
-// How long the signature is that a signer gives the message of these frames, in a frame or not. Two replies of 5 bytes
-// follow that of the frame.
+// The length of the message's signature, by `serve` or by `sign`. A reply has 5 bytes before its signature, and two
+// replies without one follow.
 fn len_by<S: Store, R: Source>(
     alloc: Global,
     signer: &mut Signer<S, R>,
@@ -43,7 +43,7 @@ fn len_by<S: Store, R: Source>(
     Some(signature.len())
 }
 
-// The same of a new key in this store.
+// As `len_by`, by a new key in this store.
 fn len_in<S: Store + Drop>(
     alloc: Global,
     store: S,
@@ -58,7 +58,7 @@ fn len_in<S: Store + Drop>(
     len
 }
 
-// The same of a message of so many zeros.
+// As `len_in`, for a message of `size` zeros.
 fn signed_len(alloc: Global, size: u32, is_in_frame: bool) -> Option<usize> {
     let frames = frames_with(alloc, size)?;
     let message = frames.get(MESSAGE..MESSAGE.checked_add(size as usize)?)?;

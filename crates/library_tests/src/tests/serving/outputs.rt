@@ -1,10 +1,9 @@
-//! Outputs that fail, take little at a time, or nothing.
+//! Outputs that fail, or take few bytes at a time, or none.
 
 use super::*;
 
-// How many calls of the output of an exchange end it, each of which is odd in turn in this way: then all requests that
-// were read were answered, which alone lead to this, and what was written begins what is replied to them. Each other
-// one changes nothing.
+// Makes each call of the output odd in turn, and counts those that end the exchange. The key is then as after the
+// requests that were read, and the output is a prefix of the replies to them. Any other odd call changes nothing.
 fn cut_by(alloc: Global, bytes: &[u8], most: usize, odd: Odd) -> Option<u32> {
     let (wanted, replies) = whole(alloc, 0, bytes)?;
     let mut cut = 0u32;
@@ -32,13 +31,13 @@ fn cut_by(alloc: Global, bytes: &[u8], most: usize, odd: Odd) -> Option<u32> {
     None
 }
 
-// A name that is signed, the same with another message, and a name that is none; after them the input is cut.
+// A signed name, the same with another message, and an empty name; then the input is cut.
 const REPLIED: &[u8] = b"\x04fw-1\0\0\0\x01\x01\x04fw-1\0\0\0\x01\x02\0\0\0\0\x01\x03\x04fw";
 
-// A new name whose message is cut, after a request that is refused.
+// A bad name, and a new name whose message is cut.
 const REFUSED: &[u8] = b"\x01 \0\0\0\x01\x01\x04fw-1\0\0\0\x02\x01";
 
-// An input, how many bytes its output takes at a time, and how many replies it has, each of which is flushed.
+// An input, how many bytes its output takes at a time, and how many replies are flushed.
 const REPLIES: [(&[u8], usize, u32); 5] = [
     (REPLIED, usize::MAX, 4),
     (REPLIED, 1000, 4),
@@ -47,7 +46,7 @@ const REPLIES: [(&[u8], usize, u32); 5] = [
     (b"", 1, 0),
 ];
 
-// Each call that fails or is interrupted ends the exchange, and each write that takes nothing does.
+// A failed or interrupted call ends the exchange, and so does a write that takes nothing.
 #[test]
 fn replies_are_written_or_end_the_exchange(rt: HostRuntime) {
     for (bytes, most, replies) in &REPLIES {

@@ -2,9 +2,9 @@
 
 use super::*;
 
-// A key, what is done with a new one and once it is opened, and how many records there are then. A request that is
-// signed makes the cache of each current tree that stood before its name, and of no other, and each leaf of these trees
-// once. A refusal that comes before that makes none.
+// A spec, the steps of a new key and those once it is opened again, and how many records there are then. A signed
+// request makes the caches of current trees that are older than its name, each leaf once, and no other cache. A refusal
+// before that makes none.
 type Row<'a> = (&'a str, &'a [Step<'a>], &'a [Step<'a>], u32);
 
 const NONE: Step<'static> = Step::Made([None, None, None]);
@@ -13,7 +13,6 @@ const ONE: Step<'static> = Step::Made([Some(32), None, None]);
 
 const BOTH: Step<'static> = Step::Made([Some(32), Some(32), None]);
 
-// Six names of a new key.
 const SIX: &[Step<'static>] = &[
     Step::Sign(0, 1, None),
     Step::Sign(1, 1, None),
@@ -23,7 +22,7 @@ const SIX: &[Step<'static>] = &[
     Step::Sign(5, 1, None),
 ];
 
-// Six names of two levels, after which another lower tree signs a name.
+// Six names by one lower tree, and one by the next.
 const REPLACED: &[Step<'static>] = &[
     Step::Sign(0, 1, None),
     Step::Sign(1, 1, None),
@@ -35,7 +34,7 @@ const REPLACED: &[Step<'static>] = &[
     Step::Sign(6, 1, None),
 ];
 
-// Lower trees that sign one name each: the last one by leaf 3 of the top tree, which ends its first block of four ..
+// Four lower trees of one name each. Leaf 3 of the top tree, the end of its first block of four, signs the last ..
 const FOUR_TREES: &[Step<'static>] = &[
     Step::Sign(0, 1, None),
     Step::Retire(32, None),
@@ -46,7 +45,7 @@ const FOUR_TREES: &[Step<'static>] = &[
     Step::Sign(3, 1, None),
 ];
 
-// .. and by leaf 5, which is in the next one.
+// .. and six, the last of them signed by leaf 5, which is in the next block.
 const SIX_TREES: &[Step<'static>] = &[
     Step::Sign(0, 1, None),
     Step::Retire(32, None),
@@ -62,8 +61,8 @@ const SIX_TREES: &[Step<'static>] = &[
 ];
 
 const ROWS: [Row<'static>; 20] = [
-    // the fifth name, whose leaf is in the next block of four, makes these four leaves; a block is kept when leaves of
-    // it are retired; that of the first leaf is made again for a repeat
+    // The fifth name's leaf is in the next block, whose four leaves are made. A block stays when leaves of it are
+    // retired. A repeat of the first name makes the first block again.
     (
         LMS,
         &[
@@ -110,8 +109,7 @@ const ROWS: [Row<'static>; 20] = [
         &[],
         16,
     ),
-    // a new lower tree is made once, with its cache; a repeat under the tree before it makes no cache, nor does one
-    // under the current tree
+    // a new lower tree is made once, with its cache; a repeat under the old tree or the current one makes no cache
     (
         TWO,
         &[
@@ -152,7 +150,7 @@ const ROWS: [Row<'static>; 20] = [
         &[Step::Sign(0, 1, None), Step::Made([Some(1024), None, None])],
         3,
     ),
-    // what comes before the caches makes none
+    // an answer that needs no cache makes none
     (
         LMS,
         SIX,
@@ -171,7 +169,7 @@ const ROWS: [Row<'static>; 20] = [
         &[Step::Sign(0, 1, Some(SignFault::Exhausted)), NONE],
         2,
     ),
-    // a bound name and a new one, of a leaf in the first block of four or in another
+    // bound names, with a leaf in the first block of four or in another, and a new one; the same for two levels
     (LMS, SIX, &[Step::Sign(3, 1, None), ONE], 7),
     (LMS, SIX, &[Step::Sign(5, 1, None), ONE], 7),
     (LMS, SIX, &[Step::Sign(6, 1, None), ONE], 8),
@@ -182,19 +180,19 @@ const ROWS: [Row<'static>; 20] = [
         &[Step::Retire(32, None), Step::Sign(6, 1, None), BOTH],
         11,
     ),
-    // under a tree that isn't current any more
+    // a name of a tree that isn't current any more, and one of the current tree
     (TWO, REPLACED, &[Step::Sign(5, 1, None), ONE], 11),
     (TWO, REPLACED, &[Step::Sign(6, 1, None), BOTH], 11),
-    // the second request makes none anew
+    // the second request makes no cache again
     (
         TWO,
         REPLACED,
         &[Step::Sign(6, 1, None), Step::Sign(5, 1, None), BOTH],
         11,
     ),
-    // the last leaf of a block signs the current tree, and the next one is in another block
+    // the last leaf of a block signs the current lower tree
     (TWO, FOUR_TREES, &[Step::Sign(4, 1, None), BOTH], 13),
-    // a leaf of another block signs the current tree, and one of the first block that of a name bound before
+    // a leaf of the second block signs the current lower tree, and one of the first block the first name's tree
     (TWO, SIX_TREES, &[Step::Sign(5, 1, None), BOTH], 18),
     (TWO, SIX_TREES, &[Step::Sign(0, 1, None), ONE], 18),
     (

@@ -1,11 +1,10 @@
 //! Keys in memory whose calls are answered at the second try where memory is refused at the first. `tests/run` runs
-//! these with each growth of memory refused in turn. Of keys in files `tests/refused_memory` says so, by the built
-//! program.
+//! these with each allocation refused in turn. `tests/refused_memory` tests keys in files, by the built program.
 
 use super::records::records_of;
 use super::*;
 
-// Ten names of a key, after eight of which more leaves are retired.
+// Ten names and eight Retires.
 const TEN: [Step; 19] = [
     Step::Sign(0, 1, None),
     Step::Sign(1, 1, None),
@@ -34,7 +33,7 @@ fn made(alloc: Global, text: &str, limit: u32) -> Option<MemoryStore> {
     begins(alloc, key, &seen_from(7), &[], &mut Vec::new(alloc))
 }
 
-// Whether a key in a store takes all of these steps once it is opened, and has so many records then.
+// Whether a key, once it is opened, takes all of these steps and then has this many records.
 fn ends_with<S: Store + Drop>(
     alloc: Global,
     store: Option<S>,
@@ -46,8 +45,8 @@ fn ends_with<S: Store + Drop>(
     Some(has_records(&mut store, records))
 }
 
-// How often the store of a new key is refused memory for one of the ten names, and for leaves. None where they aren't
-// all recorded at last, or a refusal of another memory draws anything.
+// How often memory is refused to a name after its draw, and to a Retire. None where not all is recorded at last, or
+// another refusal draws anything.
 fn refused_for(alloc: Global) -> Option<(u32, u32)> {
     let seen = seen_from(50);
     let is_right = ends_with(alloc, made(alloc, LMS, 200), &seen, &TEN, 19)?;
@@ -63,7 +62,7 @@ fn records_are_made_at_last(rt: HostRuntime) {
     assert!(rt; refused_for(rt.alloc()).is_some());
 }
 
-// How often memory is refused to the first name of a key, and to its opening.
+// How often memory is refused to a key's opening and its first name.
 fn refused_at_first(alloc: Global) -> Option<u32> {
     let seen = seen_from(50);
     let steps = [Step::Sign(0, 1, None), Step::Left(&[31])];
@@ -73,13 +72,14 @@ fn refused_at_first(alloc: Global) -> Option<u32> {
     seen.steps.get().checked_add(seen.openings.get())
 }
 
-// Where there is memory, none is said to be refused.
+// With ample memory no refusal is reported.
 #[test]
 fn a_first_name_is_signed_at_first(rt: HostRuntime) {
     assert!(rt; refused_at_first(rt.alloc()) == Some(0));
 }
 
-// The next two pass only where the store isn't refused memory for a name, and for leaves.
+// This passes only where no name is refused memory after its draw, and the next one only where no Retire is refused
+// any.
 #[test]
 fn names_are_bound_at_first(rt: HostRuntime) {
     let refused = refused_for(rt.alloc());
@@ -92,9 +92,9 @@ fn leaves_are_retired_at_first(rt: HostRuntime) {
     assert!(rt; refused == Some((0, 0)) || refused == Some((1, 0)));
 }
 
-// Keys, what is done with a new key and once it is opened, and how many records there are then: the first names of a
-// key of XMSS and of keys of more levels, which make their trees; a lower tree that is replaced; leaves that are
-// retired; a request, the same again and with another message.
+// A spec, the steps of a new key and those once it is opened again, and how many records there are then. The rows have
+// first names, which make the trees of their levels; a replaced lower tree; retired leaves; a repeated request and a
+// changed one.
 const NEW: [(&str, &[Step<'_>], &[Step<'_>], u32); 5] = [
     (XMSS, &[Step::Sign(1, 1, None)], &[Step::Left(&[1023])], 2),
     (
@@ -144,8 +144,8 @@ fn new_keys_sign_at_last(rt: HostRuntime) {
     }
 }
 
-// The lowest tree of a key of three levels is used up after each of 32 names. Before the next one no lower tree has a
-// leaf left, and it begins both anew.
+// After each of 32 names the lowest of three trees is used up. Before the next name neither lower tree has a leaf left,
+// and it begins both anew.
 fn using_up() -> [Step<'static>; 67] {
     let mut steps = [Step::Left(&[30, 31, 31]); 67];
     for number in 0..32u8 {
@@ -164,8 +164,8 @@ fn lower_trees_are_used_up_at_last(rt: HostRuntime) {
     assert!(rt; is_right == Some(true));
 }
 
-// A first name under a key of two levels wants a tree and the binding, where the store takes two records in all. It
-// changes nothing. Nor do leaves to retire without room, or a source that gives the key's I again.
+// A first name of two levels needs two records, a tree and a binding, where the store has room for one. It changes
+// nothing. Nor does a Retire without room, or a source that draws the key's I again.
 const WANTS_TWO: [Step; 2] = [
     Step::Sign(1, 1, Some(SignFault::LedgerFull)),
     Step::Left(&[32, 0]),
@@ -192,7 +192,7 @@ fn a_full_store_is_found_at_last(rt: HostRuntime) {
     assert!(rt; ends_with(rt.alloc(), store, &seen_from(7), &AGAIN, 1) == Some(true));
 }
 
-// What a key answers whose append of a name is cut: it is closed then.
+// What a key answers from a cut append of a name on: it has stopped.
 const CUT: [Step; 5] = [
     Step::Sign(1, 1, Some(SignFault::StoreFailed)),
     Step::Sign(1, 1, Some(SignFault::Stopped)),
@@ -201,8 +201,8 @@ const CUT: [Step; 5] = [
     Step::Retire(33, Some(SignFault::Stopped)),
 ];
 
-// What it is asked then. Where the record was left the name has its signature with nothing drawn, and another message
-// has none. Where it wasn't the name is free, and another one gets its leaf.
+// After it is opened again. If the record was left, the name gets its signature without a draw, and another message is
+// refused. If not, the name is free, and another one gets its leaf.
 const BOUND: [Step; 3] = [
     Step::Sign(1, 1, None),
     Step::Sign(1, 2, Some(SignFault::Changed)),
@@ -211,7 +211,7 @@ const BOUND: [Step; 3] = [
 
 const FREE: [Step; 3] = [Step::Left(&[32]), Step::Sign(2, 1, None), Step::Left(&[31])];
 
-// Whether these steps draw nothing after such a cut, and whether the last of them that was signed is of the first leaf.
+// Whether these steps draw nothing after such a cut, and whether `out` ends as a signature of leaf 0.
 fn after_a_cut(alloc: Global, cut: Cut, steps: &[Step<'_>]) -> Option<(bool, bool)> {
     let mut out = Vec::new(alloc);
     let seen = seen_from(50);
@@ -231,13 +231,12 @@ fn a_cut_name_is_answered_at_last(rt: HostRuntime) {
     assert!(rt; after_a_cut(rt.alloc(), Cut::Old, &FREE) == Some((false, true)));
 }
 
-// No name, and that of the number 1, which is bound to the digest of the byte 1.
+// Without a name, and with name 1 bound to the digest of byte 1.
 const NO_NAME: &[Entry] = &[Entry::Key(Version::One)];
 
 const BOUND_BYTE: &[Entry] = &[Entry::Key(Version::One), Entry::BoundByte(0, 1)];
 
-// How often memory is refused to a new name, or a bound one, under a key whose root isn't that of its tree, before that
-// is found.
+// How often memory is refused to a request, before it finds that the key's root isn't its tree's.
 fn refused_of(alloc: Global, entries: &[Entry], number: u8) -> Option<u32> {
     let store = match with_records(MemoryStore::with_limit(alloc, 100), entries) {
         Some(store) => Some(store),
@@ -249,32 +248,31 @@ fn refused_of(alloc: Global, entries: &[Entry], number: u8) -> Option<u32> {
     Some(seen.steps.get())
 }
 
-// Want of memory comes before what is wrong in the records, and the next request says that.
+// Refused memory is reported before a wrong root, which the next request then reports.
 #[test]
 fn a_changed_root_is_found_at_last(rt: HostRuntime) {
     assert!(rt; refused_of(rt.alloc(), NO_NAME, 2).is_some());
 }
 
-// This one passes only where no growth of the request is refused.
+// This passes only where no allocation of the request is refused.
 #[test]
 fn a_changed_root_is_found_at_first(rt: HostRuntime) {
     assert!(rt; refused_of(rt.alloc(), NO_NAME, 2) == Some(0));
 }
 
-// Under a bound name, too, want of memory comes before what is wrong in the records.
+// The same under a bound name.
 #[test]
 fn a_changed_root_of_a_bound_name_is_found_at_last(rt: HostRuntime) {
     assert!(rt; refused_of(rt.alloc(), BOUND_BYTE, 1).is_some());
 }
 
-// This one passes only where no growth of the request is refused.
+// This passes only where no allocation of the request is refused.
 #[test]
 fn a_changed_root_of_a_bound_name_is_found_at_first(rt: HostRuntime) {
     assert!(rt; refused_of(rt.alloc(), BOUND_BYTE, 1) == Some(0));
 }
 
-// What a ledger of legal records answers, and a second one where memory is refused for the first. The records are made
-// at the second try where memory is refused at the first.
+// The fault of a replay of legal records, and of a second one where memory is refused to the first.
 fn replayed(alloc: Global) -> Option<(Option<LedgerFault>, Option<LedgerFault>)> {
     let entries = [
         Entry::Key(Version::One),
@@ -299,7 +297,7 @@ fn records_are_replayed_at_last(rt: HostRuntime) {
     assert!(rt; came == Some((None, None)) || came == refused);
 }
 
-// This one passes only where no growth of the first ledger is refused.
+// This passes only where no allocation of the first replay is refused.
 #[test]
 fn records_are_replayed_at_first(rt: HostRuntime) {
     assert!(rt; replayed(rt.alloc()) == Some((None, None)));

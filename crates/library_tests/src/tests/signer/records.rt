@@ -1,5 +1,5 @@
-//! Lists of records, legal and not, in memory. What files of such lists open with is said by the tests of the built
-//! program, `tests/conformance` and `tests/machine_edge`.
+//! Legal and illegal lists of records, in memory. Files of such lists are tested by `tests/conformance` and
+//! `tests/machine_edge`.
 
 ghost use Rattle.std.specs.Prelude.{◌≡◌, true};
 ghost use Rattle.state_file.specs.Slot.{FitsVersion, version_begun};
@@ -9,9 +9,12 @@ use super::*;
 use lmots::LmOts;
 use typecodes::{LmsSecret, LmsType, OtsType};
 
-// A record of a list: a key of H5/W1 of a version, whose root isn't that of its tree; a tree of a level under a leaf of
-// the level above, whose I has this number in each byte; a leaf with the name of a number, or with one of so many
-// letters, and the first with the digest of the byte 1 under the key; leaves that are retired, and a Moved.
+// A record of a list.
+// - `Key`: of H5/W1, with a root that isn't its tree's.
+// - `Extend`: a level, the leaf above, and each byte of I.
+// - `Bound`: a leaf and a name, by its number. `BoundLong` has the name's length, `BoundByte` the digest of byte 1
+//   under the key.
+// - `Retire`: the end of the retired leaves.
 #[derive(Clone, Copy)]
 pub(crate) enum Entry {
     Key(Version),
@@ -23,7 +26,6 @@ pub(crate) enum Entry {
     Moved,
 }
 
-// The record of a name.
 fn bound_of(name: Option<Name>, leaf: u32, digest: [u8; 32]) -> Option<Record> {
     Some(Record::Bound(Bound {
         name: name?,
@@ -76,7 +78,7 @@ pub(super) fn record_of(entry: Entry) -> Option<Record> {
     }
 }
 
-// Whether the file that the first of two records begins can hold the other one.
+// Whether a file that begins with `first` can hold `entry`.
 fn can_hold(first: &Record, entry: &Record) -> bool
     ensures { result ≡ true → FitsVersion (version_begun first.now) entry.now }
 {
@@ -88,7 +90,7 @@ fn can_hold(first: &Record, entry: &Record) -> bool
     entry.fits(version)
 }
 
-// Adds a record to a store, where it is a Key and the first, or the file can hold it.
+// None where an empty store gets another record than a Key, or the store's version can't hold the record.
 pub(super) fn add<S: Store>(store: &mut S, entry: &Record) -> Option<()> {
     let can_follow = match store.load(0).ok()? {
         None => matches!(entry, Record::Key(_)),
@@ -100,7 +102,6 @@ pub(super) fn add<S: Store>(store: &mut S, entry: &Record) -> Option<()> {
     store.append(entry).ok()
 }
 
-// A store with these records after those that it has.
 pub(crate) fn with_records<S: Store + Drop>(store: S, entries: &[Entry]) -> Option<S> {
     let mut store = store;
     for entry in entries {
@@ -113,8 +114,7 @@ const KEY: Entry = Entry::Key(Version::One);
 
 const KEY_TWO: Entry = Entry::Key(Version::Two);
 
-// Lists, and their faults, as a ledger and in a store in memory, where that takes them. How long a name is has no part
-// in it.
+// Lists, and their faults as a ledger, and as a store in memory if that takes them. A name's length has no part in it.
 const LISTS: [(&[Entry], Option<LedgerFault>); 24] = [
     (&[KEY_TWO], None),
     (&[KEY_TWO, Entry::Moved], Some(LedgerFault::Illegal(1))),
@@ -168,7 +168,6 @@ const LISTS: [(&[Entry], Option<LedgerFault>); 24] = [
     ),
 ];
 
-// A list of records.
 pub(super) fn records_of(alloc: Global, entries: &[Entry]) -> Option<Vec<Record>> {
     let mut records = Vec::new(alloc);
     for entry in entries {
@@ -177,7 +176,7 @@ pub(super) fn records_of(alloc: Global, entries: &[Entry]) -> Option<Vec<Record>
     Some(records)
 }
 
-// The number of the fault with which a store opens; 0 where it opens.
+// The number of an opening's fault; 0 where the store opens.
 fn number_in<S: Store + Drop>(alloc: Global, store: S) -> u8 {
     let seen = seen_from(0);
     match Signer::open(alloc, store, Numbers { next: &seen.next }) {
@@ -186,7 +185,7 @@ fn number_in<S: Store + Drop>(alloc: Global, store: S) -> u8 {
     }
 }
 
-// The first of these lists that has another fault, or another number of it in a store; their count if none.
+// The index of the first list with another fault, as a ledger or as a store; the number of lists if there is none.
 fn first_other_list(alloc: Global) -> Option<usize> {
     for (i, (entries, fault)) in LISTS.iter().enumerate() {
         let records = records_of(alloc, entries)?;
@@ -214,7 +213,7 @@ fn ledgers_are_legal_lists(rt: HostRuntime) {
     }
 }
 
-// The number of the fault with which a key is made in a store, 0 where it is made; and the store.
+// The number of a create's fault, 0 where a key is made; and the store.
 fn made_in<S: Store + Drop>(alloc: Global, store: S) -> Option<(u8, S)> {
     if store.limit() == 0 {
         return None;
@@ -231,7 +230,7 @@ fn made_in<S: Store + Drop>(alloc: Global, store: S) -> Option<(u8, S)> {
     }
 }
 
-// The numbers of the faults of two keys that are made in one store, and of an opening.
+// The fault numbers of two creates in one store, and of an opening.
 fn made_twice(alloc: Global, is_cut: bool) -> Option<(u8, u8, u8)> {
     let mut store = MemoryStore::with_limit(alloc, 2);
     if is_cut {
@@ -242,8 +241,7 @@ fn made_twice(alloc: Global, is_cut: bool) -> Option<(u8, u8, u8)> {
     Some((first, second, number_in(alloc, store)))
 }
 
-// A store with a key gets no other. Where the append of a key is cut, none is made or opened as long as the store has
-// stopped.
+// A store with a key gets no other (50). After a cut append of a key (25) the store has stopped (26).
 #[test]
 fn a_store_has_one_key(rt: HostRuntime) {
     assert!(rt; made_twice(rt.alloc(), false) == Some((0, 50, 0)));

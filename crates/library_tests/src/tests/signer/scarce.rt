@@ -1,5 +1,4 @@
-//! A store that answers 46: to an append and in a load. What is answered then, and that the call that comes again gets
-//! the answer that it would have had.
+//! A store that refuses memory (46) to one append or one load. The call that then comes again has its usual answer.
 
 ghost use Rattle.std.specs.Prelude.{false, ◌≤◌, length};
 
@@ -7,13 +6,12 @@ use super::*;
 use state_file::{RecordList, SlotList};
 use typecodes::Count;
 
-// A store in memory that refuses one append, or one load, for want of memory. It isn't honest: of such a store only the
-// answers are promised.
+// It isn't honest: contracts promise only the answers of such a store.
 #[derive(Drop)]
 struct Scarce {
     records: Vec<Record>,
     refusals: Count,
-    // how many appends, and how many loads, come before the one that is refused
+    // how many appends, and how many loads, come before the refused one
     appends: Option<u32>,
     loads: Option<u32>,
     asked: SlotList,
@@ -21,7 +19,7 @@ struct Scarce {
     ghost few: { length records.items ≤ 100 },
 }
 
-// Whether this call is the one that is refused, where so many come before that one; and how many do from then on.
+// Whether this call is the refused one, if `before` others come before that; and the new `before`.
 fn refuses(before: Option<u32>) -> (bool, Option<u32>) {
     match before {
         None => (false, None),
@@ -102,7 +100,7 @@ impl Store for Scarce {
     }
 }
 
-// One that refuses the append, and the load, that come after so many.
+// `appends` and `loads` come before the refused one.
 fn empty_store(alloc: Global, appends: Option<u32>, loads: Option<u32>) -> Scarce {
     Scarce {
         records: Vec::new(alloc),
@@ -114,9 +112,8 @@ fn empty_store(alloc: Global, appends: Option<u32>, loads: Option<u32>) -> Scarc
     }
 }
 
-// A row: a key; how many appends, or loads, come before the one that is refused; what is done with a new key, and once
-// it is opened; how many records there are then; and whether memory was refused to its creation or an opening, or to a
-// step.
+// A spec; how many appends, and loads, come before the refused one; the steps of a new key and those once it is opened
+// again. Then how many records there are, and how often memory was refused: to a create or opening, and to a step.
 type Row<'a> = (
     &'a str,
     (Option<u32>, Option<u32>),
@@ -133,9 +130,8 @@ const ONE_LEFT: &[Step<'static>] = &[Step::Left(&[31])];
 
 const NONE_USED: &[Step<'static>] = &[Step::Left(&[32])];
 
-// A name, trees or leaves to retire whose append is refused: a name of two levels keeps the tree that was recorded
-// before its refusal. A create is refused by the first load, or the first append. Each load of an opening is refused in
-// turn: of the two records, and the one that finds no more.
+// First the append of a name, a tree or a Retire is refused. A name of two levels keeps a tree that was recorded
+// before. Then a create's first append or load is refused, and then each load of an opening: two records, and no third.
 const ROWS: [Row<'static>; 10] = [
     (
         LMS,

@@ -1,10 +1,10 @@
-//! What is done with a key, step by step, and what it answers. A step or an opening to which memory is refused comes
-//! again, and is answered then.
+//! What a key is asked, step by step, and what it answers. A create, an opening or a step that is refused memory comes
+//! again, and is then answered.
 
 use super::*;
 use std::cell::Cell;
 
-// A source that gives one number in each byte of a draw, and the next one at the next draw.
+// Fills a draw with one number, and the next draw with the next number.
 #[derive(Drop)]
 pub(crate) struct Numbers<'a> {
     pub(super) next: &'a Cell<u8>,
@@ -25,8 +25,10 @@ impl Source for Numbers<'_> {
     }
 }
 
-// What is done with a key: a request of the name of a number with a message of one byte, or leaves that are retired,
-// and the fault of either, if any; how many leaves are left; how many leaves the caches of three levels have made.
+// - `Sign`: a name's number, the byte of the message, and the fault.
+// - `Retire`: the end of the retired leaves, and the fault.
+// - `Left`: the free leaves of each level.
+// - `Made`: how many leaves the caches of levels 0 to 2 have made, None without a cache.
 #[derive(Clone, Copy)]
 pub(super) enum Step<'a> {
     Sign(u8, u8, Option<SignFault>),
@@ -35,8 +37,8 @@ pub(super) enum Step<'a> {
     Made([Option<u64>; 3]),
 }
 
-// What was seen of a key: the number that its source gives next; and how often memory was refused to its creation or an
-// opening, to a step, and of these to a name after something was drawn for it, and to leaves.
+// The next number of a key's source, and how often memory was refused to its create or an opening, and to a step. Of
+// these, `names` counts each `Sign` after a draw, and `retires` each `Retire`.
 #[derive(Drop)]
 pub(crate) struct Seen {
     pub(crate) next: Cell<u8>,
@@ -60,7 +62,7 @@ fn count_one(count: &Cell<u32>) {
     count.set(count.get().wrapping_add(1));
 }
 
-// A refusal of memory to a step, before which the source was to give this number.
+// Counts a refusal of memory to a step. `before` was the source's next number before it.
 fn note(seen: &Seen, step: &Step<'_>, before: u8) {
     count_one(&seen.steps);
     match step {
@@ -70,7 +72,7 @@ fn note(seen: &Seen, step: &Step<'_>, before: u8) {
     }
 }
 
-// The signer of a new key of this spec, at the second try where memory is refused at the first, with the same numbers.
+// The signer of a new key. If memory is refused it is made at the second try, with the same draws.
 pub(crate) fn created_by<'a, S: Store + Drop>(
     alloc: Global,
     text: &str,
@@ -99,7 +101,7 @@ pub(crate) fn created_by<'a, S: Store + Drop>(
     }
 }
 
-// The signer of a store, in the same way.
+// The signer of a store, at the second try if memory is refused.
 fn opened_by<'a, S: Store + Drop>(
     alloc: Global,
     store: S,
@@ -118,19 +120,18 @@ fn opened_by<'a, S: Store + Drop>(
     }
 }
 
-// The name of a number.
 pub(super) fn name_of(number: u8) -> Option<Name> {
     Name::new(&[b'0'.wrapping_add(number)]).ok()
 }
 
-// Whether no name was bound between these counts of leaves of the lowest tree: a tree that was used up may have been
-// replaced by one of height 5.
+// Whether no name was bound, by the free leaves of the lowest tree before and after. A tree of height 5 may have
+// replaced a used-up one.
 fn binds_none(before: Option<u32>, after: Option<u32>) -> bool {
     before == after || (before == Some(0) && after == Some(32))
 }
 
-// The fault of a request of one byte, if any, whose signature is valid. A refusal leaves no byte, and one of memory
-// binds no name.
+// The fault of a request, if any. None where the signature isn't valid, a refusal leaves a byte, or refused memory
+// binds a name.
 fn request<S: Store, R: Source>(
     signer: &mut Signer<S, R>,
     number: u8,
@@ -150,7 +151,7 @@ fn request<S: Store, R: Source>(
     if is_right { Some(fault) } else { None }
 }
 
-// Whether a step is answered as it should be, or memory is refused to it. None where it is answered otherwise.
+// Whether a step has its expected answer: false where it is refused memory, None where it has another answer.
 fn is_answered<S: Store, R: Source>(
     signer: &mut Signer<S, R>,
     step: &Step<'_>,
@@ -173,8 +174,8 @@ fn is_answered<S: Store, R: Source>(
     }
 }
 
-// Whether all steps are answered as they should be, each at the second try where memory is refused at the first, and
-// memory is refused once at most.
+// Whether all steps have their expected answers, at the second try if memory is refused, and memory is refused at most
+// once.
 pub(super) fn are_taken<S: Store, R: Source>(
     signer: &mut Signer<S, R>,
     seen: &Seen,
@@ -211,7 +212,7 @@ pub(super) fn begins<S: Store + Drop>(
     }
 }
 
-// The store of a key that is opened after these steps.
+// The same for a key that is opened.
 pub(super) fn goes_on<S: Store + Drop>(
     alloc: Global,
     store: S,
@@ -229,7 +230,6 @@ pub(super) fn goes_on<S: Store + Drop>(
     }
 }
 
-// Whether a store has so many records.
 pub(super) fn has_records<S: Store>(store: &mut S, count: u32) -> bool {
     let is_last = match count.checked_sub(1) {
         Some(last) => matches!(store.load(last), Ok(Some(_))),
@@ -238,8 +238,8 @@ pub(super) fn has_records<S: Store>(store: &mut S, count: u32) -> bool {
     is_last && store.load(count) == Ok(None)
 }
 
-// Whether a new key comes through two lives, of which the second one begins with an opening, and its store has so many
-// records then.
+// Whether a new key takes the first steps, and once it is opened again the second ones, and then has this many
+// records.
 pub(super) fn lived<S: Store + Drop>(
     alloc: Global,
     key: (&str, S),

@@ -1,14 +1,14 @@
-//! What is told of the trees that calls make. How many leaves a tree has follows from its height.
+//! Which trees calls tell of, up to their last leaf. The number of a tree's leaves follows from its height.
 
 use super::steps::Numbers;
 use super::*;
 use sign_core::{TreeProgress, serve_telling};
 use std::cell::Cell;
 
-// A tree: its level, and how many leaves it has.
+// A tree's level, and its number of leaves.
 type Tree = (u8, u64);
 
-// The trees that are still to be told of; and of the last one that was, how many leaves it has and how many were made.
+// The trees still to be told of, and for the one before them its number of leaves and how many are made.
 #[derive(Clone, Copy)]
 struct Awaited<'a> {
     trees: &'a [Tree],
@@ -16,7 +16,7 @@ struct Awaited<'a> {
     made: u64,
 }
 
-// What awaits to be told of trees; None once it was told of another one, or of leaves out of their order.
+// Awaits these trees in order. None once it is told of another tree, or of leaves out of order.
 #[derive(Drop)]
 struct Listener<'a> {
     awaited: Cell<Option<Awaited<'a>>>,
@@ -50,7 +50,7 @@ impl TreeProgress for Listener<'_> {
         self.awaited.set(next);
     }
 
-    // Leaves are made one by one or eight at a time, after none.
+    // First no leaf is made, then one or eight at a time.
     fn tell(&self, made: u64) {
         let mut next = None;
         if let Some(
@@ -85,8 +85,8 @@ fn awaiting(trees: &[Tree]) -> Listener<'_> {
     }
 }
 
-// A key, and the trees that are told of: when it is made; by its first name, while its second makes none; by one that
-// is served, once so many leaves are retired; and by the first one again, after the key was opened.
+// A spec, and the trees that calls tell of. A second name tells of none. `served` is a name after `retired` leaves are
+// retired, and `repeated` the first name again, once the key is opened again.
 struct Row<'a> {
     spec: &'a str,
     created: &'a [Tree],
@@ -96,7 +96,6 @@ struct Row<'a> {
     repeated: &'a [Tree],
 }
 
-// A new key of a row.
 fn created_telling<'a, S: Store + Drop>(
     alloc: Global,
     store: S,
@@ -116,7 +115,6 @@ fn created_telling<'a, S: Store + Drop>(
     made.ok()
 }
 
-// Whether a request of the name of a number is told of these trees.
 fn signs_telling<S: Store, R: Source>(
     signer: &mut Signer<S, R>,
     number: u8,
@@ -129,7 +127,7 @@ fn signs_telling<S: Store, R: Source>(
     Some(signed == Ok(()) && listener.is_done())
 }
 
-// Whether a request that is served, of the name of 2, is told of these trees.
+// Serves name 2.
 fn serves_telling<S: Store, R: Source>(
     alloc: Global,
     signer: &mut Signer<S, R>,
@@ -142,7 +140,6 @@ fn serves_telling<S: Store, R: Source>(
     end == Ok(1) && replies.first() == Some(&0) && listener.is_done()
 }
 
-// Whether two names and one that is served are told of the trees of a row.
 fn works_telling<S: Store, R: Source>(
     alloc: Global,
     signer: &mut Signer<S, R>,
@@ -155,14 +152,13 @@ fn works_telling<S: Store, R: Source>(
     Some(first && second && serves_telling(alloc, signer, row.served))
 }
 
-// Whether a key of this store, once it is opened, tells of the trees of its first name.
+// Signs the first name again, once the key is opened again.
 fn repeats_telling<S: Store + Drop>(alloc: Global, store: S, trees: &[Tree]) -> Option<bool> {
     let next = Cell::new(99);
     let mut signer = Signer::open(alloc, store, Numbers { next: &next }).ok()?;
     signs_telling(&mut signer, 0, &mut Vec::new(alloc), trees)
 }
 
-// Whether all of a row is so.
 fn lives_telling<S: Store + Drop>(alloc: Global, store: S, row: &Row<'_>) -> Option<bool> {
     let next = Cell::new(7);
     let mut signer = created_telling(alloc, store, &next, row)?;
@@ -171,7 +167,7 @@ fn lives_telling<S: Store + Drop>(alloc: Global, store: S, row: &Row<'_>) -> Opt
     Some(works? && repeats?)
 }
 
-// A repeat makes no cache of a tree that is newer than its name, and tells of none that isn't current.
+// A repeat makes no cache of a tree newer than its name, and tells of current trees only.
 const ROWS: [Row<'static>; 4] = [
     Row {
         spec: LMS,
