@@ -1,4 +1,4 @@
-//! Tests of `hss` and all crates below it, by their public interfaces: a module for each crate.
+//! Tests of `hss`, `xmss` and all crates below them, by their public interfaces: a module for each crate.
 //!
 //! A crate with a test of its own is proved twice, without its tests and with them. So these crates have none, and this
 //! one has no code.

@@ -1,4 +1,4 @@
-//! A module for each tested crate, and what two of them share.
+//! A module for each tested crate, and what several of them share.
 
 mod chains;
 mod codes;
@@ -7,3 +7,6 @@ mod lms_keys;
 mod one_time;
 mod readers;
 mod trees;
+mod values;
+mod wots_keys;
+mod xmss_keys;

@@ -28,8 +28,6 @@ mod hashes;
 mod key;
 mod l_tree;
 mod lane_keys;
-#[cfg(test)]
-mod tests;
 
 pub use crate::address::Address;
 pub use crate::climbing::Climbing;

@@ -26,8 +26,6 @@ mod laws;
 mod nodes;
 mod secret;
 mod signature;
-#[cfg(test)]
-mod tests;
 mod verification;
 mod writing;
 

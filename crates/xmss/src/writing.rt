@@ -57,6 +57,3 @@ pub fn write_signature(
     key.sign_digest(&secret.secret_seed, digest, &mut into[offset..end]);
     put(into, end, path.as_flattened());
 }
-
-#[cfg(test)]
-mod tests;

@@ -3,7 +3,7 @@
 
 ghost use Rattle.std.specs.Prelude.{◌≡◌, ◌≤◌};
 
-use super::readers::{Failing, cut_field};
+use super::readers::{Failing, cut_field, in_pieces};
 use hss::{
     HssPublic, HssSigView, Level, signature_len, verify, write_public, write_signature,
     write_signed_key,
@@ -12,8 +12,6 @@ use lmots::LmOts;
 use lms::{LmsPublic, LmsTree};
 use merkle::{TreeHash, root_from_path};
 use sha2::{Digest, Sha256};
-use std::io;
-use std::io::Read;
 use std::process::Abort;
 use typecodes::{
     Cause, LevelCount, Levels, LmsPair, LmsSecret, LmsType, OtsType, ReadFault, Refusal,
@@ -231,36 +229,6 @@ fn each_beginning_is_cut_in_a_field(rt: HostRuntime) {
                 == (fault(cut_field(&FIELDS, end), Cause::Truncated), 1),
             "{end}"
         );
-    }
-}
-
-// A message in pieces of this size. Its first read may be interrupted.
-#[derive(Drop)]
-struct Pieces<'a> {
-    left: &'a [u8],
-    size: usize,
-    is_interrupted: bool,
-}
-
-impl Read for Pieces<'_> {
-    fn read(&mut self, buffer: &mut [u8]) -> io::Result<usize> {
-        if self.is_interrupted {
-            self.is_interrupted = false;
-            return Err(io::Error::from(io::ErrorKind::Interrupted));
-        }
-        let n = self.size.min(buffer.len()).min(self.left.len());
-        let (piece, left) = self.left.split_at(n);
-        buffer[..n].copy_from_slice(piece);
-        self.left = left;
-        Ok(n)
-    }
-}
-
-const fn in_pieces(text: &[u8], size: usize) -> Pieces<'_> {
-    Pieces {
-        left: text,
-        size,
-        is_interrupted: false,
     }
 }
 

@@ -1,18 +1,13 @@
 //! Expected values are from Python's hashlib, by the formulas of RFC 8554, or from another program where a test says
 //! so.
 
+use super::values::{RISING, made_up_bytes};
 use lmots::LmOts;
 use sha2::{Digest, Sha256};
 use std::process::Abort;
 use typecodes::OtsType;
 use winternitz::lanes::LANES;
 use winternitz::{Step, climb};
-
-// 00, 01, .., 1f
-const RISING: [u8; 32] = [
-    0x00, 0x01, 0x02, 0x03, 0x04, 0x05, 0x06, 0x07, 0x08, 0x09, 0x0a, 0x0b, 0x0c, 0x0d, 0x0e, 0x0f,
-    0x10, 0x11, 0x12, 0x13, 0x14, 0x15, 0x16, 0x17, 0x18, 0x19, 0x1a, 0x1b, 0x1c, 0x1d, 0x1e, 0x1f,
-];
 
 // The key of leaf 5 under I = 00, 01, .., 0f.
 const KEY: LmOts = LmOts {
@@ -159,12 +154,9 @@ const MADE_UP: [(OtsType, [u8; 32], [u8; 32]); 5] = [
     ),
 ];
 
-// The public hash of a made-up signature: byte k of its values is k modulo 251.
+// The public hash of a made-up signature.
 fn hash_of_made_up(ots: OtsType, digest: &[u8; 32]) -> [u8; 32] {
-    let mut bytes = [0u8; 32 * 265];
-    for (k, byte) in bytes.iter_mut().enumerate() {
-        *byte = (k % 251) as u8;
-    }
+    let bytes = made_up_bytes();
     let (values, _) = bytes[..32 * usize::from(ots.chains())].as_chunks();
     KEY.hash_from_signature(ots, digest, values)
 }

@@ -1,7 +1,38 @@
-//! What the tests of LMS and HSS share: messages that fail, and where a signature is cut.
+//! What the tests of LMS, HSS and XMSS share: messages in pieces or that fail, and where a signature is cut.
 
 use std::io;
 use std::io::Read;
+
+/// A message in pieces of this size. Its first read may be interrupted.
+#[derive(Drop)]
+pub(crate) struct Pieces<'a> {
+    pub(crate) left: &'a [u8],
+    size: usize,
+    pub(crate) is_interrupted: bool,
+}
+
+impl Read for Pieces<'_> {
+    fn read(&mut self, buffer: &mut [u8]) -> io::Result<usize> {
+        if self.is_interrupted {
+            self.is_interrupted = false;
+            return Err(io::Error::from(io::ErrorKind::Interrupted));
+        }
+        let n = self.size.min(buffer.len()).min(self.left.len());
+        let (piece, left) = self.left.split_at(n);
+        buffer[..n].copy_from_slice(piece);
+        self.left = left;
+        Ok(n)
+    }
+}
+
+/// Such a message, whose reads aren't interrupted.
+pub(crate) const fn in_pieces(text: &[u8], size: usize) -> Pieces<'_> {
+    Pieces {
+        left: text,
+        size,
+        is_interrupted: false,
+    }
+}
 
 /// Gives this many zeros, and then fails.
 #[derive(Drop)]
