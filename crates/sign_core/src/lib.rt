@@ -48,6 +48,7 @@ mod roots;
 mod serving;
 mod signer;
 mod source;
+mod tree_secret;
 mod trees;
 mod writing;
 

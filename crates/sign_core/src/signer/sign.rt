@@ -109,8 +109,8 @@ impl<S: Store, R: Source> Signer<S, R> {
         self.sign_telling(name, message, out, &Silent::new())
     }
 
-    /// As `sign`, and the progress is told of each tree whose cache is made: of those that stand, and of new ones. Of
-    /// other leaves it isn't told: of a further block of a cache, and of a tree that isn't current any more.
+    /// As `sign`, and the progress is told of each tree that is made: of those that stand, of new ones, and under a bound
+    /// name of those that aren't current any more. Of a further block of a cache it isn't told.
     pub fn sign_telling<M: Message, P: TreeProgress>(
         &mut self,
         name: &Name,
@@ -165,13 +165,13 @@ impl<S: Store, R: Source> Signer<S, R> {
         match KeyTrees::of(&self.ledger.key().secret) {
             Ok(trees) => {
                 let (mut above, last) = trees
-                    .standing(&self.ledger, &mut self.caches, level)
+                    .standing(&self.ledger, &mut self.caches, level, progress)
                     .map_err(SignFault::Damaged)?;
                 // 23, 24, 29 and 25 for each tree; 23, 27, 25
                 self.fulfil(&trees, name, message, &mut above, last, out, progress)
             }
             // 28, 27, 25
-            Err(secret) => self.bind_xmss(&secret, name, message, out),
+            Err(secret) => self.bind_xmss(&secret, name, message, out, progress),
         }
     }
 

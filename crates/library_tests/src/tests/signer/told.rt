@@ -171,7 +171,7 @@ fn lives_telling<S: Store + Drop>(alloc: Global, store: S, row: &Row<'_>) -> Opt
     Some(works? && repeats?)
 }
 
-// A repeat makes no cache of a tree that is newer than its name, and tells of none that isn't current.
+// A repeat makes no cache of a tree that is newer than its name. It tells of the tree before it, which it makes again.
 const ROWS: [Row<'static>; 4] = [
     Row {
         spec: LMS,
@@ -187,7 +187,7 @@ const ROWS: [Row<'static>; 4] = [
         first: &[(0, 32), (1, 32)],
         retired: 32,
         served: &[(1, 32)],
-        repeated: &[(0, 32)],
+        repeated: &[(0, 32), (1, 32)],
     },
     Row {
         spec: "hss:H10/W1,H5/W1",
