@@ -1,29 +1,20 @@
 -- The caches of current trees, and which one is missing for a signature.
 use Rattle.std.specs.Prelude.{◌≡◌, ◌≢◌, ◌⊎◌, ℕ, ◌<◌, ◌≤◌, List, slice_index_or, Option, Some, None}
-use Rattle.typecodes.specs.Types.{height_of, xmss_height_of}
-use Rattle.merkle.specs.Cache.{View}
+use Rattle.merkle.specs.Tree.{Joins, Leaves}
 use Rattle.typecodes.specs.declared.secret.LmsSecret.{LmsSecret}
-use Rattle.lms.specs.declared.secret.LmsTree.{LmsTree}
-use Rattle.lms.specs.Secret.{joins_of as lms_joins_of, leaves_of as lms_leaves_of, secret_of as lms_secret_of}
 use Rattle.typecodes.specs.declared.secret.XmssSecret.{XmssSecret}
-use Rattle.xmss.specs.declared.secret.XmssTree.{XmssTree}
-use Rattle.xmss.specs.Secret.{joins_of as xmss_joins_of, leaves_of as xmss_leaves_of, secret_of as xmss_secret_of}
 use Rattle.state_file.specs.declared.record.Key.{Key}
 use Rattle.state_file.specs.declared.record.Record.{Record}
 use Rattle.state_file.specs.declared.record.Secret.TheVariants.{Xmss}
 use Rattle.sign_core.specs.Records.{current}
 use Rattle.sign_core.specs.Textbook.{Trees, secret_at, trees_of}
 
--- A cache of a secret's tree: its height, leaves and joins are the secret's.
-pub record IsLmsCache (secret : LmsSecret) (cache : View LmsTree) : Type 0 where
-  pub height : cache.height ≡ height_of secret.pair.tree
-  pub leaves : lms_leaves_of (lms_secret_of cache.tree) ≡ lms_leaves_of secret
-  pub joins : lms_joins_of (lms_secret_of cache.tree) ≡ lms_joins_of secret
-
-pub record IsXmssCache (secret : XmssSecret) (cache : View XmssTree) : Type 0 where
-  pub height : cache.height ≡ xmss_height_of secret.tree
-  pub leaves : xmss_leaves_of (xmss_secret_of cache.tree) ≡ xmss_leaves_of secret
-  pub joins : xmss_joins_of (xmss_secret_of cache.tree) ≡ xmss_joins_of secret
+-- A cache of a secret's tree has the tree's height, leaves and joins.
+pub record IsTreeCache (height : ℕ) (leaves : Leaves) (joins : Joins) (kept_height : ℕ) (kept_leaves : Leaves)
+    (kept_joins : Joins) : Type 0 where
+  pub same_height : kept_height ≡ height
+  pub same_leaves : kept_leaves ≡ leaves
+  pub same_joins : kept_joins ≡ joins
 
 -- A signer's caches as callers see them: for each level the secret of its cached LMS tree, and the secret of a cached
 -- XMSS tree.

@@ -2,6 +2,7 @@
 
 ghost use Rattle.std.specs.Prelude.{◌≡◌, ◌≢◌, ◌↔◌, ◌<◌, ◌≤◌, ◌^◌, ◌∷◌, List, Some, None, true, length, ℕ, IfErr, IfOk};
 ghost use Rattle.std.specs.Prelude.{IsSome, OnErr, OnOk, replicate};
+ghost use Rattle.merkle.specs.Tree.{path_of, root_of};
 ghost use Rattle.typecodes.specs.Types.{height_of, xmss_height_of};
 ghost use Rattle.state_file.specs.declared.record.Record.{Record as R};
 ghost use Rattle.state_file.specs.declared.record.Key.{Key as K};
@@ -13,120 +14,127 @@ use crate::fault::SignFault;
 use crate::links::SigningTree;
 use crate::progress::{TreeLeaves, TreeProgress};
 use crate::roots::root_and_path;
-use lms::LmsTree;
-use merkle::{OutOfMemory, PathCache, Progress};
+use crate::tree_secret::TreeSecret;
+use merkle::{OutOfMemory, PathCache, Told};
 use std::alloc::Global;
 use std::marker::Model;
 use std::mem;
 use typecodes::{LmsSecret, XmssSecret};
-use xmss::XmssTree;
 
 #[derive(Drop)]
-pub(crate) struct LmsCache {
-    secret: LmsSecret,
-    cache: PathCache<LmsTree>,
+pub(crate) struct TreeCache<X: TreeSecret> {
+    secret: X,
+    cache: PathCache<X::Tree>,
 }
 
-impl Model for LmsCache {
-    ghost use Rattle.typecodes.specs.declared.secret.LmsSecret.{LmsSecret as Secret};
-    ghost use Rattle.sign_core.specs.Caches.{IsLmsCache};
+impl<X: TreeSecret> Model for TreeCache<X> {
+    ghost use Rattle.sign_core.specs.Caches.{IsTreeCache};
 
-    ghost Value = { Secret };
+    ghost Value = { X };
 
     ghost view = { λ s. s.secret };
 
-    ghost invariant = { λ s. IsLmsCache s.secret s.cache };
+    ghost invariant = { λ s. IsTreeCache (X.height_in s.secret) (X.leaves_in s.secret) (X.joins_in s.secret)
+        s.cache.height (X.Tree.leaf_of s.cache.tree) (X.Tree.join_of s.cache.tree) };
 }
 
-impl LmsCache {
-    ghost use Rattle.sign_core.specs.inner.Links.{IsMade};
-
-    // Makes each leaf of the tree, once, and keeps the block of this leaf.
-    fn new<P: Progress + Drop>(
+impl<X: TreeSecret> TreeCache<X> {
+    // Makes each leaf of the tree, once. Keeps the block of `leaf`, or the last one if the tree has no such leaf.
+    fn new<P: TreeProgress>(
         alloc: Global,
-        secret: LmsSecret,
+        level: u8,
+        secret: X,
         leaf: u32,
-        progress: P,
+        progress: &P,
     ) -> Result<Self, OutOfMemory>
-        requires { leaf < 2 ^ height_of secret.pair.tree }
         ensures { IfOk result (λ cache. cache ≡ secret) }
     {
-        let height = secret.pair.tree.height();
-        let tree = LmsTree::new(secret);
-        let cache = PathCache::for_leaf_telling(alloc, tree, height, leaf, progress)?;
-        Ok(LmsCache { secret, cache })
-    }
-
-    // The tree, ready to sign by a leaf.
-    fn signing_tree(&mut self, leaf: u32) -> SigningTree
-        requires { leaf < 2 ^ height_of self.old.pair.tree }
-        ensures secret { result.secret ≡ self.old }
-        ensures leaf { result.leaf ≡ leaf }
-        ensures made { IsMade result }
-        ensures same { self.new ≡ self.old }
-    {
-        let secret = self.secret;
-        let mut path = [[0; 32]; 25];
-        let height = usize::from(secret.pair.tree.height());
-        self.cache.path_at(leaf, &mut path[..height]);
-        let root = self.cache.root();
-        SigningTree {
-            secret,
-            root,
-            leaf,
-            path,
-        }
-    }
-}
-
-#[derive(Drop)]
-pub(crate) struct XmssCache {
-    secret: XmssSecret,
-    cache: PathCache<XmssTree>,
-}
-
-impl Model for XmssCache {
-    ghost use Rattle.typecodes.specs.declared.secret.XmssSecret.{XmssSecret as Secret};
-    ghost use Rattle.sign_core.specs.Caches.{IsXmssCache};
-
-    ghost Value = { Secret };
-
-    ghost view = { λ s. s.secret };
-
-    ghost invariant = { λ s. IsXmssCache s.secret s.cache };
-}
-
-impl XmssCache {
-    ghost use Rattle.xmss.specs.Secret.{path_in, root_in};
-
-    // Makes each leaf of the tree, once, and keeps the block of this leaf.
-    fn new<P: Progress + Drop>(
-        alloc: Global,
-        secret: XmssSecret,
-        leaf: u32,
-        progress: P,
-    ) -> Result<Self, OutOfMemory>
-        requires { leaf < 2 ^ xmss_height_of secret.tree }
-        ensures { IfOk result (λ cache. cache ≡ secret) }
-    {
-        let height = secret.tree.height();
-        let tree = XmssTree::new(secret);
-        let cache = PathCache::for_leaf_telling(alloc, tree, height, leaf, progress)?;
-        Ok(XmssCache { secret, cache })
+        let height = secret.height();
+        let leaf = leaf_within(height, leaf);
+        let leaves = TreeLeaves::begin(progress, level, height);
+        let cache = PathCache::for_leaf_telling(alloc, secret.tree(), height, leaf, leaves)?;
+        Ok(TreeCache { secret, cache })
     }
 
     // Writes the authentication path of a leaf, and answers the root.
-    fn root(&mut self, leaf: u32, into: &mut [[u8; 32]]) -> [u8; 32]
-        requires inside { leaf < 2 ^ xmss_height_of self.old.tree }
-        requires room { length into.old ≡ xmss_height_of self.old.tree }
-        ensures path { into.new ≡ path_in self.old leaf }
-        ensures length { length into.new ≡ xmss_height_of self.old.tree }
-        ensures root { result ≡ root_in self.old }
+    fn root_and_path(&mut self, leaf: u32, into: &mut [[u8; 32]]) -> [u8; 32]
+        requires inside { leaf < 2 ^ X.height_in self.old }
+        requires room { length into.old ≡ X.height_in self.old }
+        ensures path { into.new
+            ≡ path_of (X.leaves_in self.old) (X.joins_in self.old) (X.height_in self.old) leaf }
+        ensures length { length into.new ≡ X.height_in self.old }
+        ensures root { result ≡ root_of (X.leaves_in self.old) (X.joins_in self.old) (X.height_in self.old) }
         ensures same { self.new ≡ self.old }
     {
         self.cache.path_at(leaf, into);
         self.cache.root()
     }
+}
+
+fn has<X: TreeSecret>(kept: &Option<TreeCache<X>>, secret: &X) -> bool
+    ensures { (result ≡ true) ↔ (kept.now ≡ Some secret.now) }
+{
+    match kept {
+        Some(cache) => cache.secret.is_same(secret),
+        None => false,
+    }
+}
+
+// Makes the cache of a secret's tree, which is to sign by this leaf, unless it is there.
+fn keep<X: TreeSecret, P: TreeProgress>(
+    kept: &mut Option<TreeCache<X>>,
+    alloc: Global,
+    level: u8,
+    secret: &X,
+    leaf: u32,
+    progress: &P,
+) -> Result<(), OutOfMemory>
+    ensures there { OnOk result (kept.new ≡ Some secret.now) }
+    ensures lacking { OnErr result (kept.old ≢ Some secret.now) }
+{
+    if has(kept, secret) {
+        return Ok(());
+    }
+    *kept = None;
+    *kept = Some(TreeCache::new(alloc, level, *secret, leaf, progress)?);
+    Ok(())
+}
+
+// How many leaves the cache has made, if it is the secret's.
+fn leaves_made<X: TreeSecret>(kept: &Option<TreeCache<X>>, secret: &X) -> Option<u64>
+    ensures { IsSome result ↔ (kept.now ≡ Some secret.now) }
+{
+    match kept {
+        Some(cache) if cache.secret.is_same(secret) => Some(cache.cache.leaves_made()),
+        _ => None,
+    }
+}
+
+// Writes the authentication path of a leaf, and answers the root: from the cache, if that is the secret's. Else each
+// leaf is made once, and `progress` is told of a tree of this level.
+fn kept_root_and_path<X: TreeSecret, P: TreeProgress>(
+    kept: &mut Option<TreeCache<X>>,
+    level: u8,
+    secret: X,
+    leaf: u32,
+    into: &mut [[u8; 32]],
+    progress: &P,
+) -> [u8; 32]
+    requires inside { leaf < 2 ^ X.height_in secret }
+    requires room { length into.old ≡ X.height_in secret }
+    ensures path { into.new ≡ path_of (X.leaves_in secret) (X.joins_in secret) (X.height_in secret) leaf }
+    ensures length { length into.new ≡ X.height_in secret }
+    ensures root { result ≡ root_of (X.leaves_in secret) (X.joins_in secret) (X.height_in secret) }
+    ensures same { kept.new ≡ kept.old }
+{
+    if let Some(cache) = kept {
+        if cache.secret.is_same(&secret) {
+            return cache.root_and_path(leaf, into);
+        }
+    }
+    let height = secret.height();
+    let leaves = TreeLeaves::begin(progress, level, height);
+    root_and_path(&mut Told::new(secret.tree(), leaves), height, leaf, into)
 }
 
 // The leaf, or the last one of a tree of this height, if it has no such leaf.
@@ -142,8 +150,8 @@ fn leaf_within(height: u8, leaf: u32) -> u32
 #[derive(Drop)]
 pub(crate) struct Caches {
     alloc: Global,
-    levels: [Option<LmsCache>; 8],
-    xmss: Option<XmssCache>,
+    levels: [Option<TreeCache<LmsSecret>>; 8],
+    xmss: Option<TreeCache<XmssSecret>>,
 }
 
 impl Model for Caches {
@@ -181,16 +189,6 @@ impl Caches {
         mem::replace(self, none)
     }
 
-    fn has(&self, level: u8, secret: &LmsSecret) -> bool
-        requires { level < 8 }
-        ensures { (result ≡ true) ↔ HasLevel self.now level secret.now }
-    {
-        match &self.levels[usize::from(level)] {
-            Some(cache) => cache.secret == *secret,
-            None => false,
-        }
-    }
-
     // Makes a level's cache of a secret's tree, which is to sign by this leaf, unless it is there.
     pub(crate) fn keep<P: TreeProgress>(
         &mut self,
@@ -205,51 +203,40 @@ impl Caches {
         ensures others { (k : ℕ) → k ≢ level → cache_at self.new.levels k ≡ cache_at self.old.levels k }
         ensures xmss { self.new.xmss ≡ self.old.xmss }
     {
-        if self.has(level, secret) {
-            return Ok(());
-        }
-        self.levels[usize::from(level)] = None;
-        let height = secret.pair.tree.height();
-        let leaf = leaf_within(height, leaf);
-        let leaves = TreeLeaves::begin(progress, level, height);
-        let cache = LmsCache::new(self.alloc, *secret, leaf, leaves)?;
-        self.levels[usize::from(level)] = Some(cache);
-        Ok(())
+        let alloc = self.alloc;
+        let kept = &mut self.levels[usize::from(level)];
+        keep(kept, alloc, level, secret, leaf, progress)
     }
 
-    /// A new tree of a level with its cache, ready to sign by its first leaf.
+    /// Replaces a level's cache by a new tree's, and answers the tree, ready to sign by its first leaf.
     pub(crate) fn begin<P: TreeProgress>(
-        &self,
+        &mut self,
         level: u8,
         secret: LmsSecret,
         progress: &P,
-    ) -> Result<(LmsCache, SigningTree), SignFault>
+    ) -> Result<SigningTree, SignFault>
+        requires { level < 8 }
         ensures fault { IfErr result (λ fault. fault ≡ SignFault.OutOfMemory) }
-        ensures cache { IfOk result (λ begun. begun.0 ≡ secret) }
-        ensures secret { IfOk result (λ begun. begun.1.secret ≡ secret) }
-        ensures leaf { IfOk result (λ begun. begun.1.leaf ≡ 0) }
-        ensures made { IfOk result (λ begun. IsMade begun.1) }
+        ensures stays { OnErr result (self.new ≡ self.old) }
+        ensures secret { IfOk result (λ begun. begun.secret ≡ secret) }
+        ensures leaf { IfOk result (λ begun. begun.leaf ≡ 0) }
+        ensures made { IfOk result (λ begun. IsMade begun) }
     {
-        let leaves = TreeLeaves::begin(progress, level, secret.pair.tree.height());
-        let mut cache = LmsCache::new(self.alloc, secret, 0, leaves).map_err(
+        let cache = TreeCache::new(self.alloc, level, secret, 0, progress).map_err(
             |_| SignFault::OutOfMemory,
         )?;
-        let made = cache.signing_tree(0);
-        Ok((cache, made))
-    }
-
-    /// Replaces a level's cache by its new tree's.
-    pub(crate) fn replace(&mut self, level: u8, cache: LmsCache)
-        requires { level < 8 }
-        ensures there { HasLevel self.new level cache }
-        ensures others { (k : ℕ) → k ≢ level → cache_at self.new.levels k ≡ cache_at self.old.levels k }
-        ensures xmss { self.new.xmss ≡ self.old.xmss }
-    {
         self.levels[usize::from(level)] = Some(cache);
+        Ok(self.signing_tree(level, secret, 0, progress))
     }
 
     /// The tree of a secret, ready to sign by a leaf: from the level's cache, if that is the secret's, else made anew.
-    pub(crate) fn signing_tree(&mut self, level: u8, secret: LmsSecret, leaf: u32) -> SigningTree
+    pub(crate) fn signing_tree<P: TreeProgress>(
+        &mut self,
+        level: u8,
+        secret: LmsSecret,
+        leaf: u32,
+        progress: &P,
+    ) -> SigningTree
         requires few { level < 8 }
         requires inside { leaf < 2 ^ height_of secret.pair.tree }
         ensures secret { result.secret ≡ secret }
@@ -257,12 +244,15 @@ impl Caches {
         ensures made { IsMade result }
         ensures same { self.new ≡ self.old }
     {
-        if !self.has(level, &secret) {
-            return SigningTree::new(secret, leaf);
-        }
-        match &mut self.levels[usize::from(level)] {
-            Some(cache) => cache.signing_tree(leaf),
-            None => SigningTree::new(secret, leaf),
+        let mut path = [[0; 32]; 25];
+        let nodes = &mut path[..usize::from(secret.height())];
+        let kept = &mut self.levels[usize::from(level)];
+        let root = kept_root_and_path(kept, level, secret, leaf, nodes, progress);
+        SigningTree {
+            secret,
+            root,
+            leaf,
+            path,
         }
     }
 
@@ -271,29 +261,14 @@ impl Caches {
         requires { level < 8 }
         ensures { IsSome result ↔ HasLevel self.now level secret.now }
     {
-        match &self.levels[usize::from(level)] {
-            Some(kept) if kept.secret == *secret => Some(kept.cache.leaves_made()),
-            _ => None,
-        }
+        leaves_made(&self.levels[usize::from(level)], secret)
     }
 
     /// How many leaves the XMSS cache has made, if it is the secret's.
     pub(crate) fn xmss_leaves(&self, secret: &XmssSecret) -> Option<u64>
         ensures { IsSome result ↔ (self.now.xmss ≡ Some secret.now) }
     {
-        match &self.xmss {
-            Some(kept) if kept.secret == *secret => Some(kept.cache.leaves_made()),
-            _ => None,
-        }
-    }
-
-    fn has_xmss(&self, secret: &XmssSecret) -> bool
-        ensures { (result ≡ true) ↔ (self.now.xmss ≡ Some secret.now) }
-    {
-        match &self.xmss {
-            Some(cache) => cache.secret == *secret,
-            None => false,
-        }
+        leaves_made(&self.xmss, secret)
     }
 
     /// Makes the cache of a secret's XMSS tree, which is to sign by this leaf, unless it is there.
@@ -307,44 +282,18 @@ impl Caches {
         ensures lacking { OnErr result (self.old.xmss ≢ Some secret.now) }
         ensures levels { self.new.levels ≡ self.old.levels }
     {
-        if self.has_xmss(secret) {
-            return Ok(());
-        }
-        let height = secret.tree.height();
-        let leaf = leaf_within(height, leaf);
-        let leaves = TreeLeaves::begin(progress, 0, height);
-        self.xmss = Some(XmssCache::new(self.alloc, *secret, leaf, leaves)?);
-        Ok(())
-    }
-
-    // Writes the authentication path of an XMSS leaf, and answers the root: from the cache, if that is the secret's,
-    // else made anew.
-    fn xmss_root(&mut self, secret: XmssSecret, leaf: u32, into: &mut [[u8; 32]]) -> [u8; 32]
-        requires inside { leaf < 2 ^ xmss_height_of secret.tree }
-        requires room { length into.old ≡ xmss_height_of secret.tree }
-        ensures path { into.new ≡ xmss_path_in secret leaf }
-        ensures length { length into.new ≡ xmss_height_of secret.tree }
-        ensures root { result ≡ xmss_root_in secret }
-        ensures same { self.new ≡ self.old }
-    {
-        let height = secret.tree.height();
-        if !self.has_xmss(&secret) {
-            return root_and_path(&mut XmssTree::new(secret), height, leaf, into);
-        }
-        match &mut self.xmss {
-            Some(cache) => cache.root(leaf, into),
-            None => root_and_path(&mut XmssTree::new(secret), height, leaf, into),
-        }
+        keep(&mut self.xmss, self.alloc, 0, secret, leaf, progress)
     }
 
     /// Writes the authentication path of an XMSS leaf. Err(0), record 0 is damaged, where the recorded root isn't the
     /// tree's.
-    pub(crate) fn xmss_link(
+    pub(crate) fn xmss_link<P: TreeProgress>(
         &mut self,
         secret: XmssSecret,
         root: &[u8; 32],
         leaf: u32,
         into: &mut [[u8; 32]],
+        progress: &P,
     ) -> Result<(), u32>
         requires inside { leaf < 2 ^ xmss_height_of secret.tree }
         requires room { length into.old ≡ xmss_height_of secret.tree }
@@ -356,7 +305,7 @@ impl Caches {
             → IfErr result (λ place. damaged_in key 0 (KeyRecord key ∷ rest) 0 ≡ Some place) }
         ensures same { self.new ≡ self.old }
     {
-        let made = self.xmss_root(secret, leaf, into);
+        let made = kept_root_and_path(&mut self.xmss, 0, secret, leaf, into, progress);
         if *root == made { Ok(()) } else { Err(0) }
     }
 }

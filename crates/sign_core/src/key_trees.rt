@@ -113,13 +113,14 @@ impl KeyTrees {
     }
 
     // The tree at a place, ready to sign by a leaf; or the place, if its record isn't sound.
-    fn sound_tree(
+    fn sound_tree<P: TreeProgress>(
         &self,
         ledger: &Ledger,
         caches: &mut Caches,
         level: u8,
         place: u32,
         leaf: u32,
+        progress: &P,
     ) -> Result<SigningTree, u32>
         requires trees { AreTreesOf self.now ledger.now.key }
         requires stands { IsTreeAt ledger.now.records level place }
@@ -132,7 +133,7 @@ impl KeyTrees {
         ensures tree { IfOk result (IsTreeBy (secret_at (trees_in self.now) ledger.now.records place) leaf) }
         ensures caches { caches.new ≡ caches.old }
     {
-        let tree = caches.signing_tree(level, self.secret_at(ledger, place), leaf);
+        let tree = caches.signing_tree(level, self.secret_at(ledger, place), leaf, progress);
         if !self.is_sound(ledger, level, place, &tree) {
             return Err(place);
         }
@@ -141,7 +142,7 @@ impl KeyTrees {
 
     /// Adds the trees above the tree at a place, from the Key's down, and answers this tree, ready to sign by a leaf.
     /// Or answers the place of the chain's first record that isn't sound.
-    pub(crate) fn chain_to(
+    pub(crate) fn chain_to<P: TreeProgress>(
         &self,
         ledger: &Ledger,
         caches: &mut Caches,
@@ -149,6 +150,7 @@ impl KeyTrees {
         place: u32,
         leaf: u32,
         above: &mut ArrayVec<Link, 8>,
+        progress: &P,
     ) -> Result<SigningTree, u32>
         requires legal { IsLegal ledger.now.records }
         requires keyed { key_in ledger.now.records ≡ Some ledger.now.key }
@@ -167,24 +169,33 @@ impl KeyTrees {
         ensures caches { caches.new ≡ caches.old }
     {
         let Some(made) = ledger.made(place) else {
-            return self.sound_tree(ledger, caches, level, place, leaf);
+            return self.sound_tree(ledger, caches, level, place, leaf, progress);
         };
         let extend = made.extend;
         let (randomizer, digest) = (extend.randomizer, extend.digest);
         let parent_leaf = extend.parent_leaf;
-        let parent = self.chain_to(ledger, caches, level - 1, made.parent, parent_leaf, above)?;
+        let parent = self.chain_to(
+            ledger,
+            caches,
+            level - 1,
+            made.parent,
+            parent_leaf,
+            above,
+            progress,
+        )?;
         above.push(parent.signing(randomizer, digest));
-        self.sound_tree(ledger, caches, level, place, leaf)
+        self.sound_tree(ledger, caches, level, place, leaf, progress)
     }
 
     /// The chain of the current trees down to a level with a free leaf: the trees above, and the level's own, ready to
     /// sign by its next leaf. Or the place of the chain's first record that isn't sound.
     #[inline(never)]
-    pub(crate) fn standing(
+    pub(crate) fn standing<P: TreeProgress>(
         &self,
         ledger: &Ledger,
         caches: &mut Caches,
         level: u8,
+        progress: &P,
     ) -> Result<(ArrayVec<Link, 8>, SigningTree), u32>
         requires legal { IsLegal ledger.now.records }
         requires keyed { key_in ledger.now.records ≡ Some ledger.now.key }
@@ -206,7 +217,7 @@ impl KeyTrees {
             None => (0, 0),
         };
         let mut above = ArrayVec::new();
-        let last = self.chain_to(ledger, caches, level, place, leaf, &mut above)?;
+        let last = self.chain_to(ledger, caches, level, place, leaf, &mut above, progress)?;
         Ok((above, last))
     }
 }

@@ -49,6 +49,7 @@ mod roots;
 mod serving;
 mod signer;
 mod source;
+mod tree_secret;
 mod trees;
 mod writing;
 

@@ -5,10 +5,9 @@ ghost use Rattle.typecodes.specs.Types.{height_of};
 ghost use Rattle.lmots.specs.Key.{message_digest_of};
 ghost use Rattle.lms.specs.Writing.{public_bytes};
 
-use crate::roots::root_and_path;
 use hss::Level;
 use lmots::LmOts;
-use lms::{LmsPublic, LmsTree, write_public};
+use lms::{LmsPublic, write_public};
 use state_file::Extend;
 use typecodes::{LmsPair, LmsSecret, LmsType, OtsType};
 
@@ -34,25 +33,6 @@ pub(crate) struct Link {
 impl SigningTree {
     ghost use Rattle.lms.specs.Secret.{public_of};
     ghost use Rattle.sign_core.specs.inner.Links.{IsMade, says_key};
-
-    /// The tree of a secret, ready to sign by a leaf. Each leaf is made once.
-    pub(crate) fn new(secret: LmsSecret, leaf: u32) -> Self
-        requires { leaf < 2 ^ height_of secret.pair.tree }
-        ensures secret { result.secret ≡ secret }
-        ensures leaf { result.leaf ≡ leaf }
-        ensures made { IsMade result }
-    {
-        let mut path = [[0; 32]; 25];
-        let height = secret.pair.tree.height();
-        let nodes = &mut path[..usize::from(height)];
-        let root = root_and_path(&mut LmsTree::new(secret), height, leaf, nodes);
-        SigningTree {
-            secret,
-            root,
-            leaf,
-            path,
-        }
-    }
 
     /// The tree as a link: its leaf signs a digest with this C.
     pub(crate) fn signing(self, randomizer: [u8; 32], digest: [u8; 32]) -> Link

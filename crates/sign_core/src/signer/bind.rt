@@ -128,11 +128,10 @@ impl<S: Store, R: Source> Signer<S, R> {
             identifier,
             seed,
         };
-        let (cache, made) = self.caches.begin(level, secret, progress)?;
+        let made = self.caches.begin(level, secret, progress)?;
         let root = made.root;
         let leaf = last.leaf;
         let digest = last.digest_of(&randomizer, &made.public());
-        self.caches.replace(level, cache);
         self.add(Record::Extend(Extend {
             level,
             parent_leaf: leaf,
@@ -190,12 +189,13 @@ impl<S: Store, R: Source> Signer<S, R> {
 
     // Binds a name to the next leaf of an XMSS key, whose root is checked first, and writes the signature.
     #[inline(never)]
-    pub(super) fn bind_xmss<M: Message>(
+    pub(super) fn bind_xmss<M: Message, P: TreeProgress>(
         &mut self,
         secret: &XmssSecret,
         name: &Name,
         message: &mut M,
         out: &mut [u8],
+        progress: &P,
     ) -> Result<(), SignFault>
         requires can { CanBind (S.most self.old.store) 1 name.now (length out.old) self.old }
         requires key { UnderKey self.old.records (IsXmssKey secret.now) }
@@ -208,7 +208,7 @@ impl<S: Store, R: Source> Signer<S, R> {
         let mut nodes = [[0; 32]; 20];
         let path = &mut nodes[..usize::from(secret.tree.height())];
         self.caches
-            .xmss_link(*secret, &root, leaf, path)
+            .xmss_link(*secret, &root, leaf, path, progress)
             .map_err(SignFault::Damaged)?;
         let randomizer = xmss::randomizer(secret, leaf);
         let digest = read_xmss_digest(&randomizer, &root, leaf, message)?;

@@ -123,7 +123,15 @@ impl<S: Store, R: Source> Signer<S, R> {
         let bottom = secret.levels() - 1;
         let mut links = ArrayVec::new();
         let last = trees
-            .chain_to(&self.ledger, caches, bottom, tree, leaf, &mut links)
+            .chain_to(
+                &self.ledger,
+                caches,
+                bottom,
+                tree,
+                leaf,
+                &mut links,
+                progress,
+            )
             .map_err(SignFault::Damaged)?;
         links.push(last.signing(randomizer, digest));
         write_chain(secret, &links, out);
@@ -158,7 +166,7 @@ impl<S: Store, R: Source> Signer<S, R> {
         let path = &mut nodes[..usize::from(secret.tree.height())];
         cache_xmss(caches, secret, leaf, progress)?;
         caches
-            .xmss_link(*secret, &root, leaf, path)
+            .xmss_link(*secret, &root, leaf, path, progress)
             .map_err(SignFault::Damaged)?;
         xmss::write_signature(secret, leaf, &randomizer, &digest, path, out);
         Ok(())

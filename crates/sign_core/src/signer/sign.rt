@@ -107,8 +107,8 @@ impl<S: Store, R: Source> Signer<S, R> {
         self.sign_telling(name, message, out, &Silent::new())
     }
 
-    /// As `sign`, telling the progress of each tree whose cache is made, standing or new. It isn't told of other
-    /// leaves: a further block of a cache, or a tree that isn't current any more.
+    /// As `sign`, telling the progress of each tree that is made: current or new, or for a bound name an earlier one. It
+    /// isn't told of a further block of a cache.
     pub fn sign_telling<M: Message, P: TreeProgress>(
         &mut self,
         name: &Name,
@@ -163,13 +163,13 @@ impl<S: Store, R: Source> Signer<S, R> {
         match KeyTrees::of(&self.ledger.key().secret) {
             Ok(trees) => {
                 let (mut above, last) = trees
-                    .standing(&self.ledger, &mut self.caches, level)
+                    .standing(&self.ledger, &mut self.caches, level, progress)
                     .map_err(SignFault::Damaged)?;
                 // 23, 24, 29 and 25 for each tree; 23, 27, 25
                 self.fulfil(&trees, name, message, &mut above, last, out, progress)
             }
             // 28, 27, 25
-            Err(secret) => self.bind_xmss(&secret, name, message, out),
+            Err(secret) => self.bind_xmss(&secret, name, message, out, progress),
         }
     }
 

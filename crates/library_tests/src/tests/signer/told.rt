@@ -167,7 +167,7 @@ fn lives_telling<S: Store + Drop>(alloc: Global, store: S, row: &Row<'_>) -> Opt
     Some(works? && repeats?)
 }
 
-// A repeat makes no cache of a tree newer than its name, and tells of current trees only.
+// A repeat makes no cache of a tree newer than its name. It tells of its own tree, which it makes again.
 const ROWS: [Row<'static>; 4] = [
     Row {
         spec: LMS,
@@ -183,7 +183,7 @@ const ROWS: [Row<'static>; 4] = [
         first: &[(0, 32), (1, 32)],
         retired: 32,
         served: &[(1, 32)],
-        repeated: &[(0, 32)],
+        repeated: &[(0, 32), (1, 32)],
     },
     Row {
         spec: "hss:H10/W1,H5/W1",

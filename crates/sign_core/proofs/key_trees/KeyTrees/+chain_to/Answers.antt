@@ -8,23 +8,23 @@ use Rattle.sign_core.proofs.LinkParts.{more_made, on_ok}
 use Rattle.sign_core.proofs.key_trees.KeyTrees.+chain_to.Goals as goal
 
 pub overflow_sub-level : goal.overflow_sub-level
-overflow_sub-level t c =
+overflow_sub-level g t c =
     let a = c.args in
     let r = c.requires in
     (is_under a.ledger.now.key (trees_in a.self.now) a.ledger.now.records a.level a.place c.in-Some.made r.legal r.keyed r.trees r.stands
     (sym c.made.ensures ∙ c.in-Some.is)).some
 
 pub chain_to-requires : goal.chain_to-requires
-chain_to-requires t c =
+chain_to-requires g t c κs within =
     let a = c.args in
     let r = c.requires in
     let below : IsUnder (trees_in a.self.now) a.ledger.now.records a.level a.place c.in-Some.made =
     is_under a.ledger.now.key (trees_in a.self.now) a.ledger.now.records a.level a.place c.in-Some.made r.legal r.keyed r.trees r.stands
     (sym c.made.ensures ∙ c.in-Some.is) in
-    (omega (arith, c.decreases, below.some), (r.legal, (r.keyed, (r.trees, (below.parent, (below.inside, omega (arith, r.room, below.some)))))))
+    (omega (arith, c.decreases, below.some), (within, (r.legal, (r.keyed, (r.trees, (below.parent, (below.inside, omega (arith, r.room, below.some))))))))
 
 pub returns-in_err-parent-clause-damaged : goal.returns-in_err-parent-clause-damaged
-returns-in_err-parent-clause-damaged t c =
+returns-in_err-parent-clause-damaged g t c =
     let a = c.args in
     let r = c.requires in
     let below : IsUnder (trees_in a.self.now) a.ledger.now.records a.level a.place c.in-Some.made =
@@ -36,7 +36,7 @@ returns-in_err-parent-clause-damaged t c =
     search (rules, at)
 
 pub push-requires : goal.push-requires
-push-requires t c =
+push-requires g t c =
     let a = c.args in
     let r = c.requires in
     let below : IsUnder (trees_in a.self.now) a.ledger.now.records a.level a.place c.in-Some.made =
@@ -45,7 +45,7 @@ push-requires t c =
     (omega arith, omega (arith, c.in_ok-parent.ensures.len, r.room, below.some))
 
 pub returns-clause-sound : goal.returns-clause-sound
-returns-clause-sound t c =
+returns-clause-sound g t c =
     let a = c.args in
     let r = c.requires in
     let below : IsUnder (trees_in a.self.now) a.ledger.now.records a.level a.place c.in-Some.made =
@@ -56,7 +56,7 @@ returns-clause-sound t c =
     c.sound_tree-2.ensures.sound
 
 pub returns-clause-damaged : goal.returns-clause-damaged
-returns-clause-damaged t c =
+returns-clause-damaged g t c =
     let a = c.args in
     let r = c.requires in
     let below : IsUnder (trees_in a.self.now) a.ledger.now.records a.level a.place c.in-Some.made =
@@ -67,7 +67,7 @@ returns-clause-damaged t c =
     c.sound_tree-2.ensures.damaged
 
 pub returns-clause-signings : goal.returns-clause-signings
-returns-clause-signings t c =
+returns-clause-signings g t c =
     let a = c.args in
     let r = c.requires in
     let below : IsUnder (trees_in a.self.now) a.ledger.now.records a.level a.place c.in-Some.made =
@@ -87,7 +87,7 @@ returns-clause-signings t c =
     (signings_of pushed) below c.in_ok-parent.ensures.signings signs) c.sound_tree-2.ensures.sound
 
 pub returns-clause-len : goal.returns-clause-len
-returns-clause-len t c =
+returns-clause-len g t c =
     let a = c.args in
     let r = c.requires in
     let below : IsUnder (trees_in a.self.now) a.ledger.now.records a.level a.place c.in-Some.made =
@@ -98,7 +98,7 @@ returns-clause-len t c =
     c.sound_tree-2.ensures.sound
 
 pub returns-clause-made : goal.returns-clause-made
-returns-clause-made t c = λ before.
+returns-clause-made g t c = λ before.
     let made = more_made c.chain_to.new.above.items c.signing.result (c.in_ok-parent.ensures.made before)
     (subst IsMade (sym c.signing.ensures.tree) c.in_ok-parent.ensures.tree.made) in
     on_ok c.sound_tree-2.result (λ sound. subst AreMade (sym c.push.ensures.items) made) c.sound_tree-2.ensures.sound

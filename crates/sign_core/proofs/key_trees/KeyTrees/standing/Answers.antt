@@ -7,7 +7,7 @@ use Rattle.sign_core.proofs.key_trees.KeyTrees.standing.Goals as goal
 use Rattle.sign_core.proofs.key_trees.KeyTrees.standing.Goals.{in-Some, in-None}
 
 pub chain_to-requires-clause-stands : goal.chain_to-requires-clause-stands
-chain_to-requires-clause-stands c =
+chain_to-requires-clause-stands g c =
     let l = c.args.ledger.now in
     let has : HasFree l.key.secret l.records c.args.level c.match-current.place.0 c.match-current.place.1 = elim c.match-current.branch [
       | in-Some w ↦ subst (λ p. HasFree l.key.secret l.records c.args.level p.0 p.1) (sym w.place-is)
@@ -17,7 +17,7 @@ chain_to-requires-clause-stands c =
     tree_stands l.records c.args.level c.match-current.place.0 has.current_is
 
 pub chain_to-requires-clause-inside : goal.chain_to-requires-clause-inside
-chain_to-requires-clause-inside c =
+chain_to-requires-clause-inside g c =
     let l = c.args.ledger.now in
     let r = c.requires in
     let has : HasFree l.key.secret l.records c.args.level c.match-current.place.0 c.match-current.place.1 = elim c.match-current.branch [
@@ -28,7 +28,7 @@ chain_to-requires-clause-inside c =
     leaf_inside l.key (trees_in c.args.self.now) l.records c.args.level c.match-current.place.0 c.match-current.place.1 r.keyed r.trees r.level has
 
 pub returns-clause-stands : goal.returns-clause-stands
-returns-clause-stands c =
+returns-clause-stands g c =
     let l = c.args.ledger.now in
     let r = c.requires in
     let e = c.in_ok-last.ensures in
