@@ -201,8 +201,8 @@ fn signatures_of_others_are_verified(rt: HostRuntime) {
     );
 }
 
-// The fields of a signature, as runs of fields of one size: offset of the run, and the size. These are the index; and r,
-// the values and the nodes (4.1.8).
+// The fields of a signature, as runs of fields of one size: a run's offset, and the size. The first is the index; the
+// others are r, the values and the nodes (4.1.8).
 const FIELDS: [(u32, u32); 2] = [(0, 4), (4, 32)];
 
 #[test]

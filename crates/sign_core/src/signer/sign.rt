@@ -107,8 +107,8 @@ impl<S: Store, R: Source> Signer<S, R> {
         self.sign_telling(name, message, out, &Silent::new())
     }
 
-    /// As `sign`, telling the progress of each tree that is made: current or new, or for a bound name an earlier one. It
-    /// isn't told of a further block of a cache.
+    /// As `sign`, telling the progress of each tree that is made: a current or new one, or for a bound name an earlier
+    /// one. It isn't told of a further block of a cache.
     pub fn sign_telling<M: Message, P: TreeProgress>(
         &mut self,
         name: &Name,
