@@ -11,7 +11,11 @@ use Rattle.state_file.specs.declared.record.Extend.{Extend}
 use Rattle.state_file.specs.declared.record.Key.{Key}
 use Rattle.state_file.specs.declared.record.Record.{Record}
 use Rattle.state_file.specs.declared.record.Record.TheVariants.{Extend as ExtendRecord}
+use Rattle.state_file.specs.declared.record.Secret.{Secret}
+use Rattle.state_file.specs.declared.record.Secret.TheVariants.{Xmss}
 use Rattle.sign_core.specs.declared.key_trees.KeyTrees.{KeyTrees}
+use Rattle.sign_core.specs.declared.key_trees.SecretTrees.{SecretTrees}
+use Rattle.sign_core.specs.declared.key_trees.SecretTrees.TheVariants.{Chain, Xmss as XmssTree}
 use Rattle.sign_core.specs.declared.links.Link.{Link}
 use Rattle.sign_core.specs.declared.links.SigningTree.{SigningTree}
 use Rattle.sign_core.specs.Records.{are_same}
@@ -24,6 +28,11 @@ trees_in trees = record { top = trees.top; pairs = trees.levels }
 -- These are the trees of a key of LMS or HSS.
 abbrev pub AreTreesOf : KeyTrees → Key → Type 0
 AreTreesOf trees key = trees_of key.secret ≡ Some (trees_in trees)
+
+-- These are the trees of a secret.
+abbrev pub MakesTrees : Secret → SecretTrees → Type 0
+MakesTrees secret (Chain trees) = trees_of secret ≡ Some (trees_in trees)
+MakesTrees secret (XmssTree own) = secret ≡ Xmss own
 
 -- A tree of a level stands at a place: the Key's, of level 0, or that of an Extend of the level.
 abbrev pub IsTreeAt : List Record → (level place : ℕ) → Type 0
