@@ -11,7 +11,8 @@ use Rattle.lmots.specs.Key.{message_digest_of}
 use Rattle.typecodes.specs.declared.secret.LmsSecret.{LmsSecret}
 use Rattle.hss.specs.Secret.{Signing}
 use Rattle.typecodes.specs.declared.secret.XmssSecret.{XmssSecret}
-use Rattle.xmss.specs.Secret.{digest_in as xmss_digest_in}
+use Rattle.xmss.specs.Digest.{message_digest_of as xmss_message_digest_of}
+use Rattle.xmss.specs.Secret.{digest_in as xmss_digest_in, randomizer_of}
 use Rattle.xmss.specs.Writing.{signature_bytes as xmss_signature_bytes, textbook as xmss_textbook}
 use Rattle.state_file.specs.Laws.{IsCurrent, IsLegal, bottom_of, leaves_at, levels_of}
 use Rattle.state_file.specs.declared.record.Bound.{Bound}
@@ -185,3 +186,21 @@ xmss_signed records key secret k bound is = ap (λ s. signature_by s records k b
 pub xmss_damaged : (records : List Record) (key : Key) (secret : XmssSecret) (k : ℕ) → IsXmssKey secret key
     → damaged_in key (bottom_of key.secret) records (tree_before (bottom_of key.secret) records k) ≡ damaged_in key 0 records 0
 xmss_damaged records key secret k is = ap (λ s. damaged_in key (bottom_of s) records (tree_before (bottom_of s) records k)) is
+
+-- ---- digests by the tree of a place
+
+-- Q
+pub tree_digest : (records : List Record) (key : Key) (trees : Trees) (place k leaf : ℕ) (identifier randomizer : List ℕ) → key_in records ≡ Some key
+    → trees_of key.secret ≡ Some trees → tree_before (bottom_of key.secret) records k ≡ place → identifier ≡ (secret_at trees records place).identifier
+    → message_digest_of identifier leaf randomizer ≡ digest_at key records k leaf randomizer
+tree_digest records key trees place k leaf identifier randomizer keyed these at is =
+    (λ i. message_digest_of (is i) leaf randomizer)
+    ∙ (λ i. message_digest_of (secret_at trees records (sym at i)).identifier leaf randomizer)
+    ∙ (λ i text. sym (leaf_digest records key trees k leaf randomizer text keyed these) i)
+
+-- M'
+pub xmss_tree_digest : (records : List Record) (key : Key) (secret : XmssSecret) (k leaf : ℕ) (made root randomizer : List ℕ) → IsXmssKey secret key
+    → made ≡ randomizer_of secret.prf_key leaf → root ≡ key.root → xmss_message_digest_of made root leaf ≡ digest_at key records k leaf randomizer
+xmss_tree_digest records key secret k leaf made root randomizer of_key is same =
+    (λ i. xmss_message_digest_of (is i) (same i) leaf)
+    ∙ (λ i text. sym (xmss_leaf_digest records key secret k leaf randomizer text of_key) i)

@@ -1,7 +1,7 @@
 -- Chains of trees in memory are the chains of the records.
 use Rattle.std.proofs.Common.{◌≡◌, ◌∙◌, refl, sym, ap, subst, inl, inr, ℕ, zero, suc, ◌+◌, ◌-◌, ◌^◌, ◌<◌, ◌≤◌, Bool, true, false, not, List, [], ◌∷◌}
 use Rattle.std.proofs.Common.{◌++◌, length, take, find, Option, Some, None, cond, arith, length-append}
-use Rattle.std.specs.Prelude.{slice_get, slice_index_or, unwrap_or, Result, Ok, Err, IfErr, OnOk}
+use Rattle.std.specs.Prelude.{slice_get, slice_index_or, unwrap_or, Result, Ok, Err, IfErr, OnErr, OnOk}
 use Rattle.std.proofs.lemmas.Bool.{cases_order}
 use Rattle.std.proofs.lemmas.List.{append_assoc}
 use Rattle.std.proofs.lemmas.Option.{same_Some, slice_get_within}
@@ -271,6 +271,10 @@ all_signings trees records level place made old above new below above_is is =
 pub on_ok : {A E P Q : Type 0} (result : Result A E) → (P → Q) → OnOk result P → OnOk result Q
 on_ok (Ok x) leads is = leads is
 on_ok (Err e) leads is = is
+
+pub on_err : {A E P Q : Type 0} (result : Result A E) → (P → Q) → OnErr result P → OnErr result Q
+on_err (Ok x) leads is = is
+on_err (Err e) leads is = leads is
 
 pub if_err : {A E : Type 0} {P Q : E → Type 0} (result : Result A E) → ((e : E) → P e → Q e) → IfErr result P → IfErr result Q
 if_err (Ok x) leads is = is

@@ -7,10 +7,8 @@ use Rattle.std.proofs.lemmas.List.{map-append}
 use Rattle.std.proofs.lemmas.Option.{same_Some}
 use Rattle.typecodes.specs.declared.message.Message as message
 use Rattle.typecodes.specs.Types.{height_of, xmss_height_of}
-use Rattle.lmots.specs.Key.{message_digest_of}
 use Rattle.hss.specs.Secret.{Signing}
 use Rattle.typecodes.specs.declared.secret.XmssSecret.{XmssSecret}
-use Rattle.xmss.specs.Secret.{digest_in as xmss_digest_in}
 use Rattle.xmss.specs.Writing.{signature_bytes as xmss_signature_bytes, textbook as xmss_textbook}
 use Rattle.typecodes.specs.Message.{CantBeRead, ReadWhole}
 use Rattle.state_file.specs.Laws.{IsLegal, bottom_of}
@@ -27,15 +25,15 @@ use Rattle.sign_core.specs.inner.Links.{AreMade, IsTreeAt, signing_of_link, sign
 use Rattle.sign_core.specs.Records.{are_same, binding_in, key_in}
 use Rattle.sign_core.specs.Caches.{Cached, LacksCache}
 use Rattle.sign_core.specs.Signer.{View, is_before_repeat, is_fault, signature_size, state_of}
-use Rattle.sign_core.specs.inner.Signing.{IsBindingOf, Repeats, WritesChain, repeat_chance}
-use Rattle.sign_core.specs.Signing.{IsXmssKey}
+use Rattle.sign_core.specs.inner.Signing.{IsBindingOf, Repeats, repeat_chance}
+use Rattle.sign_core.specs.Signing.{IsXmssKey, answered_with}
 use Rattle.sign_core.specs.Ledger.{kept_of}
 use Rattle.sign_core.specs.World.{Outcome, State, refused}
 use Rattle.sign_core.specs.inner.Cases.{repeated_sound, requested_of}
-use Rattle.sign_core.specs.Textbook.{Trees, damaged_in, digest_at, secret_at, signature_at, signings_above, tree_before, trees_of}
+use Rattle.sign_core.specs.Textbook.{Trees, damaged_in, digest_at, secret_at, signature_at, signing_of_bound, signings_above, tree_before, trees_of}
 use Rattle.sign_core.proofs.Bindings.{binding_stands}
 use Rattle.sign_core.proofs.Refusals.{never_such}
-use Rattle.sign_core.proofs.ChainParts.{bound_tree, leaf_digest, key_chain, xmss_damaged, xmss_leaf_digest, xmss_leaf_inside, xmss_signed}
+use Rattle.sign_core.proofs.ChainParts.{bound_tree, key_chain, xmss_damaged, xmss_leaf_inside, xmss_signed}
 
 -- ---- what is kept of a name
 
@@ -175,7 +173,11 @@ same_size own key capacity is = subst (λ (k : Key). capacity < signature_size k
 
 -- ---- what answers a place as a fault
 
--- the fault is `Damaged` of a place with P
+-- a refusal is answered, whatever the value
+pub refused_with : {A B : Type 0} (answer : Result A SignFault) (value : B) (fault : SignFault) → answer ≡ Err fault → Err fault ≡ answered_with answer value
+refused_with answer value fault is = ap (λ a. answered_with a value) (sym is)
+
+-- the fault that is answered is that of a place
 pub fault_of : {A : Type 0} (linked : Result A ℕ) (mapped : Result A SignFault) (fault : SignFault) (P : ℕ → Type 0)
     → MatchResult linked (λ x. mapped ≡ Ok x) (λ k. IsErrAnd mapped (λ e. e ≡ Damaged k)) → mapped ≡ Err fault → IfErr linked P
     → (k : ℕ) × (fault ≡ Damaged k) × P k
@@ -199,13 +201,6 @@ linked_ok (Err k) mapped x P cases was is = absurd (subst (λ r. IsErrAnd r (λ 
 
 -- ---- XMSS
 
-pub xmss_read : (key own : Key) (records : List Record) (name : List ℕ) (binding : Binding) (found : IsFound key records name binding) (secret : XmssSecret)
-    (text digest : List ℕ) → IsXmssKey secret key → own ≡ key → digest ≡ xmss_digest_in secret own.root binding.leaf text
-    → digest_at key records found.place found.bound.leaf found.bound.randomizer text ≡ digest
-xmss_read key own records name binding found secret text digest of_key same is =
-    xmss_leaf_digest records key secret found.place found.bound.leaf found.bound.randomizer text of_key
-    ∙ ap₂ (λ (k : Key) leaf. xmss_digest_in secret k.root leaf text) (sym same) (ap (λ (kept : Binding). kept.leaf) found.is) ∙ sym is
-
 -- the leaf is one of the tree's
 pub bound_xmss_leaf : (key : Key) (records : List Record) (name : List ℕ) (binding : Binding) (secret : XmssSecret) → IsLegal records → key_in records ≡ Some key
     → IsXmssKey secret key → IsBindingOf records binding key name → binding.leaf < 2 ^ xmss_height_of secret.tree
@@ -221,38 +216,22 @@ xmss_chain : (records : List Record) (key : Key) (secret : XmssSecret) (k : ℕ)
 xmss_chain records key secret k P keyed of_key each =
     subst P (sym (xmss_damaged records key secret k of_key)) (key_chain records key P keyed each)
 
-module _ {S R M : Type 0} (m : message.Ghosts M) (view : View S R) (before after : M) (capacity : ℕ) (key : Key) (name : List ℕ) (binding : Binding)
-    (found : IsFound key view.records name binding) (secret : XmssSecret) where
-  pub damaged_xmss : {A : Type 0} {cached : Cached} (text digest : List ℕ) (linked : Result A ℕ) (mapped : Result A SignFault) (fault : SignFault)
-      → ReadWhole m.transition m.remaining text before after → key_in view.records ≡ Some key → IsXmssKey secret key
-      → digest_at key view.records found.place found.bound.leaf found.bound.randomizer text ≡ digest
-      → not (are_same digest binding.digest) ≡ false
-      → MatchResult linked (λ x. mapped ≡ Ok x) (λ k. IsErrAnd mapped (λ e. e ≡ Damaged k)) → mapped ≡ Err fault
-      → ((rest : List Record) → IfErr linked (λ k. damaged_in key 0 (KeyRecord key ∷ rest) 0 ≡ Some k))
-      → Repeats m (state_of view) cached before after capacity (Err fault) key name
-  damaged_xmss {cached = cached} text digest linked mapped fault whole keyed of_key is same cases was chain =
-      let chain_of : Option ℕ → ℕ → Type 0 = λ d k. d ≡ Some k in
-      let (k, of_place, at) = fault_of linked mapped fault _ cases was
-      (xmss_chain view.records key secret found.place (λ d. IfErr linked (chain_of d)) keyed of_key chain) in
-      subst (λ f. Repeats m (state_of view) cached before after capacity (Err f) key name) (sym of_place)
-      (damaged m view before after capacity key name binding found text digest k whole is same at)
+-- and by the tree of a binding
+pub xmss_bound_chain : (records : List Record) (key : Key) (secret : XmssSecret) (name : List ℕ) (binding : Binding) (P : Option ℕ → Type 0)
+    → key_in records ≡ Some key → IsXmssKey secret key → IsBindingOf records binding key name
+    → ((rest : List Record) → P (damaged_in key 0 (KeyRecord key ∷ rest) 0))
+    → P (damaged_in key (bottom_of key.secret) records binding.tree)
+xmss_bound_chain records key secret name binding P keyed of_key kept each =
+    let found = is_found key records name binding kept in
+    subst (λ (b : Binding). P (damaged_in key (bottom_of key.secret) records b.tree)) found.is
+    (xmss_chain records key secret found.place P keyed of_key each)
 
-  pub signed_xmss : {A : Type 0} {cached : Cached} (text digest bytes into : List ℕ) (linked : Result A ℕ) (mapped : Result A SignFault) (x : A)
-      → ReadWhole m.transition m.remaining text before after → key_in view.records ≡ Some key → IsXmssKey secret key
-      → digest_at key view.records found.place found.bound.leaf found.bound.randomizer text ≡ digest
-      → not (are_same digest binding.digest) ≡ false
-      → MatchResult linked (λ y. mapped ≡ Ok y) (λ k. IsErrAnd mapped (λ e. e ≡ Damaged k)) → mapped ≡ Ok x
-      → ((rest : List Record) → OnOk linked (damaged_in key 0 (KeyRecord key ∷ rest) 0 ≡ None))
-      → into ≡ xmss_signature_bytes (xmss_textbook secret binding.leaf digest) → bytes ≡ into
-      → Repeats m (state_of view) cached before after capacity (Ok bytes) key name
-  signed_xmss text digest bytes into linked mapped x whole keyed of_key is same cases was chain made placed =
-      let sound = linked_ok linked mapped x _ cases was
-      (xmss_chain view.records key secret found.place (λ d. OnOk linked (d ≡ None)) keyed of_key chain) in
-      signed m view before after capacity key name binding found text digest bytes whole is same sound
-      (placed ∙ made
-      ∙ ap₂ (λ leaf d. xmss_signature_bytes (xmss_textbook secret leaf d)) (sym (ap (λ (kept : Binding). kept.leaf) found.is))
-      (recorded_digest key view.records name binding found digest same)
-      ∙ sym (xmss_signed view.records key secret found.place found.bound of_key))
+-- the signature of a binding
+pub xmss_bound_signed : (records : List Record) (key : Key) (secret : XmssSecret) (k : ℕ) (bound : Bound) (binding : Binding) (bytes : List ℕ) → IsXmssKey secret key
+    → kept_of key.secret records (k, bound) ≡ binding → bytes ≡ xmss_signature_bytes (xmss_textbook secret binding.leaf binding.digest)
+    → bytes ≡ signature_at key records k bound
+xmss_bound_signed records key secret k bound binding bytes of_key is made =
+    made ∙ ap (λ (b : Binding). xmss_signature_bytes (xmss_textbook secret b.leaf b.digest)) (sym is) ∙ sym (xmss_signed records key secret k bound of_key)
 
 -- ---- LMS and HSS
 
@@ -267,76 +246,52 @@ bound_chain key trees records name binding legal keyed these kept =
       subst (λ (b : Binding). b.leaf < 2 ^ height_of (secret_at trees records b.tree).pair.tree) found.is inside,
     )
 
-pub chain_read : (key : Key) (records ledger : List Record) (name : List ℕ) (binding : Binding) (found : IsFound key records name binding) (trees : Trees)
-    (text digest : List ℕ) → key_in records ≡ Some key → trees_of key.secret ≡ Some trees → ledger ≡ records
-    → digest ≡ message_digest_of (secret_at trees ledger binding.tree).identifier binding.leaf binding.randomizer text
-    → digest_at key records found.place found.bound.leaf found.bound.randomizer text ≡ digest
-chain_read key records ledger name binding found trees text digest keyed these same is =
-    leaf_digest records key trees found.place found.bound.leaf found.bound.randomizer text keyed these
-    ∙ ap (λ (b : Binding). message_digest_of (secret_at trees records b.tree).identifier b.leaf b.randomizer text) found.is
-    ∙ ap (λ l. message_digest_of (secret_at trees l binding.tree).identifier binding.leaf binding.randomizer text) (sym same) ∙ sym is
-
-pub links_signs : {A : Type 0} (linked : Result A ℕ) (mapped : Result A SignFault) (x : A) (links above old : List Link) (link : Link) (rest : List Signing)
-    → MatchResult linked (λ y. mapped ≡ Ok y) (λ k. IsErrAnd mapped (λ e. e ≡ Damaged k)) → mapped ≡ Ok x
-    → OnOk linked (signings_of above ≡ signings_of old ++ rest) → links ≡ above ++ link ∷ [] → old ≡ []
-    → signings_of links ≡ rest ++ signing_of_link link ∷ []
-links_signs linked mapped x links above old link rest cases was signs same none =
+-- what new links sign with
+pub links_signs : (links above old : List Link) (link : Link) (rest : List Signing) → signings_of above ≡ signings_of old ++ rest
+    → links ≡ above ++ link ∷ [] → old ≡ [] → signings_of links ≡ rest ++ signing_of_link link ∷ []
+links_signs links above old link rest signs same none =
     ap signings_of same ∙ map-append signing_of_link above (link ∷ [])
-    ∙ ap (λ l. l ++ signing_of_link link ∷ []) (linked_ok linked mapped x _ cases was signs ∙ ap (λ l. signings_of l ++ rest) none)
+    ∙ ap (λ l. l ++ signing_of_link link ∷ []) (signs ∙ ap (λ l. signings_of l ++ rest) none)
+
+-- They sign as a binding's chain does.
+pub links_bound : (trees : Trees) (records : List Record) (level : ℕ) (secret : Secret) (k : ℕ) (bound : Bound) (binding : Binding) (signings : List Signing)
+    → level ≡ bottom_of secret → kept_of secret records (k, bound) ≡ binding
+    → signings ≡ signings_above trees level records binding.tree
+    ++ signing_with (secret_at trees records binding.tree) binding.leaf binding.randomizer binding.digest ∷ []
+    → signings ≡ signings_above trees (bottom_of secret) records (tree_before (bottom_of secret) records k)
+    ++ signing_of_bound trees records (tree_before (bottom_of secret) records k) bound ∷ []
+links_bound trees records level secret k bound binding signings level_is is signs =
+    signs
+    ∙ ap (λ n. signings_above trees n records binding.tree
+    ++ signing_with (secret_at trees records binding.tree) binding.leaf binding.randomizer binding.digest ∷ []) level_is
+    ∙ ap (λ (b : Binding). signings_above trees (bottom_of secret) records b.tree
+    ++ signing_with (secret_at trees records b.tree) b.leaf b.randomizer b.digest ∷ []) (sym is)
 
 pub none_made : AreMade []
 none_made i link at = absurd (cc)
 
-module _ {S R M : Type 0} (m : message.Ghosts M) (view : View S R) (before after : M) (capacity : ℕ) (key : Key) (name : List ℕ) (binding : Binding)
-    (found : IsFound key view.records name binding) (own : Key) (ledger : List Record) (level : ℕ) (own_is : own ≡ key) (same_records : ledger ≡ view.records)
-    (level_is : level ≡ bottom_of own.secret) where
-  -- the binding's tree is the one that was current before it
-  chain_same : damaged_in own level ledger binding.tree
-      ≡ damaged_in key (bottom_of key.secret) view.records (tree_before (bottom_of key.secret) view.records found.place)
-  chain_same =
-      ap (λ n. damaged_in own n ledger binding.tree) level_is
-      ∙ ap₂ (λ (k : Key) records. damaged_in k (bottom_of k.secret) records binding.tree) own_is same_records
-      ∙ ap (damaged_in key (bottom_of key.secret) view.records) (sym (ap (λ (kept : Binding). kept.tree) found.is))
+-- ---- by the ledger's key and records
 
-  pub damaged_chain : {A : Type 0} {cached : Cached} (text digest : List ℕ) (linked : Result A ℕ) (mapped : Result A SignFault) (fault : SignFault)
-      → ReadWhole m.transition m.remaining text before after
-      → digest_at key view.records found.place found.bound.leaf found.bound.randomizer text ≡ digest
-      → not (are_same digest binding.digest) ≡ false
-      → MatchResult linked (λ x. mapped ≡ Ok x) (λ k. IsErrAnd mapped (λ e. e ≡ Damaged k)) → mapped ≡ Err fault
-      → IfErr linked (λ k. damaged_in own level ledger binding.tree ≡ Some k)
-      → Repeats m (state_of view) cached before after capacity (Err fault) key name
-  damaged_chain {cached = cached} text digest linked mapped fault whole is same cases was chain =
-      let (k, of_place, at) = fault_of linked mapped fault _ cases was chain in
-      subst (λ f. Repeats m (state_of view) cached before after capacity (Err f) key name) (sym of_place)
-      (damaged m view before after capacity key name binding found text digest k whole is same (sym chain_same ∙ at))
+module _ (own key : Key) (ledger records : List Record) (name : List ℕ) (binding : Binding) (found : IsFound key records name binding) (own_is : own ≡ key)
+    (same_records : ledger ≡ records) where
+  -- the binding is kept there
+  pub found_kept : kept_of own.secret ledger (found.place, found.bound) ≡ binding
+  found_kept = ap₂ (λ (k : Key) l. kept_of k.secret l (found.place, found.bound)) own_is same_records ∙ found.is
 
-  pub signed_chain : {A : Type 0} {cached : Cached} (trees : Trees) (text digest bytes into : List ℕ) (linked : Result A ℕ) (mapped : Result A SignFault) (x : A) (links : List Link)
-      → ReadWhole m.transition m.remaining text before after
-      → digest_at key view.records found.place found.bound.leaf found.bound.randomizer text ≡ digest
-      → not (are_same digest binding.digest) ≡ false
-      → MatchResult linked (λ y. mapped ≡ Ok y) (λ k. IsErrAnd mapped (λ e. e ≡ Damaged k)) → mapped ≡ Ok x
-      → OnOk linked (damaged_in own level ledger binding.tree ≡ None) → trees_of own.secret ≡ Some trees
-      → signings_of links ≡ signings_above trees level ledger binding.tree
-      ++ signing_with (secret_at trees ledger binding.tree) binding.leaf binding.randomizer digest ∷ []
-      → WritesChain own.secret links into → bytes ≡ into → (k : Key) × (key_in view.records ≡ Some k)
-      → Repeats m (state_of view) cached before after capacity (Ok bytes) key name
-  signed_chain trees text digest bytes into linked mapped x links whole is same cases was chain these signs writes placed first =
-      let k = found.place in
-      let bound = found.bound in
-      let bottom = bottom_of own.secret in
-      let sound = linked_ok linked mapped x _ cases was chain in
-      let kept_of_own : List Record → (tree leaf : ℕ) → (randomizer digest : List ℕ) → List Signing = λ records tree leaf randomizer d.
-      signings_above trees bottom records tree
-      ++ signing_with (secret_at trees records tree) leaf randomizer d ∷ [] in
-      let tree_is : binding.tree ≡ tree_before bottom view.records k =
-      sym (ap (λ (kept : Binding). kept.tree) found.is) ∙ ap (λ (o : Key). tree_before (bottom_of o.secret) view.records k) (sym own_is) in
-      let all : signings_of links ≡ kept_of_own view.records (tree_before bottom view.records k) bound.leaf bound.randomizer bound.digest =
-      signs
-      ∙ ap (λ n. signings_above trees n ledger binding.tree
-      ++ signing_with (secret_at trees ledger binding.tree) binding.leaf binding.randomizer digest ∷ []) level_is
-      ∙ ap (λ records. kept_of_own records binding.tree binding.leaf binding.randomizer digest) same_records
-      ∙ ap₂ (λ tree leaf. kept_of_own view.records tree leaf binding.randomizer digest) tree_is (sym (ap (λ (kept : Binding). kept.leaf) found.is))
-      ∙ ap₂ (λ randomizer d. kept_of_own view.records (tree_before bottom view.records k) bound.leaf randomizer d)
-      (sym (ap (λ (kept : Binding). kept.randomizer) found.is)) (recorded_digest key view.records name binding found digest same) in
-      signed m view before after capacity key name binding found text digest bytes whole is same (sym chain_same ∙ sound)
-      (placed ∙ writes trees view.records k bound first these all ∙ ap (λ (o : Key). signature_at o view.records k bound) own_is)
+  -- What was read is what the leaf signs.
+  pub found_digest : (text digest : List ℕ) → digest ≡ digest_at own ledger found.place binding.leaf binding.randomizer text
+      → digest_at key records found.place found.bound.leaf found.bound.randomizer text ≡ digest
+  found_digest text digest is =
+      ap (λ (kept : Binding). digest_at key records found.place kept.leaf kept.randomizer text) found.is
+      ∙ ap₂ (λ (k : Key) l. digest_at k l found.place binding.leaf binding.randomizer text) (sym own_is) (sym same_records) ∙ sym is
+
+  -- the chain of the tree that is kept is that of the one before the binding
+  pub found_chain : damaged_in own (bottom_of own.secret) ledger binding.tree
+      ≡ damaged_in key (bottom_of key.secret) records (tree_before (bottom_of key.secret) records found.place)
+  found_chain =
+      ap₂ (λ (k : Key) l. damaged_in k (bottom_of k.secret) l binding.tree) own_is same_records
+      ∙ ap (damaged_in key (bottom_of key.secret) records) (sym (ap (λ (kept : Binding). kept.tree) found.is))
+
+  -- It is its signature, too.
+  pub found_signature : signature_at own ledger found.place found.bound ≡ signature_at key records found.place found.bound
+  found_signature = ap₂ (λ (k : Key) l. signature_at k l found.place found.bound) own_is same_records

@@ -13,9 +13,8 @@ ghost use Rattle.sign_core.specs.Textbook.{damaged_in};
 use crate::fault::SignFault;
 use crate::links::SigningTree;
 use crate::progress::{TreeLeaves, TreeProgress};
-use crate::roots::root_and_path;
 use crate::tree_secret::TreeSecret;
-use merkle::{OutOfMemory, PathCache, Told};
+use merkle::{PathCache, Told, TreeHash, path, root_from_path};
 use std::alloc::Global;
 use std::marker::Model;
 use std::mem;
@@ -46,13 +45,16 @@ impl<X: TreeSecret> TreeCache<X> {
         secret: X,
         leaf: u32,
         progress: &P,
-    ) -> Result<Self, OutOfMemory>
-        ensures { IfOk result (λ cache. cache ≡ secret) }
+    ) -> Result<Self, SignFault>
+        ensures secret { IfOk result (λ cache. cache ≡ secret) }
+        ensures fault { IfErr result (λ fault. fault ≡ SignFault.OutOfMemory) }
     {
         let height = secret.height();
         let leaf = leaf_within(height, leaf);
         let leaves = TreeLeaves::begin(progress, level, height);
-        let cache = PathCache::for_leaf_telling(alloc, secret.tree(), height, leaf, leaves)?;
+        let cache = PathCache::for_leaf_telling(alloc, secret.tree(), height, leaf, leaves).map_err(
+            |_| SignFault::OutOfMemory,
+        )?;
         Ok(TreeCache { secret, cache })
     }
 
@@ -71,13 +73,23 @@ impl<X: TreeSecret> TreeCache<X> {
     }
 }
 
-fn has<X: TreeSecret>(kept: &Option<TreeCache<X>>, secret: &X) -> bool
-    ensures { (result ≡ true) ↔ (kept.now ≡ Some secret.now) }
+// Writes the authentication path of a leaf, and answers the root of a tree of this height.
+fn root_and_path<T: TreeHash>(
+    tree: &mut T,
+    height: u8,
+    leaf: u32,
+    into: &mut [[u8; 32]],
+) -> [u8; 32]
+    requires height { height ≤ 25 }
+    requires inside { leaf < 2 ^ height }
+    requires room { length into.old ≡ height }
+    ensures path { into.new ≡ path_of (T.leaf_of tree.old) (T.join_of tree.old) height leaf }
+    ensures length { length into.new ≡ height }
+    ensures root { result ≡ root_of (T.leaf_of tree.old) (T.join_of tree.old) height }
 {
-    match kept {
-        Some(cache) => cache.secret.is_same(secret),
-        None => false,
-    }
+    path(tree, height, leaf, into);
+    let value = tree.leaf(leaf);
+    root_from_path(tree, leaf, &value, into)
 }
 
 // Makes the cache of a secret's tree, which is to sign by this leaf, unless it is there.
@@ -88,11 +100,12 @@ fn keep<X: TreeSecret, P: TreeProgress>(
     secret: &X,
     leaf: u32,
     progress: &P,
-) -> Result<(), OutOfMemory>
+) -> Result<(), SignFault>
     ensures there { OnOk result (kept.new ≡ Some secret.now) }
+    ensures fault { IfErr result (λ fault. fault ≡ SignFault.OutOfMemory) }
     ensures lacking { OnErr result (kept.old ≢ Some secret.now) }
 {
-    if has(kept, secret) {
+    if leaves_made(kept, secret).is_some() {
         return Ok(());
     }
     *kept = None;
@@ -196,16 +209,16 @@ impl Caches {
         secret: &LmsSecret,
         leaf: u32,
         progress: &P,
-    ) -> Result<(), OutOfMemory>
+    ) -> Result<(), SignFault>
         requires { level < 8 }
         ensures there { OnOk result (HasLevel self.new level secret.now) }
+        ensures fault { IfErr result (λ fault. fault ≡ SignFault.OutOfMemory) }
         ensures lacking { OnErr result (HasLevel self.old level secret.now → ⊥) }
         ensures others { (k : ℕ) → k ≢ level → cache_at self.new.levels k ≡ cache_at self.old.levels k }
         ensures xmss { self.new.xmss ≡ self.old.xmss }
     {
-        let alloc = self.alloc;
         let kept = &mut self.levels[usize::from(level)];
-        keep(kept, alloc, level, secret, leaf, progress)
+        keep(kept, self.alloc, level, secret, leaf, progress)
     }
 
     /// Replaces a level's cache by a new tree's, and answers the tree, ready to sign by its first leaf.
@@ -222,9 +235,7 @@ impl Caches {
         ensures leaf { IfOk result (λ begun. begun.leaf ≡ 0) }
         ensures made { IfOk result (λ begun. IsMade begun) }
     {
-        let cache = TreeCache::new(self.alloc, level, secret, 0, progress).map_err(
-            |_| SignFault::OutOfMemory,
-        )?;
+        let cache = TreeCache::new(self.alloc, level, secret, 0, progress)?;
         self.levels[usize::from(level)] = Some(cache);
         Ok(self.signing_tree(level, secret, 0, progress))
     }
@@ -277,8 +288,9 @@ impl Caches {
         secret: &XmssSecret,
         leaf: u32,
         progress: &P,
-    ) -> Result<(), OutOfMemory>
+    ) -> Result<(), SignFault>
         ensures there { OnOk result (self.new.xmss ≡ Some secret.now) }
+        ensures fault { IfErr result (λ fault. fault ≡ SignFault.OutOfMemory) }
         ensures lacking { OnErr result (self.old.xmss ≢ Some secret.now) }
         ensures levels { self.new.levels ≡ self.old.levels }
     {

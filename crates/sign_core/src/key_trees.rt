@@ -11,11 +11,11 @@ ghost use Rattle.sign_core.specs.inner.Signing.{StandsIn};
 ghost use Rattle.sign_core.specs.Textbook.{damaged_in, tree_before};
 
 use crate::caches::Caches;
+use crate::fault::SignFault;
 use crate::ledger::{Binding, Ledger};
 use crate::links::{Link, SigningTree};
 use crate::progress::TreeProgress;
 use arrayvec::ArrayVec;
-use merkle::OutOfMemory;
 use state_file::{Extend, Secret};
 use typecodes::{Levels, LmsPair, LmsSecret, XmssSecret};
 
@@ -26,22 +26,22 @@ pub(crate) struct KeyTrees {
     pub(crate) levels: Levels,
 }
 
-impl KeyTrees {
-    ghost use Rattle.state_file.specs.declared.record.Record.TheVariants.{Extend as ExtendRecord};
-    ghost use Rattle.state_file.specs.Laws.{IsLegal};
-    ghost use Rattle.sign_core.specs.Records.{key_in};
-    ghost use Rattle.sign_core.specs.inner.Links.{AreMade, AreTreesOf, IsMade, IsTreeAt, IsTreeBy, signings_of};
-    ghost use Rattle.sign_core.specs.inner.Links.{trees_in};
-    ghost use Rattle.sign_core.specs.Textbook.{damaged_in, is_sound_at, secret_at, secret_by, signings_above, trees_of};
-    ghost use Rattle.state_file.specs.declared.record.Secret.TheVariants.{Xmss};
+/// The trees of a key of any scheme: those of LMS or HSS, or the one tree of XMSS.
+#[derive(Drop)]
+pub(crate) enum SecretTrees {
+    Chain(KeyTrees),
+    Xmss(XmssSecret),
+}
 
-    /// The trees of an LMS key, which has one level, or of an HSS key. An XMSS key's secret comes back instead.
-    pub(crate) fn of(secret: &Secret) -> Result<Self, XmssSecret>
-        ensures trees { IfOk result (λ trees. trees_of secret.now ≡ Some (trees_in trees)) }
-        ensures xmss { IfErr result (λ own. secret.now ≡ Xmss own) }
+impl SecretTrees {
+    ghost use Rattle.sign_core.specs.inner.Links.{MakesTrees};
+
+    /// Those of a key. LMS has one level.
+    pub(crate) fn of(secret: &Secret) -> Self
+        ensures { MakesTrees secret.now result }
     {
         match secret {
-            Secret::Lms(top) => Ok(KeyTrees {
+            Secret::Lms(top) => SecretTrees::Chain(KeyTrees {
                 top: *top,
                 levels: Levels::one(top.pair),
             }),
@@ -49,20 +49,26 @@ impl KeyTrees {
                 levels,
                 identifier,
                 seed,
-            } => {
-                let top = LmsSecret {
+            } => SecretTrees::Chain(KeyTrees {
+                top: LmsSecret {
                     pair: levels.as_slice()[0],
                     identifier: *identifier,
                     seed: *seed,
-                };
-                Ok(KeyTrees {
-                    top,
-                    levels: levels.copied(),
-                })
-            }
-            Secret::Xmss(secret) => Err(*secret),
+                },
+                levels: levels.copied(),
+            }),
+            Secret::Xmss(secret) => SecretTrees::Xmss(*secret),
         }
     }
+}
+
+impl KeyTrees {
+    ghost use Rattle.state_file.specs.declared.record.Record.TheVariants.{Extend as ExtendRecord};
+    ghost use Rattle.state_file.specs.Laws.{IsLegal};
+    ghost use Rattle.sign_core.specs.Records.{key_in};
+    ghost use Rattle.sign_core.specs.inner.Links.{AreMade, AreTreesOf, IsMade, IsTreeAt, IsTreeBy, signings_of};
+    ghost use Rattle.sign_core.specs.inner.Links.{trees_in};
+    ghost use Rattle.sign_core.specs.Textbook.{damaged_in, is_sound_at, secret_at, secret_by, signings_above};
 
     /// The types of a level's trees; the top tree's, where there is no such level.
     pub(crate) fn pair(&self, level: u8) -> LmsPair
@@ -246,13 +252,41 @@ fn signing_leaves(ledger: &Ledger, lowest: u8, bound: Option<&Binding>) -> [u32;
 }
 
 impl Caches {
-    ghost use Rattle.sign_core.specs.Caches.{LacksLevel};
-    ghost use Rattle.sign_core.specs.inner.Links.{AreTreesOf};
+    ghost use Rattle.sign_core.specs.Caches.{LacksCache, LacksLevel};
+    ghost use Rattle.sign_core.specs.inner.Links.{AreTreesOf, MakesTrees};
 
-    /// Makes the missing caches of the current LMS trees from the top down to a level, for trees whose records stand
-    /// before a place. A new cache keeps the block of the leaf by which its tree is to sign: for the binding, or
-    /// without one for a new name.
-    pub(crate) fn keep_chain<P: TreeProgress>(
+    /// Makes the caches that a signature needs, down to a level whose current tree stands before a place, each unless it
+    /// is there.
+    pub(crate) fn keep_trees<P: TreeProgress>(
+        &mut self,
+        trees: &SecretTrees,
+        ledger: &Ledger,
+        lowest: u8,
+        before: u32,
+        bound: Option<&Binding>,
+        progress: &P,
+    ) -> Result<(), SignFault>
+        requires trees { MakesTrees ledger.now.key.secret trees.now }
+        requires few { lowest < 8 }
+        ensures fault { IfErr result (λ fault. fault ≡ SignFault.OutOfMemory) }
+        ensures lacking { OnErr result
+            (LacksCache ledger.now.key ledger.now.records (Some lowest) before self.old) }
+    {
+        match trees {
+            SecretTrees::Chain(trees) => {
+                self.keep_chain(trees, ledger, lowest, before, bound, progress)
+            }
+            SecretTrees::Xmss(secret) => {
+                let leaves = signing_leaves(ledger, lowest, bound);
+                self.keep_xmss(secret, leaves[0], progress)
+            }
+        }
+    }
+
+    /// Makes the caches of the current LMS trees from the top down to a level whose records stand before a place, each
+    /// unless it is there. A cache that is made keeps the block of the leaf by which its tree is to sign: under a name
+    /// that is bound, or where none is given, under a new one.
+    fn keep_chain<P: TreeProgress>(
         &mut self,
         trees: &KeyTrees,
         ledger: &Ledger,
@@ -260,9 +294,10 @@ impl Caches {
         before: u32,
         bound: Option<&Binding>,
         progress: &P,
-    ) -> Result<(), OutOfMemory>
+    ) -> Result<(), SignFault>
         requires trees { AreTreesOf trees.now ledger.now.key }
         requires few { lowest < 8 }
+        ensures fault { IfErr result (λ fault. fault ≡ SignFault.OutOfMemory) }
         ensures lacking { OnErr result (LacksLevel ledger.now.key ledger.now.records lowest before self.old) }
     {
         let leaves = signing_leaves(ledger, lowest, bound);

@@ -45,7 +45,6 @@ mod links;
 mod migration;
 mod progress;
 mod rng_source;
-mod roots;
 mod serving;
 mod signer;
 mod source;

@@ -20,7 +20,7 @@ mod sign;
 use crate::caches::Caches;
 use crate::fault::SignFault;
 use crate::key::AnyPublic;
-use crate::key_trees::KeyTrees;
+use crate::key_trees::{KeyTrees, SecretTrees};
 use crate::ledger::{Ledger, LedgerFault};
 use crate::progress::{TreeLeaves, TreeProgress};
 use crate::source::{Source, draw};
@@ -129,13 +129,13 @@ fn draw_secret<R: Source>(spec: &Spec, random: &mut R) -> Result<Secret, SignFau
 fn root_of<P: TreeProgress>(secret: &Secret, progress: &P) -> [u8; 32]
     ensures { result ≡ root_by secret.now }
 {
-    match KeyTrees::of(secret) {
-        Ok(KeyTrees { top, .. }) => {
+    match SecretTrees::of(secret) {
+        SecretTrees::Chain(KeyTrees { top, .. }) => {
             let height = top.pair.tree.height();
             let leaves = TreeLeaves::begin(progress, 0, height);
             root(&mut Told::new(LmsTree::new(top), leaves), height)
         }
-        Err(secret) => {
+        SecretTrees::Xmss(secret) => {
             let height = secret.tree.height();
             let leaves = TreeLeaves::begin(progress, 0, height);
             root(&mut Told::new(XmssTree::new(secret), leaves), height)

@@ -11,7 +11,11 @@ use Rattle.state_file.specs.declared.record.Extend.{Extend}
 use Rattle.state_file.specs.declared.record.Key.{Key}
 use Rattle.state_file.specs.declared.record.Record.{Record}
 use Rattle.state_file.specs.declared.record.Record.TheVariants.{Extend as ExtendRecord}
+use Rattle.state_file.specs.declared.record.Secret.{Secret}
+use Rattle.state_file.specs.declared.record.Secret.TheVariants.{Xmss}
 use Rattle.sign_core.specs.declared.key_trees.KeyTrees.{KeyTrees}
+use Rattle.sign_core.specs.declared.key_trees.SecretTrees.{SecretTrees}
+use Rattle.sign_core.specs.declared.key_trees.SecretTrees.TheVariants.{Chain, Xmss as XmssTree}
 use Rattle.sign_core.specs.declared.links.Link.{Link}
 use Rattle.sign_core.specs.declared.links.SigningTree.{SigningTree}
 use Rattle.sign_core.specs.Records.{are_same}
@@ -24,7 +28,12 @@ trees_in trees = record { top = trees.top; pairs = trees.levels }
 abbrev pub AreTreesOf : KeyTrees → Key → Type 0
 AreTreesOf trees key = trees_of key.secret ≡ Some (trees_in trees)
 
--- A tree of a level stands at a place: the Key's at level 0, else the tree of an Extend of the level.
+-- These are the trees of a secret.
+abbrev pub MakesTrees : Secret → SecretTrees → Type 0
+MakesTrees secret (Chain trees) = trees_of secret ≡ Some (trees_in trees)
+MakesTrees secret (XmssTree own) = secret ≡ Xmss own
+
+-- A tree of a level stands at a place: the Key's, of level 0, or that of an Extend of the level.
 abbrev pub IsTreeAt : List Record → (level place : ℕ) → Type 0
 IsTreeAt records zero place = place ≡ 0
 IsTreeAt records (suc level) place =

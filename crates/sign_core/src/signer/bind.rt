@@ -14,7 +14,7 @@ ghost use Rattle.sign_core.specs.inner.Links.{trees_in};
 use super::Signer;
 use super::sign::{read_digest, read_xmss_digest};
 use crate::fault::SignFault;
-use crate::key_trees::KeyTrees;
+use crate::key_trees::{KeyTrees, SecretTrees};
 use crate::ledger::Ledger;
 use crate::links::{Link, SigningTree};
 use crate::progress::TreeProgress;
@@ -89,14 +89,9 @@ impl<S: Store, R: Source> Signer<S, R> {
             LacksCache key self.old.records (Some level) (length self.old.records) self.old.cached)) }
     {
         let count = self.ledger.len();
-        let (next, _) = self.bottom();
-        let cached = match KeyTrees::of(&self.ledger.key().secret) {
-            Ok(trees) => self
-                .caches
-                .keep_chain(&trees, &self.ledger, level, count, None, progress),
-            Err(secret) => self.caches.keep_xmss(&secret, next, progress),
-        };
-        cached.map_err(|_| SignFault::OutOfMemory)
+        let trees = SecretTrees::of(&self.ledger.key().secret);
+        self.caches
+            .keep_trees(&trees, &self.ledger, level, count, None, progress)
     }
 
     // Begins and records a tree below a standing chain; the next leaf of the chain's last tree signs it. Answers the

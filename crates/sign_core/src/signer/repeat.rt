@@ -1,40 +1,73 @@
 //! The signature of a bound name, again.
 
-ghost use Rattle.std.specs.Prelude.{◌≡◌, ◌<◌, ◌-◌, Some, vec_capacity, IfErr, OnErr, ◌≢◌};
-ghost use Rattle.sign_core.specs.Caches.{LacksCache};
-ghost use Rattle.sign_core.specs.Signer.{KeepsForRepeat, is_before_repeat, is_fault, state_of};
+ghost use Rattle.std.specs.Prelude.{◌≡◌, None, Some, length, vec_capacity, IfErr, OnOk};
+ghost use Rattle.sign_core.specs.Signer.{KeepsForRepeat, is_before_repeat, is_fault, signature_size, state_of};
 ghost use Rattle.sign_core.specs.inner.Signing.{IsSomeBinding, RepeatsBinding, RepeatsBy};
-ghost use Rattle.sign_core.specs.Signing.{IsXmssKey, KeepsCapacity, UnderKey, answered_with};
-ghost use Rattle.sign_core.specs.inner.Links.{AreTreesOf};
-ghost use Rattle.state_file.specs.Laws.{bottom_of};
+ghost use Rattle.sign_core.specs.Signing.{KeepsCapacity, answered_with};
 
 use super::Signer;
-use super::sign::{read_digest, read_xmss_digest};
 use crate::caches::Caches;
 use crate::fault::SignFault;
-use crate::key_trees::KeyTrees;
-use crate::ledger::Binding;
+use crate::key_trees::SecretTrees;
+use crate::ledger::{Binding, Ledger};
 use crate::progress::TreeProgress;
 use crate::source::Source;
 use crate::writing::{make_room, write_chain};
 use arrayvec::ArrayVec;
-use lmots::LmOts;
 use state_file::Store;
-use typecodes::{Message, XmssSecret};
+use typecodes::Message;
 
-// As `Caches::keep_xmss`, with a signer's fault.
-fn cache_xmss<P: TreeProgress>(
-    caches: &mut Caches,
-    secret: &XmssSecret,
-    leaf: u32,
-    progress: &P,
-) -> Result<(), SignFault>
-    ensures fault { IfErr result (λ fault. fault ≡ SignFault.OutOfMemory) }
-    ensures lacking { OnErr result (caches.old.xmss ≢ Some secret.now) }
-{
-    caches
-        .keep_xmss(secret, leaf, progress)
-        .map_err(|_| SignFault::OutOfMemory)
+impl SecretTrees {
+    ghost use Rattle.std.specs.Prelude.{ℕ};
+    ghost use Rattle.state_file.specs.Laws.{bottom_of};
+    ghost use Rattle.state_file.specs.declared.record.Bound.{Bound};
+    ghost use Rattle.sign_core.specs.Ledger.{kept_of};
+    ghost use Rattle.sign_core.specs.Textbook.{damaged_in, signature_at};
+    ghost use Rattle.sign_core.specs.inner.Links.{MakesTrees};
+
+    // Writes the signature of a binding over the whole of `out`; or answers the place of the first record of its trees
+    // that isn't sound.
+    #[inline(never)]
+    fn write_bound<P: TreeProgress>(
+        &self,
+        ledger: &Ledger,
+        caches: &mut Caches,
+        binding: &Binding,
+        out: &mut [u8],
+        progress: &P,
+    ) -> Result<(), u32>
+        requires trees { MakesTrees ledger.now.key.secret self.now }
+        requires kept { IsSomeBinding ledger.now.records binding.now }
+        requires room { length out.old ≡ signature_size ledger.now.key.secret }
+        ensures sound { OnOk result (damaged_in ledger.now.key (bottom_of ledger.now.key.secret) ledger.now.records
+            binding.now.tree ≡ None) }
+        ensures damaged { IfErr result (λ k. damaged_in ledger.now.key (bottom_of ledger.now.key.secret)
+            ledger.now.records binding.now.tree ≡ Some k) }
+        ensures signature { OnOk result ((k : ℕ) (bound : Bound)
+            → kept_of ledger.now.key.secret ledger.now.records (k, bound) ≡ binding.now
+            → out.new ≡ signature_at ledger.now.key ledger.now.records k bound) }
+    {
+        let key = ledger.key();
+        let (tree, leaf, digest) = (binding.tree, binding.leaf, binding.digest);
+        match self {
+            SecretTrees::Chain(trees) => {
+                let level = key.secret.levels() - 1;
+                let mut links = ArrayVec::new();
+                let last = trees.chain_to(ledger, caches, level, tree, leaf, &mut links, progress)?;
+                links.push(last.signing(binding.randomizer, digest));
+                write_chain(&key.secret, &links, out);
+                Ok(())
+            }
+            SecretTrees::Xmss(secret) => {
+                let mut nodes = [[0; 32]; 20];
+                let path = &mut nodes[..usize::from(secret.tree.height())];
+                caches.xmss_link(*secret, &key.root, leaf, path, progress)?;
+                let randomizer = xmss::randomizer(secret, leaf);
+                xmss::write_signature(secret, leaf, &randomizer, &digest, path, out);
+                Ok(())
+            }
+        }
+    }
 }
 
 impl<S: Store, R: Source> Signer<S, R> {
@@ -55,120 +88,41 @@ impl<S: Store, R: Source> Signer<S, R> {
     {
         // The caches are taken out, so that `self` can be lent beside them.
         let mut caches = self.caches.take();
-        let answer = match KeyTrees::of(&self.ledger.key().secret) {
-            Ok(trees) => self.repeat_chain(&mut caches, &trees, binding, message, out, progress),
-            Err(secret) => self.repeat_xmss(&mut caches, &secret, binding, message, out, progress),
-        };
+        let answer = self.repeat_with(&mut caches, binding, message, out, progress);
         self.caches = caches;
         answer
     }
 
-    // Makes the missing caches for a bound name: one for each current tree that is older than the binding.
-    fn cache_bound<P: TreeProgress>(
-        &self,
-        caches: &mut Caches,
-        trees: &KeyTrees,
-        binding: &Binding,
-        progress: &P,
-    ) -> Result<(), SignFault>
-        requires trees { UnderKey self.now.records (AreTreesOf trees.now) }
-        ensures fault { IfErr result (λ fault. fault ≡ SignFault.OutOfMemory) }
-        ensures lacking { OnErr result (UnderKey self.now.records (λ key.
-            LacksCache key self.now.records (Some (bottom_of key.secret)) binding.now.place caches.old)) }
-    {
-        let bottom = self.ledger.key().secret.levels() - 1;
-        caches
-            .keep_chain(
-                trees,
-                &self.ledger,
-                bottom,
-                binding.place,
-                Some(binding),
-                progress,
-            )
-            .map_err(|_| SignFault::OutOfMemory)
-    }
-
-    // `repeat` for a key of LMS or HSS.
+    // As `repeat`, with the caches taken out.
     #[inline(never)]
-    pub(super) fn repeat_chain<M: Message, P: TreeProgress>(
+    fn repeat_with<M: Message, P: TreeProgress>(
         &self,
         caches: &mut Caches,
-        trees: &KeyTrees,
         binding: &Binding,
         message: &mut M,
         out: &mut Vec<u8>,
         progress: &P,
     ) -> Result<(), SignFault>
-        requires trees { UnderKey self.now.records (AreTreesOf trees.now) }
         requires kept { IsSomeBinding self.now.records binding.now }
         ensures { RepeatsBy M.Message (state_of self.now) binding.now caches.old caches.new message.old message.new
             out.old out.new result }
     {
-        let Binding {
-            leaf,
-            randomizer,
-            tree,
-            ..
-        } = *binding;
         let secret = &self.ledger.key().secret;
-        let identifier = trees.secret_at(&self.ledger, tree).identifier;
-        let one_time = LmOts { identifier, leaf };
-        let digest = read_digest(&one_time, &randomizer, message)?;
-        if digest != binding.digest {
-            return Err(SignFault::Changed);
-        }
-        make_room(secret, out)?;
-        self.cache_bound(caches, trees, binding, progress)?;
+        let trees = SecretTrees::of(secret);
+        let (tree, leaf, place) = (binding.tree, binding.leaf, binding.place);
         let bottom = secret.levels() - 1;
-        let mut links = ArrayVec::new();
-        let last = trees
-            .chain_to(
-                &self.ledger,
-                caches,
-                bottom,
-                tree,
-                leaf,
-                &mut links,
-                progress,
-            )
-            .map_err(SignFault::Damaged)?;
-        links.push(last.signing(randomizer, digest));
-        write_chain(secret, &links, out);
-        Ok(())
-    }
-
-    // `repeat` for a key of XMSS.
-    #[inline(never)]
-    pub(super) fn repeat_xmss<M: Message, P: TreeProgress>(
-        &self,
-        caches: &mut Caches,
-        secret: &XmssSecret,
-        binding: &Binding,
-        message: &mut M,
-        out: &mut Vec<u8>,
-        progress: &P,
-    ) -> Result<(), SignFault>
-        requires key { UnderKey self.now.records (IsXmssKey secret.now) }
-        requires kept { IsSomeBinding self.now.records binding.now }
-        ensures { RepeatsBy M.Message (state_of self.now) binding.now caches.old caches.new message.old message.new
-            out.old out.new result }
-    {
-        let leaf = binding.leaf;
-        let root = self.ledger.key().root;
-        let randomizer = xmss::randomizer(secret, leaf);
-        let digest = read_xmss_digest(&randomizer, &root, leaf, message)?;
+        // 27, 21
+        let digest = trees.digest(&self.ledger, tree, leaf, &binding.randomizer, message)?;
         if digest != binding.digest {
             return Err(SignFault::Changed);
         }
-        make_room(&self.ledger.key().secret, out)?;
-        let mut nodes = [[0; 32]; 20];
-        let path = &mut nodes[..usize::from(secret.tree.height())];
-        cache_xmss(caches, secret, leaf, progress)?;
-        caches
-            .xmss_link(*secret, &root, leaf, path, progress)
+        // 29
+        make_room(secret, out)?;
+        caches.keep_trees(&trees, &self.ledger, bottom, place, Some(binding), progress)?;
+        // 28
+        trees
+            .write_bound(&self.ledger, caches, binding, out, progress)
             .map_err(SignFault::Damaged)?;
-        xmss::write_signature(secret, leaf, &randomizer, &digest, path, out);
         Ok(())
     }
 }

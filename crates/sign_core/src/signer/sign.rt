@@ -14,7 +14,8 @@ ghost use Rattle.xmss.specs.Digest.{message_digest_of as xmss_digest_of};
 
 use super::Signer;
 use crate::fault::SignFault;
-use crate::key_trees::KeyTrees;
+use crate::key_trees::SecretTrees;
+use crate::ledger::Ledger;
 use crate::progress::TreeProgress;
 use crate::source::Source;
 use lmots::LmOts;
@@ -52,6 +53,41 @@ pub(super) fn read_xmss_digest<M: Message>(
     message_digest_from(randomizer, root, leaf, message).map_err(|_| SignFault::MessageRead)
 }
 
+impl SecretTrees {
+    ghost use Rattle.std.specs.Prelude.{ℕ};
+    ghost use Rattle.state_file.specs.Laws.{bottom_of};
+    ghost use Rattle.sign_core.specs.Textbook.{digest_at, tree_before};
+    ghost use Rattle.sign_core.specs.inner.Links.{MakesTrees};
+
+    // The digest of a message that a leaf of the tree at a place signs: Q by this C, or M' by the leaf's own randomizer.
+    pub(super) fn digest<M: Message>(
+        &self,
+        ledger: &Ledger,
+        place: u32,
+        leaf: u32,
+        randomizer: &[u8; 32],
+        message: &mut M,
+    ) -> Result<[u8; 32], SignFault>
+        requires { MakesTrees ledger.now.key.secret self.now }
+        ensures digest { (k : ℕ) → tree_before (bottom_of ledger.now.key.secret) ledger.now.records k ≡ place →
+            Digests M.transition M.remaining (digest_at ledger.now.key ledger.now.records k leaf randomizer.now) result
+            message.old message.new }
+        ensures fault { IfErr result (λ fault. fault ≡ SignFault.MessageRead) }
+    {
+        let key = ledger.key();
+        match self {
+            SecretTrees::Chain(trees) => {
+                let identifier = trees.secret_at(ledger, place).identifier;
+                read_digest(&LmOts { identifier, leaf }, randomizer, message)
+            }
+            SecretTrees::Xmss(secret) => {
+                let randomizer = xmss::randomizer(secret, leaf);
+                read_xmss_digest(&randomizer, &key.root, leaf, message)
+            }
+        }
+    }
+}
+
 impl<S: Store, R: Source> Signer<S, R> {
     /// How many leaves the cache of a level's current tree has made, at most `u64::MAX`; None where the level has no
     /// cache of its current tree.
@@ -69,13 +105,13 @@ impl<S: Store, R: Source> Signer<S, R> {
         if level >= secret.levels() {
             return None;
         }
-        match KeyTrees::of(secret) {
-            Ok(trees) => {
+        match SecretTrees::of(secret) {
+            SecretTrees::Chain(trees) => {
                 let tree = self.ledger.current(level)?;
                 let secret = trees.secret_at(&self.ledger, tree.place);
                 self.caches.leaves(level, &secret)
             }
-            Err(secret) => self.caches.xmss_leaves(&secret),
+            SecretTrees::Xmss(secret) => self.caches.xmss_leaves(&secret),
         }
     }
 
@@ -160,8 +196,8 @@ impl<S: Store, R: Source> Signer<S, R> {
         let level = self.ledger.deepest().ok_or(SignFault::Exhausted)?;
         // 30, 29
         self.prepare(level, out, progress)?;
-        match KeyTrees::of(&self.ledger.key().secret) {
-            Ok(trees) => {
+        match SecretTrees::of(&self.ledger.key().secret) {
+            SecretTrees::Chain(trees) => {
                 let (mut above, last) = trees
                     .standing(&self.ledger, &mut self.caches, level, progress)
                     .map_err(SignFault::Damaged)?;
@@ -169,7 +205,7 @@ impl<S: Store, R: Source> Signer<S, R> {
                 self.fulfil(&trees, name, message, &mut above, last, out, progress)
             }
             // 28, 27, 25
-            Err(secret) => self.bind_xmss(&secret, name, message, out, progress),
+            SecretTrees::Xmss(secret) => self.bind_xmss(&secret, name, message, out, progress),
         }
     }
 

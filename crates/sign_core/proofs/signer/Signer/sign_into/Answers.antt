@@ -9,6 +9,7 @@ use Rattle.sign_core.specs.Signer.{IsSigner, KeepsForRepeat, Signs, is_before_re
 use Rattle.sign_core.specs.Signing.{UnderKey, answered_with}
 use Rattle.sign_core.specs.Textbook.{damaged_in, tree_before, trees_of}
 use Rattle.sign_core.specs.declared.fault.SignFault.TheVariants.{Damaged}
+use Rattle.sign_core.specs.inner.Links.{MakesTrees}
 use Rattle.sign_core.specs.inner.Signing.{Binds, CanBind, Fulfils, IsBindingOf}
 use Rattle.sign_core.proofs.ChainParts.{same_key}
 use Rattle.sign_core.proofs.Leaves.{deepest_is}
@@ -106,7 +107,7 @@ returns-in_err-prepare-clause-step g c =
 
 pub standing-requires-clause-trees : goal.standing-requires-clause-trees
 standing-requires-clause-trees g c =
-    ap (λ (k : Key). trees_of k.secret) (sym c.key.ensures.key) ∙ c.in-Ok.ensures.trees
+    ap (λ (k : Key). trees_of k.secret) (sym c.key.ensures.key) ∙ subst (MakesTrees c.key.result.now.secret) c.in-Chain.is c.of.ensures
 
 pub standing-requires-clause-level : goal.standing-requires-clause-level
 standing-requires-clause-level g c =
@@ -151,18 +152,18 @@ fulfil-requires-clause-can g c =
     let keyed = ap (λ w. key_in w.records) (sym c.self.view_is) ∙ c.self.invariant.1 in
     let made = c.in_ok-prepare.ensures.room c.self.inside.ledger.key keyed in
     let same = ap (λ x. view_of whole.store whole.random whole.ledger x whole.is_open) c.standing.ensures.caches ∙ c.self-2.view_is in
-    let value = linked_value c.standing.result c.map_err.result _ c.map_err.ensures.cases c.in_ok-above-in-Ok.was in
-    let count : length c.in_ok-above-in-Ok.above.items ≡ c.in_ok-level.level =
+    let value = linked_value c.standing.result c.map_err.result _ c.map_err.ensures.cases c.in_ok-above-in-Chain.was in
+    let count : length c.in_ok-above-in-Chain.above.items ≡ c.in_ok-level.level =
     subst (λ s. IfOk s (λ chain. length chain.0.items ≡ c.in_ok-level.level)) value c.standing.ensures.count in
     let can = can_bind g.S.Store.most v mid c.args.name.now c.in_ok-level.level (length c.deref_mut.result.now) (vec_capacity c.args.out.now)
     (length c.prepare.new.out.items) _ made.keeps unbound short c.in_ok-prepare.ensures.room (ap length c.deref_mut.ensures.value) in
-    subst (λ w. UnderKey w.records (λ key. CanBind (g.S.Store.most w.store) (levels_of key.secret - length c.in_ok-above-in-Ok.above.items) c.args.name.now
+    subst (λ w. UnderKey w.records (λ key. CanBind (g.S.Store.most w.store) (levels_of key.secret - length c.in_ok-above-in-Chain.above.items) c.args.name.now
     (length c.deref_mut.result.now) w)) (sym same)
     (λ key is. subst (λ n. CanBind (g.S.Store.most mid.store) (levels_of key.secret - n) c.args.name.now (length c.deref_mut.result.now) mid)
     (sym count) (can key is))
 
-pub returns-in_err-above-in-Ok-clause-step : goal.returns-in_err-above-in-Ok-clause-step
-returns-in_err-above-in-Ok-clause-step g c =
+pub returns-in_err-above-in-Chain-clause-step : goal.returns-in_err-above-in-Chain-clause-step
+returns-in_err-above-in-Chain-clause-step g c =
     let unbound = none_mapped (kept_of c.self.inside.ledger.key.secret c.args.self.now.records) (binding_in c.args.self.now.records c.args.name.now)
     (ap (λ w. binding_kept c.self.inside.ledger.key.secret w.records c.args.name.now) (sym c.self.view_is) ∙ sym c.find.ensures ∙ is_none c.find.result c.in_default.not-Some) in
     let short : UnderKey c.args.self.now.records (λ key. is_long key c.args.name.now ≡ false) = λ key keyed. sym (c.is_long.ensures key keyed) ∙ c.if-is_long.false in
@@ -177,14 +178,14 @@ returns-in_err-above-in-Ok-clause-step g c =
     let i = whole.ledger in
     let same = ap (λ x. view_of whole.store whole.random whole.ledger x whole.is_open) c.standing.ensures.caches ∙ c.self-2.view_is in
     let own : i.key ≡ key = same_key mid.records i.key key (ap (λ w. key_in w.records) (sym c.self-2.view_is) ∙ c.self-2.invariant.1) still in
-    let answer : c.from_residual-in_err-above-in-Ok.result ≡ Err c.in_err-above-in-Ok.field-0.0 = search rules in
-    let (slot, is, damaged) = fault_of c.standing.result c.map_err.result c.in_err-above-in-Ok.field-0.0
+    let answer : c.from_residual-in_err-above-in-Chain.result ≡ Err c.in_err-above-in-Chain.field-0.0 = search rules in
+    let (slot, is, damaged) = fault_of c.standing.result c.map_err.result c.in_err-above-in-Chain.field-0.0
     (λ k. damaged_in i.key c.in_ok-level.level i.records (tree_before c.in_ok-level.level i.records (length i.records)) ≡ Some k)
-    c.map_err.ensures.cases c.in_err-above-in-Ok.was c.standing.ensures.damaged in
+    c.map_err.ensures.cases c.in_err-above-in-Chain.was c.standing.ensures.damaged in
     let here = subst (λ k. damaged_in k c.in_ok-level.level mid.records (tree_before c.in_ok-level.level mid.records (length mid.records)) ≡ Some slot) own
     (subst (λ w. damaged_in i.key c.in_ok-level.level w.records (tree_before c.in_ok-level.level w.records (length w.records)) ≡ Some slot) c.self-2.view_is damaged) in
     subst (λ w. Signs g.S.Store g.R.Source g.M.Message v w c.args.name.now c.args.message.now c.args.message.now (vec_capacity c.args.out.now)
-    (answered_with c.from_residual-in_err-above-in-Ok.result c.prepare.new.out.items)) (sym same)
+    (answered_with c.from_residual-in_err-above-in-Chain.result c.prepare.new.out.items)) (sym same)
     (subst (λ a. Signs g.S.Store g.R.Source g.M.Message v mid c.args.name.now c.args.message.now c.args.message.now (vec_capacity c.args.out.now)
     (answered_with a c.prepare.new.out.items)) (sym (answer ∙ ap Err is))
     (binds_signs g.S.Store g.R.Source g.M.Message v mid mid c.args.name.now c.args.message.now c.args.message.now (vec_capacity c.args.out.now)
@@ -194,8 +195,8 @@ returns-in_err-above-in-Ok-clause-step g c =
     (subst (IsSigner g.S.Store) c.self-2.view_is c.self-2.invariant.0)
     (λ left honest running since. g.met.S.Store.leaves_nothing_else mid.store left honest running since) here)))
 
-pub returns-in_ok-above-in-Ok-clause-step : goal.returns-in_ok-above-in-Ok-clause-step
-returns-in_ok-above-in-Ok-clause-step g c =
+pub returns-in_ok-above-in-Chain-clause-step : goal.returns-in_ok-above-in-Chain-clause-step
+returns-in_ok-above-in-Chain-clause-step g c =
     let unbound = none_mapped (kept_of c.self.inside.ledger.key.secret c.args.self.now.records) (binding_in c.args.self.now.records c.args.name.now)
     (ap (λ w. binding_kept c.self.inside.ledger.key.secret w.records c.args.name.now) (sym c.self.view_is) ∙ sym c.find.ensures ∙ is_none c.find.result c.in_default.not-Some) in
     let short : UnderKey c.args.self.now.records (λ key. is_long key c.args.name.now ≡ false) = λ key keyed. sym (c.is_long.ensures key keyed) ∙ c.if-is_long.false in
@@ -210,10 +211,10 @@ returns-in_ok-above-in-Ok-clause-step g c =
     let i = whole.ledger in
     let same = ap (λ x. view_of whole.store whole.random whole.ledger x whole.is_open) c.standing.ensures.caches ∙ c.self-2.view_is in
     let own : i.key ≡ key = same_key mid.records i.key key (ap (λ w. key_in w.records) (sym c.self-2.view_is) ∙ c.self-2.invariant.1) still in
-    let value = linked_value c.standing.result c.map_err.result _ c.map_err.ensures.cases c.in_ok-above-in-Ok.was in
-    let count : length c.in_ok-above-in-Ok.above.items ≡ c.in_ok-level.level =
+    let value = linked_value c.standing.result c.map_err.result _ c.map_err.ensures.cases c.in_ok-above-in-Chain.was in
+    let count : length c.in_ok-above-in-Chain.above.items ≡ c.in_ok-level.level =
     subst (λ s. IfOk s (λ chain. length chain.0.items ≡ c.in_ok-level.level)) value c.standing.ensures.count in
-    let sound = linked_ok c.standing.result c.map_err.result _ _ c.map_err.ensures.cases c.in_ok-above-in-Ok.was c.standing.ensures.sound in
+    let sound = linked_ok c.standing.result c.map_err.result _ _ c.map_err.ensures.cases c.in_ok-above-in-Chain.was c.standing.ensures.sound in
     let here = subst (λ k. damaged_in k c.in_ok-level.level mid.records (tree_before c.in_ok-level.level mid.records (length mid.records)) ≡ None) own
     (subst (λ w. damaged_in i.key c.in_ok-level.level w.records (tree_before c.in_ok-level.level w.records (length w.records)) ≡ None) c.self-2.view_is sound) in
     let at = ap (λ w. deepest key.secret w.records) (sym c.self.view_is) ∙ sym c.deepest.ensures ∙ some in
@@ -222,7 +223,7 @@ returns-in_ok-above-in-Ok-clause-step g c =
     (subst (λ n. Fulfils g.S.Store g.R.Source g.M.Message c.args.name.now (bottom_of key.secret - n) mid c.fulfil.new.self c.args.message.now
     c.fulfil.new.message (answered_with c.fulfil.result c.fulfil.new.out) key) count
     (subst (λ w. UnderKey w.records (λ key. Fulfils g.S.Store g.R.Source g.M.Message c.args.name.now
-    (bottom_of key.secret - length c.in_ok-above-in-Ok.above.items) w c.fulfil.new.self c.args.message.now c.fulfil.new.message
+    (bottom_of key.secret - length c.in_ok-above-in-Chain.above.items) w c.fulfil.new.self c.args.message.now c.fulfil.new.message
     (answered_with c.fulfil.result c.fulfil.new.out) key)) same c.fulfil.ensures key still))
     made.does.0.is_open (deepest_is key.secret v.records c.in_ok-level.level at).0 in
     let fits : length c.fulfil.new.out ≡ c.prepare.new.out.len = search rules in
@@ -232,8 +233,8 @@ returns-in_ok-above-in-Ok-clause-step g c =
     (vec_capacity c.args.out.now) c.in_ok-level.level key (answered_with c.fulfil.result c.fulfil.new.out) keyed c.in_ok-check_open.ensures.open c.in_ok-check_open.ensures.stays
     unbound (short key keyed) at made.keeps made.spare made.does.0 binds)
 
-pub returns-in-Err-clause-step : goal.returns-in-Err-clause-step
-returns-in-Err-clause-step g c =
+pub returns-in-Xmss-clause-step : goal.returns-in-Xmss-clause-step
+returns-in-Xmss-clause-step g c =
     let unbound = none_mapped (kept_of c.self.inside.ledger.key.secret c.args.self.now.records) (binding_in c.args.self.now.records c.args.name.now)
     (ap (λ w. binding_kept c.self.inside.ledger.key.secret w.records c.args.name.now) (sym c.self.view_is) ∙ sym c.find.ensures ∙ is_none c.find.result c.in_default.not-Some) in
     let short : UnderKey c.args.self.now.records (λ key. is_long key c.args.name.now ≡ false) = λ key keyed. sym (c.is_long.ensures key keyed) ∙ c.if-is_long.false in
@@ -247,7 +248,7 @@ returns-in-Err-clause-step g c =
     let still = ap key_in made.keeps.records ∙ keyed in
     let own : c.key.result.now ≡ key =
     same_key mid.records c.key.result.now key (ap (λ w. key_in w.records) (sym c.self-2.view_is) ∙ c.key.ensures.first) still in
-    let one : levels_of key.secret ≡ 1 = ap (λ k. levels_of k.secret) (sym own) ∙ ap levels_of c.in-Err.ensures.xmss in
+    let one : levels_of key.secret ≡ 1 = ap (λ k. levels_of k.secret) (sym own) ∙ ap levels_of (subst (MakesTrees c.key.result.now.secret) c.in-Xmss.is c.of.ensures) in
     let within = (deepest_is key.secret i.records c.in_ok-level.level (sym c.deepest.ensures ∙ some)).0 in
     let top : 0 ≡ c.in_ok-level.level = omega (arith, one, within) in
     let fits : length c.bind_xmss.new.out ≡ c.prepare.new.out.len = search rules in

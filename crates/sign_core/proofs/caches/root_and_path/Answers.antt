@@ -1,7 +1,7 @@
 use Rattle.std.proofs.Common.{rules, ◌≡◌, length, ap, sym, refl, ◌∙◌}
 use Rattle.merkle.specs.Tree.{Leaves}
 use Rattle.sign_core.proofs.TreeParts.{path_along, root_along}
-use Rattle.sign_core.proofs.roots.root_and_path.Goals as goal
+use Rattle.sign_core.proofs.caches.root_and_path.Goals as goal
 
 pub returns-clause-root : goal.returns-clause-root
 returns-clause-root g c =
