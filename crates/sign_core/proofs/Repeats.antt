@@ -173,11 +173,11 @@ same_size own key capacity is = subst (λ (k : Key). capacity < signature_size k
 
 -- ---- what answers a place as a fault
 
--- a refusal is answered, whatever the value
+-- a refusal is the answer, whatever the value
 pub refused_with : {A B : Type 0} (answer : Result A SignFault) (value : B) (fault : SignFault) → answer ≡ Err fault → Err fault ≡ answered_with answer value
 refused_with answer value fault is = ap (λ a. answered_with a value) (sym is)
 
--- the fault that is answered is that of a place
+-- the fault is `Damaged` of a place with P
 pub fault_of : {A : Type 0} (linked : Result A ℕ) (mapped : Result A SignFault) (fault : SignFault) (P : ℕ → Type 0)
     → MatchResult linked (λ x. mapped ≡ Ok x) (λ k. IsErrAnd mapped (λ e. e ≡ Damaged k)) → mapped ≡ Err fault → IfErr linked P
     → (k : ℕ) × (fault ≡ Damaged k) × P k
@@ -216,7 +216,7 @@ xmss_chain : (records : List Record) (key : Key) (secret : XmssSecret) (k : ℕ)
 xmss_chain records key secret k P keyed of_key each =
     subst P (sym (xmss_damaged records key secret k of_key)) (key_chain records key P keyed each)
 
--- and by the tree of a binding
+-- the same for the tree of a binding
 pub xmss_bound_chain : (records : List Record) (key : Key) (secret : XmssSecret) (name : List ℕ) (binding : Binding) (P : Option ℕ → Type 0)
     → key_in records ≡ Some key → IsXmssKey secret key → IsBindingOf records binding key name
     → ((rest : List Record) → P (damaged_in key 0 (KeyRecord key ∷ rest) 0))
@@ -246,14 +246,13 @@ bound_chain key trees records name binding legal keyed these kept =
       subst (λ (b : Binding). b.leaf < 2 ^ height_of (secret_at trees records b.tree).pair.tree) found.is inside,
     )
 
--- what new links sign with
 pub links_signs : (links above old : List Link) (link : Link) (rest : List Signing) → signings_of above ≡ signings_of old ++ rest
     → links ≡ above ++ link ∷ [] → old ≡ [] → signings_of links ≡ rest ++ signing_of_link link ∷ []
 links_signs links above old link rest signs same none =
     ap signings_of same ∙ map-append signing_of_link above (link ∷ [])
     ∙ ap (λ l. l ++ signing_of_link link ∷ []) (signs ∙ ap (λ l. signings_of l ++ rest) none)
 
--- They sign as a binding's chain does.
+-- links that sign as a binding's chain does
 pub links_bound : (trees : Trees) (records : List Record) (level : ℕ) (secret : Secret) (k : ℕ) (bound : Bound) (binding : Binding) (signings : List Signing)
     → level ≡ bottom_of secret → kept_of secret records (k, bound) ≡ binding
     → signings ≡ signings_above trees level records binding.tree

@@ -73,7 +73,7 @@ impl<X: TreeSecret> TreeCache<X> {
     }
 }
 
-// Writes the authentication path of a leaf, and answers the root of a tree of this height.
+// Writes the authentication path of a leaf, and answers the root. Each leaf is made once.
 fn root_and_path<T: TreeHash>(
     tree: &mut T,
     height: u8,

@@ -36,7 +36,7 @@ pub(crate) enum SecretTrees {
 impl SecretTrees {
     ghost use Rattle.sign_core.specs.inner.Links.{MakesTrees};
 
-    /// Those of a key. LMS has one level.
+    /// The trees of a key. An LMS key has one level.
     pub(crate) fn of(secret: &Secret) -> Self
         ensures { MakesTrees secret.now result }
     {
@@ -255,8 +255,8 @@ impl Caches {
     ghost use Rattle.sign_core.specs.Caches.{LacksCache, LacksLevel};
     ghost use Rattle.sign_core.specs.inner.Links.{AreTreesOf, MakesTrees};
 
-    /// Makes the caches that a signature needs, down to a level whose current tree stands before a place, each unless it
-    /// is there.
+    /// Makes the missing caches of the current trees from the top down to a level, for trees whose records stand before a
+    /// place.
     pub(crate) fn keep_trees<P: TreeProgress>(
         &mut self,
         trees: &SecretTrees,
@@ -283,9 +283,8 @@ impl Caches {
         }
     }
 
-    /// Makes the caches of the current LMS trees from the top down to a level whose records stand before a place, each
-    /// unless it is there. A cache that is made keeps the block of the leaf by which its tree is to sign: under a name
-    /// that is bound, or where none is given, under a new one.
+    // The same for LMS trees. A new cache keeps the block of the leaf by which its tree is to sign: for the binding, or
+    // without one for a new name.
     fn keep_chain<P: TreeProgress>(
         &mut self,
         trees: &KeyTrees,

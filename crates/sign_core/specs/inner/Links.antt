@@ -28,12 +28,12 @@ trees_in trees = record { top = trees.top; pairs = trees.levels }
 abbrev pub AreTreesOf : KeyTrees → Key → Type 0
 AreTreesOf trees key = trees_of key.secret ≡ Some (trees_in trees)
 
--- These are the trees of a secret.
+-- The trees of a key's secret, in any scheme.
 abbrev pub MakesTrees : Secret → SecretTrees → Type 0
 MakesTrees secret (Chain trees) = trees_of secret ≡ Some (trees_in trees)
 MakesTrees secret (XmssTree own) = secret ≡ Xmss own
 
--- A tree of a level stands at a place: the Key's, of level 0, or that of an Extend of the level.
+-- A tree of a level stands at a place: the Key's at level 0, else the tree of an Extend of the level.
 abbrev pub IsTreeAt : List Record → (level place : ℕ) → Type 0
 IsTreeAt records zero place = place ≡ 0
 IsTreeAt records (suc level) place =

@@ -25,7 +25,7 @@ impl SecretTrees {
     ghost use Rattle.sign_core.specs.Textbook.{damaged_in, signature_at};
     ghost use Rattle.sign_core.specs.inner.Links.{MakesTrees};
 
-    // Writes the signature of a binding over the whole of `out`; or answers the place of the first record of its trees
+    // Writes the signature of a binding over the whole of `out`. Or answers the place of the first record of its trees
     // that isn't sound.
     #[inline(never)]
     fn write_bound<P: TreeProgress>(

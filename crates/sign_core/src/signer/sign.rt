@@ -59,7 +59,7 @@ impl SecretTrees {
     ghost use Rattle.sign_core.specs.Textbook.{digest_at, tree_before};
     ghost use Rattle.sign_core.specs.inner.Links.{MakesTrees};
 
-    // The digest of a message that a leaf of the tree at a place signs: Q by this C, or M' by the leaf's own randomizer.
+    // The digest of a message by a leaf of the tree at a place: Q with this C, or M' with the leaf's own randomizer.
     pub(super) fn digest<M: Message>(
         &self,
         ledger: &Ledger,
