@@ -39,7 +39,8 @@ impl<X: TreeSecret> Model for TreeCache<X> {
 }
 
 impl<X: TreeSecret> TreeCache<X> {
-    // Makes each leaf of the tree, once, and keeps the block of this leaf; where there is no such leaf, that of the last.
+    // Makes each leaf of the tree, once, and keeps the block of this leaf, or where there is no such leaf, of the last
+    // one.
     fn new<P: TreeProgress>(
         alloc: Global,
         level: u8,
