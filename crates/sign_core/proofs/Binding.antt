@@ -1,7 +1,7 @@
 -- The ends of a binding: its draws, then the message, then the append of its record.
 use Rattle.std.proofs.Common.{◌≡◌, ◌∙◌, refl, sym, ap, ap₂, subst, inl, ℕ, ◌+◌, ◌-◌, ◌<◌, ◌^◌, Bool, true, false, List, [], ◌∷◌, ◌++◌, length, map}
 use Rattle.std.proofs.Common.{Option, Some, None, Result, Ok, Err, MatchResult, IfErr, OnOk, IsErrAnd, append-nil, arith}
-use Rattle.std.specs.Prelude.{not, is_some, replicate, unwrap_or, ◌&&◌}
+use Rattle.std.specs.Prelude.{not, is_some, replicate, unwrap_or, ◌&&◌, IfOk, if◌then◌else◌}
 use Rattle.std.specs.List.{concat}
 use Rattle.std.specs.Cmp.Lexicographic.{bytes_decides}
 use Rattle.std.proofs.Math.Seq.{take-length}
@@ -41,7 +41,7 @@ use Rattle.sign_core.specs.inner.Links.{AreMade, IsMade, signing_of_link, signin
 use Rattle.sign_core.specs.Caches.{Cached}
 use Rattle.sign_core.specs.inner.Signer.{Adds, added}
 use Rattle.sign_core.specs.Signer.{Ends, IsRead, IsTied, View, is_before_draws, is_of_append, is_out_of_memory, is_random_failed, is_store_failed, signature_size, state_of, view_of}
-use Rattle.sign_core.specs.inner.Signing.{Binds, Does, Fulfils, Stands, StandsIn, WritesChain, pairs_of}
+use Rattle.sign_core.specs.inner.Signing.{Does, DrawsRandomizer, Fulfils, IsRandomizer, Stands, WritesChain, pairs_of}
 use Rattle.sign_core.specs.Signing.{IsXmssKey}
 use Rattle.sign_core.specs.Ledger.{Table}
 use Rattle.sign_core.specs.World.{Chance, Fate, Outcome, acked, answered, appended, cut_new, cut_old, drawing, new_bound, no_memory}
@@ -226,21 +226,14 @@ drawn_randomizer (Xmss secret) trees randomizer these = absurd (cc)
 pub tree_at_end : (records : List Record) (level tree : ℕ) → current level records ≡ Some tree → tree_before level records (length records) ≡ tree
 tree_at_end records level tree is = ap (λ l. unwrap_or (current level l) 0) (take-length records) ∙ ap (λ o. unwrap_or o 0) is
 
--- the record that binds a name to the next leaf of a standing chain is the world's
-pub bound_of_chain : (records : List Record) (key : Key) (trees : Trees) (above : List Link) (last : SigningTree) (name : List ℕ) (bound : Bound) (text : List ℕ)
-    → key_in records ≡ Some key → trees_of key.secret ≡ Some trees → Stands key trees records (bottom_of key.secret) above last
-    → bound.name ≡ name → bound.leaf ≡ last.leaf
-    → bound.digest ≡ message_digest_of last.secret.identifier last.leaf bound.randomizer text
+-- the record that binds a name to the next leaf is the world's
+pub bound_next : (records : List Record) (key : Key) (name : List ℕ) (bound : Bound) (text : List ℕ) → bound.name ≡ name
+    → bound.leaf ≡ next_at key.secret records (bottom_of key.secret)
+    → bound.digest ≡ digest_at key records (length records) bound.leaf bound.randomizer text
     → bound ≡ new_bound key records name (next_at key.secret records (bottom_of key.secret)) bound.randomizer text
-bound_of_chain records key trees above last name bound text keyed these stands named leaf_is digest_is =
-    let bottom = bottom_of key.secret in
-    let leaf : bound.leaf ≡ next_at key.secret records bottom = leaf_is ∙ stands.leaf in
-    let secret : last.secret ≡ secret_at trees records (tree_before bottom records (length records)) =
-    stands.secret ∙ ap (secret_at trees records) (sym (tree_at_end records bottom stands.tree stands.current_is)) in
-    let digest : bound.digest ≡ digest_at key records (length records) (next_at key.secret records bottom) bound.randomizer text =
-    digest_is ∙ ap₂ (λ (s : LmsSecret) leaf. message_digest_of s.identifier leaf bound.randomizer text) secret stands.leaf
-    ∙ sym (leaf_digest records key trees (length records) (next_at key.secret records bottom) bound.randomizer text keyed these) in
-    λ i. record { name = named i; leaf = leaf i; randomizer = bound.randomizer; digest = digest i }
+bound_next records key name bound text named leaf digest =
+    let digest_is = digest ∙ ap (λ l. digest_at key records (length records) l bound.randomizer text) leaf in
+    λ i. record { name = named i; leaf = leaf i; randomizer = bound.randomizer; digest = digest_is i }
 
 pub bound_follows : (records : List Record) (key : Key) (tree : ℕ) (name : List ℕ) (bound : Bound) → key_in records ≡ Some key → has_moved records ≡ false
     → current (bottom_of key.secret) records ≡ Some tree → bound.leaf ≡ next_at key.secret records (bottom_of key.secret)
@@ -256,37 +249,70 @@ bound_follows records key tree name bound keyed stays at leaf free named unbound
     ap (λ o. can_follow o records (BoundRecord bound)) keyed
     ∙ ap₂ (λ moved can. not moved && can) stays (ap₂ (λ two h. two && h) (ap₂ (λ f o. f && not (is_some o)) is none) has)
 
-pub chain_follows_bound : (records : List Record) (key : Key) (trees : Trees) (above : List Link) (last : SigningTree) (name : List ℕ) (bound : Bound)
-    → key_in records ≡ Some key → trees_of key.secret ≡ Some trees → has_moved records ≡ false
-    → Stands key trees records (bottom_of key.secret) above last → bound.name ≡ name → bound.leaf ≡ last.leaf → binding_in records name ≡ None
-    → can_follow (key_in records) records (BoundRecord bound) ≡ true
-chain_follows_bound records key trees above last name bound keyed these stays stands named leaf unbound =
-    bound_follows records key stands.tree name bound keyed stays stands.current_is (leaf ∙ stands.leaf) stands.free named unbound
-    (drawn_randomizer key.secret trees bound.randomizer these).2
+-- a leaf is free under a standing chain
+pub standing_free : (key : Key) (trees : Trees) (records : List Record) (level : ℕ) (above : List Link) (last : SigningTree)
+    → Stands key trees records level above last → 0 < free_at key.secret records level
+standing_free key trees records level above last stands =
+    let is : free_at key.secret records level ≡ leaves_at key.secret level - next_at key.secret records level =
+    ap (λ o. if is_some o then leaves_at key.secret level - next_at key.secret records level else 0) stands.current_is in
+    omega (arith, is, stands.free)
 
--- ---- a binding under LMS or HSS
+-- ---- C for a binding
 
-chain_sizes : (secret : Secret) (trees : Trees) (randomizer : List ℕ) → trees_of secret ≡ Some trees → length randomizer ≡ 32 → AreBytes randomizer
+chain_possible : (secret : Secret) (trees : Trees) (randomizer : List ℕ) → trees_of secret ≡ Some trees → AreFields (32 ∷ []) (randomizer ∷ [])
     → AreFields (randomizer_sizes secret) (randomizer ∷ [])
-chain_sizes (Lms secret) trees randomizer these sized bytes = (sized, bytes, tt)
-chain_sizes (Hss levels identifier seed) trees randomizer these sized bytes = (sized, bytes, tt)
-chain_sizes (Xmss secret) trees randomizer these sized bytes = absurd (none-some _ these)
+chain_possible (Lms secret) trees randomizer these are = are
+chain_possible (Hss levels identifier seed) trees randomizer these are = are
+chain_possible (Xmss secret) trees randomizer these are = absurd (none-some _ these)
+
+-- a key of LMS or HSS draws it
+pub chain_randomizer : (secret : Secret) (trees : Trees) (before after : ℕ) (upcoming left : Option (List ℕ)) (result : Result (List ℕ) SignFault)
+    → trees_of secret ≡ Some trees → DrawsBytes before after upcoming left result → IfOk result (λ bytes. AreFields (32 ∷ []) (bytes ∷ []))
+    → DrawsRandomizer secret before after upcoming left result
+chain_randomizer secret trees before after upcoming left (Ok randomizer) these draws are =
+    let made = drawn_randomizer secret trees randomizer these in record {
+      fields = randomizer ∷ [];
+      made = made.0;
+      possible = chain_possible secret trees randomizer these are;
+      failures = draws.0;
+      source = one_field upcoming left randomizer draws.1;
+      fits = made.2;
+    }
+chain_randomizer secret trees before after upcoming left (Err fault) these draws are =
+    let (of_source, once, nothing) = failed_draw before after upcoming left fault draws in
+    ((drawn_randomizer secret trees [] these).1, of_source, once, nothing)
+
+-- XMSS records zeros
+pub xmss_randomizer : (secret : Secret) (own : XmssSecret) (failures : ℕ) (upcoming : Option (List ℕ)) → secret ≡ Xmss own
+    → DrawsRandomizer secret failures failures upcoming upcoming (Ok (replicate 32 0))
+xmss_randomizer secret own failures upcoming is =
+    let zeros : IsRandomizer (Xmss own) failures failures upcoming upcoming (replicate 32 0) = record {
+      fields = [];
+      made = refl;
+      possible = tt;
+      failures = refl;
+      source = gives_nothing upcoming;
+      fits = (bytes_decides (replicate 32 0) (replicate 32 0)).1 refl;
+    } in
+    subst (λ s. IsRandomizer s failures failures upcoming upcoming (replicate 32 0)) (sym is) zeros
+
+-- ---- a binding
 
 module _ {S R M : Type 0} (g : store.Ghosts S) (r : source.Ghosts R) (m : message.Ghosts M) (name : List ℕ) (kept_in : S) (random mid : R) (ledger : Table)
-    (is_open : Bool) (before after : M) (key : Key) (trees : Trees) (these : trees_of key.secret ≡ Some trees) where
+    (is_open : Bool) (before after : M) (key : Key) where
+  -- the source fails
   pub undrawn : {caches : Cached} (fault : SignFault) → is_open ≡ true → IsTied g kept_in ledger.records → after ≡ before
       → LeavesItsList g kept_in
-      → DrawsBytes (r.failures random) (r.failures mid) (r.upcoming random) (r.upcoming mid) (Err fault)
+      → DrawsRandomizer key.secret (r.failures random) (r.failures mid) (r.upcoming random) (r.upcoming mid) (Err fault)
       → Fulfils g r m name 0 (view_of kept_in random ledger caches is_open) (view_of kept_in mid ledger caches is_open) before after (Err fault) key
-  undrawn {caches = caches} fault opened tied unread only draws =
-      let (of_source, once, nothing) = failed_draw (r.failures random) (r.failures mid) (r.upcoming random) (r.upcoming mid) fault draws in
+  undrawn {caches = caches} fault opened tied unread only (none, of_source, once, nothing) =
       subst (λ (f : SignFault). Fulfils g r m name 0 (view_of kept_in random ledger caches is_open) (view_of kept_in mid ledger caches is_open) before after (Err f) key)
       (sym of_source) (record {
         trees = [];
         bound = record { fields = []; fate = acked };
         given = None;
         outcome = left_so g r m kept_in random mid ledger is_open before after {A = List ℕ} true RandomFailed [] false;
-        step = λ all. ap (λ o. drawing [] (bound_with (open_on ledger.records) key name o None acked)) (drawn_randomizer key.secret trees [] these).1;
+        step = λ all. ap (λ o. drawing [] (bound_with (open_on ledger.records) key name o None acked)) none;
         trees_possible = tt;
         bound_possible = tt;
         does = does_kept g r m kept_in random mid ledger is_open before after {A = List ℕ} true RandomFailed [] false None opened tied only (λ n. refl) (λ n. refl)
@@ -297,72 +323,47 @@ module _ {S R M : Type 0} (g : store.Ghosts S) (r : source.Ghosts R) (m : messag
 
   pub unread_bound : {caches : Cached} (randomizer : List ℕ) → is_open ≡ true → IsTied g kept_in ledger.records
       → LeavesItsList g kept_in
-      → DrawsBytes (r.failures random) (r.failures mid) (r.upcoming random) (r.upcoming mid) (Ok randomizer) → length randomizer ≡ 32 → AreBytes randomizer
+      → IsRandomizer key.secret (r.failures random) (r.failures mid) (r.upcoming random) (r.upcoming mid) randomizer
       → CantBeRead m.transition before after
       → Fulfils g r m name 0 (view_of kept_in random ledger caches is_open) (view_of kept_in mid ledger caches is_open) before after (Err MessageRead) key
-  unread_bound randomizer opened tied only draws sized bytes fails = record {
+  unread_bound randomizer opened tied only drawn fails = record {
     trees = [];
-    bound = record { fields = randomizer ∷ []; fate = acked };
+    bound = record { fields = drawn.fields; fate = acked };
     given = None;
-    outcome = left_so g r m kept_in random mid ledger is_open before after {A = List ℕ} true MessageRead (concat (randomizer ∷ []) ++ []) true;
-    step = λ all. ap (λ o. drawing (concat (randomizer ∷ [])) (bound_with (open_on ledger.records) key name o None acked))
-        (drawn_randomizer key.secret trees randomizer these).0;
+    outcome = left_so g r m kept_in random mid ledger is_open before after {A = List ℕ} true MessageRead (concat drawn.fields ++ []) true;
+    step = λ all. ap (λ o. drawing (concat drawn.fields) (bound_with (open_on ledger.records) key name o None acked)) drawn.made;
     trees_possible = tt;
-    bound_possible = chain_sizes key.secret trees randomizer these sized bytes;
-    does = does_kept g r m kept_in random mid ledger is_open before after {A = List ℕ} true MessageRead (concat (randomizer ∷ []) ++ []) true None opened tied only
-        (λ n. refl) (λ n. refl) (one_field (r.upcoming random) (r.upcoming mid) randomizer draws.1) draws.0 fails;
+    bound_possible = drawn.possible;
+    does = does_kept g r m kept_in random mid ledger is_open before after {A = List ℕ} true MessageRead (concat drawn.fields ++ []) true None opened tied only
+        (λ n. refl) (λ n. refl) drawn.source drawn.failures fails;
     not_before_draws = refl;
     lacks_tree = λ is same. absurd (cc (is));
   }
 
   -- the record is appended, or its append fails
   pub bound_added : {caches : Cached} (new : View S R) (bound : Bound) (text : List ℕ) (a : Result (Unit {0}) SignFault) (answer : Result (List ℕ) SignFault) → is_open ≡ true
-      → DrawsBytes (r.failures random) (r.failures mid) (r.upcoming random) (r.upcoming mid) (Ok bound.randomizer) → length bound.randomizer ≡ 32
-      → AreBytes bound.randomizer → ReadWhole m.transition m.remaining text before after
+      → IsRandomizer key.secret (r.failures random) (r.failures mid) (r.upcoming random) (r.upcoming mid) bound.randomizer
+      → ReadWhole m.transition m.remaining text before after
       → bound ≡ new_bound key ledger.records name (next_at key.secret ledger.records (bottom_of key.secret)) bound.randomizer text
       → Adds g (view_of kept_in mid ledger caches is_open) new (BoundRecord bound) a
       → answer ≡ answered_with a (signature_at key (ledger.records ++ BoundRecord bound ∷ []) (length ledger.records) bound)
       → Fulfils g r m name 0 (view_of kept_in random ledger caches is_open) new before after answer key
-  bound_added {caches = caches} new bound text a answer opened draws sized bytes whole is adds answers =
-      let randomizer = bound.randomizer in
+  bound_added {caches = caches} new bound text a answer opened drawn whole is adds answers =
       let sign : Bound → List Record → List ℕ = λ b records. signature_at key records (length ledger.records) b in
       subst (λ (x : Result (List ℕ) SignFault). Fulfils g r m name 0 (view_of kept_in random ledger caches is_open) new before after x key) (sym answers) (record {
         trees = [];
-        bound = record { fields = randomizer ∷ []; fate = adds.fate };
+        bound = record { fields = drawn.fields; fate = adds.fate };
         given = Some text;
-        outcome = append_so g r m kept_in random mid ledger is_open before after (BoundRecord bound) (sign bound) (concat (randomizer ∷ [])) adds.fate;
-        step = λ all. ap (λ o. drawing (concat (randomizer ∷ [])) (bound_with (open_on ledger.records) key name o (Some text) adds.fate))
-            (drawn_randomizer key.secret trees randomizer these).0
-            ∙ ap (λ (b : Bound). append_so g r m kept_in random mid ledger is_open before after (BoundRecord b) (sign b) (concat (randomizer ∷ [])) adds.fate)
-            (sym is);
+        outcome = append_so g r m kept_in random mid ledger is_open before after (BoundRecord bound) (sign bound) (concat drawn.fields) adds.fate;
+        step = λ all. ap (λ o. drawing (concat drawn.fields) (bound_with (open_on ledger.records) key name o (Some text) adds.fate)) drawn.made
+            ∙ ap (λ (b : Bound). append_so g r m kept_in random mid ledger is_open before after (BoundRecord b) (sign b) (concat drawn.fields) adds.fate) (sym is);
         trees_possible = tt;
-        bound_possible = chain_sizes key.secret trees randomizer these sized bytes;
-        does = does_added g r m kept_in random mid ledger is_open before after new (BoundRecord bound) (sign bound) (concat (randomizer ∷ [])) text a opened adds
-            (one_field (r.upcoming random) (r.upcoming mid) randomizer draws.1) draws.0 whole;
+        bound_possible = drawn.possible;
+        does = does_added g r m kept_in random mid ledger is_open before after new (BoundRecord bound) (sign bound) (concat drawn.fields) text a opened adds
+            drawn.source drawn.failures whole;
         not_before_draws = same_fault is_before_draws a _ ∙ comes_after_draws g (view_of kept_in mid ledger caches is_open) new (BoundRecord bound) a adds;
         lacks_tree = counted g 1 (view_of kept_in random ledger caches is_open) new _ (counts_answered is_out_of_memory _ _ a _ adds.refusals);
       })
-
--- The record that binds a name to the next leaf of a standing chain is the world's. It is appended, or its append
--- fails.
-pub bound_below : {S R M : Type 0} {caches : Cached} (g : store.Ghosts S) (r : source.Ghosts R) (m : message.Ghosts M) (name : List ℕ) (kept_in : S) (random mid : R)
-    (ledger : Table) (is_open : Bool) (before after : M) (key : Key) (trees : Trees) (v new : View S R) (above : List Link) (last : SigningTree) (bound : Bound)
-    (text : List ℕ) (a : Result (Unit {0}) SignFault) (answer : Result (List ℕ) SignFault) → view_of kept_in random ledger caches is_open ≡ v → v.is_open ≡ true
-    → key_in v.records ≡ Some key → StandsIn trees v.records above last key → length above ≡ bottom_of key.secret → bound.name ≡ name
-    → bound.leaf ≡ last.leaf → bound.digest ≡ message_digest_of last.secret.identifier last.leaf bound.randomizer text
-    → DrawsBytes (r.failures random) (r.failures mid) (r.upcoming random) (r.upcoming mid) (Ok bound.randomizer) → length bound.randomizer ≡ 32
-    → AreBytes bound.randomizer → ReadWhole m.transition m.remaining text before after → Adds g (view_of kept_in mid ledger caches is_open) new (BoundRecord bound) a
-    → answer ≡ answered_with a (signature_at key (ledger.records ++ BoundRecord bound ∷ []) (length ledger.records) bound)
-    → Fulfils g r m name 0 v new before after answer key
-bound_below {S = S} {R = R} {M = M} g r m name kept_in random mid ledger is_open before after key trees v new above last bound text a answer is opened keyed
-    standing bottom named leaf digest draws sized bytes whole adds answers =
-    let (these, stands_at) = subst (λ (w : View S R). StandsIn trees w.records above last key) (sym is) standing in
-    let stands = subst (λ n. Stands key trees ledger.records n above last) bottom stands_at in
-    let first = ap (λ w. key_in w.records) is ∙ keyed in
-    let made = bound_of_chain ledger.records key trees above last name bound text first these stands named leaf digest in
-    subst (λ (w : View S R). Fulfils g r m name 0 w new before after answer key) is
-    (bound_added g r m name kept_in random mid ledger is_open before after key trees these new bound text a answer (ap (λ w. w.is_open) is ∙ opened) draws
-    sized bytes whole made adds answers)
 
 -- ---- the links of a signature
 
@@ -424,110 +425,3 @@ xmss_next_inside records key secret of_key free =
 
 pub xmss_room : (key : Key) (secret : XmssSecret) (size : ℕ) → IsXmssKey secret key → size ≡ signature_size key.secret → size ≡ xmss_signature_len_of secret.tree
 xmss_room key secret size of_key is = is ∙ ap signature_size of_key
-
--- the record that binds a name to the next leaf is the world's
-pub bound_of_xmss : (records : List Record) (key own : Key) (secret : XmssSecret) (name : List ℕ) (bound : Bound) (text : List ℕ) → IsXmssKey secret key → own ≡ key
-    → bound.name ≡ name → bound.leaf ≡ next_at key.secret records (bottom_of key.secret) → bound.randomizer ≡ replicate 32 0
-    → bound.digest ≡ xmss_digest_in secret own.root bound.leaf text
-    → bound ≡ new_bound key records name (next_at key.secret records (bottom_of key.secret)) (replicate 32 0) text
-bound_of_xmss records key own secret name bound text of_key same named leaf none is =
-    let next = next_at key.secret records (bottom_of key.secret) in
-    let digest : bound.digest ≡ digest_at key records (length records) next (replicate 32 0) text =
-    is ∙ ap₂ (λ (k : Key) n. xmss_digest_in secret k.root n text) same leaf
-    ∙ sym (xmss_leaf_digest records key secret (length records) next (replicate 32 0) text of_key) in
-    λ i. record { name = named i; leaf = leaf i; randomizer = none i; digest = digest i }
-
-pub xmss_follows : (records : List Record) (key : Key) (secret : XmssSecret) (name : List ℕ) (bound : Bound) → key_in records ≡ Some key
-    → has_moved records ≡ false → IsXmssKey secret key → 0 < free_at key.secret records 0 → bound.leaf ≡ next_at key.secret records (bottom_of key.secret)
-    → bound.name ≡ name → binding_in records name ≡ None → bound.randomizer ≡ replicate 32 0
-    → can_follow (key_in records) records (BoundRecord bound) ≡ true
-xmss_follows records key secret name bound keyed stays of_key free leaf named unbound none =
-    let low : next_at key.secret records 0 < leaves_at key.secret 0 = omega (arith, free) in
-    let bottom : bottom_of key.secret ≡ 0 = ap bottom_of of_key in
-    bound_follows records key 0 name bound keyed stays (ap (λ s. current (bottom_of s) records) of_key) leaf
-    (subst (λ n. next_at key.secret records n < leaves_at key.secret n) (sym bottom) low) named unbound
-    (ap₂ has_randomizer of_key none ∙ (bytes_decides (replicate 32 0) (replicate 32 0)).1 refl)
-
-module _ {S R M : Type 0} (g : store.Ghosts S) (r : source.Ghosts R) (m : message.Ghosts M) (name : List ℕ) (v : View S R) (before after : M) (key : Key)
-    (secret : XmssSecret) (of_key : IsXmssKey secret key) (keyed : key_in v.records ≡ Some key) where
-  -- the table that a signer's value shows
-  abbrev shown : Table
-  shown = record { key = key; records = v.records; spare = v.spare }
-
-  -- nothing is drawn
-  abbrev undrawn_chance : Fate → Option (List ℕ) → Chance
-  undrawn_chance fate given = record { has_room = true; trees = []; bound = record { fields = []; fate = fate }; given = given }
-
-  step_of_xmss : (fate : Fate) (given : Option (List ℕ)) → damaged_in key 0 v.records 0 ≡ None
-      → bound_sound (state_of v) key name (undrawn_chance fate given) 0 (damaged_in key 0 v.records (tree_before 0 v.records (length v.records)))
-      ≡ drawing [] (bound_with (open_on v.records) key name (Some (replicate 32 0)) given fate)
-  step_of_xmss fate given sound =
-      ap (bound_sound (state_of v) key name (undrawn_chance fate given) 0) sound
-      ∙ ap (λ s. fulfilled key name (undrawn_chance fate given) (bottom_of s - 0) [] v.records) of_key
-      ∙ ap (λ s. drawing [] (bound_with (open_on v.records) key name (randomizer_from s []) given fate)) of_key
-
-  pub damaged_binds : {A : Type 0} (linked : Result A ℕ) (mapped : Result A SignFault) (fault : SignFault) → IsTied g v.store v.records → after ≡ before
-      → LeavesItsList g v.store
-      → MatchResult linked (λ x. mapped ≡ Ok x) (λ k. IsErrAnd mapped (λ e. e ≡ Damaged k)) → mapped ≡ Err fault
-      → ((rest : List Record) → IfErr linked (λ k. damaged_in key 0 (KeyRecord key ∷ rest) 0 ≡ Some k))
-      → Binds g r m name 0 v v before after (Err fault) key
-  damaged_binds linked mapped fault tied unread only cases was chain =
-      let is_damaged : Option ℕ → ℕ → Type 0 = λ d k. d ≡ Some k in
-      let (k, of_place, at) = fault_of linked mapped fault _ cases was (key_chain v.records key (λ d. IfErr linked (is_damaged d)) keyed chain) in
-      subst (λ (f : SignFault). Binds g r m name 0 v v before after (Err f) key) (sym of_place) (record {
-        chance = undrawn_chance acked None;
-        outcome = left_so g r m v.store v.random v.random shown v.is_open before after {A = List ℕ} v.is_open (Damaged k) [] false;
-        step = ap (bound_sound (state_of v) key name (undrawn_chance acked None) 0) at;
-        possible = record { trees = tt; bound = tt };
-        room = refl;
-        does = does_kept g r m v.store v.random v.random shown v.is_open before after {A = List ℕ} v.is_open (Damaged k) [] false None refl tied only
-            (λ n. refl) (λ n. refl) (gives_nothing (r.upcoming v.random)) refl unread;
-        keeps = keeps_at_all g true (levels_of key.secret - 0) v v (Err (Damaged k)) (same_view v) (λ _. refl) (λ _ is. cc (is));
-        not_before_caches = refl;
-      })
-
-  pub unread_binds : {A : Type 0} (linked : Result A ℕ) (mapped : Result A SignFault) (x : A) → v.is_open ≡ true → IsTied g v.store v.records
-      → LeavesItsList g v.store
-      → MatchResult linked (λ y. mapped ≡ Ok y) (λ k. IsErrAnd mapped (λ e. e ≡ Damaged k)) → mapped ≡ Ok x
-      → ((rest : List Record) → OnOk linked (damaged_in key 0 (KeyRecord key ∷ rest) 0 ≡ None))
-      → CantBeRead m.transition before after → Binds g r m name 0 v v before after (Err MessageRead) key
-  unread_binds linked mapped x opened tied only cases was chain fails =
-      let sound = linked_ok linked mapped x _ cases was (key_chain v.records key (λ d. OnOk linked (d ≡ None)) keyed chain) in record {
-        chance = undrawn_chance acked None;
-        outcome = left_so g r m v.store v.random v.random shown v.is_open before after {A = List ℕ} true MessageRead [] true;
-        step = step_of_xmss acked None sound;
-        possible = record { trees = tt; bound = tt };
-        room = refl;
-        does = does_kept g r m v.store v.random v.random shown v.is_open before after {A = List ℕ} true MessageRead [] true None opened tied only
-            (λ n. refl) (λ n. refl) (gives_nothing (r.upcoming v.random)) refl fails;
-        keeps = keeps_at_all g true (levels_of key.secret - 0) v v (Err MessageRead) (same_view v) (λ _. refl) (λ _ is. cc (is));
-        not_before_caches = refl;
-      }
-
-  -- the record is appended, or its append fails
-  pub added_binds : {A : Type 0} (linked : Result A ℕ) (mapped : Result A SignFault) (x : A) (new : View S R) (bound : Bound) (text : List ℕ)
-      (a : Result (Unit {0}) SignFault) (answer : Result (List ℕ) SignFault) → v.is_open ≡ true
-      → MatchResult linked (λ y. mapped ≡ Ok y) (λ k. IsErrAnd mapped (λ e. e ≡ Damaged k)) → mapped ≡ Ok x
-      → ((rest : List Record) → OnOk linked (damaged_in key 0 (KeyRecord key ∷ rest) 0 ≡ None))
-      → ReadWhole m.transition m.remaining text before after
-      → bound ≡ new_bound key v.records name (next_at key.secret v.records (bottom_of key.secret)) (replicate 32 0) text
-      → Adds g v new (BoundRecord bound) a
-      → answer ≡ answered_with a (signature_at key (v.records ++ BoundRecord bound ∷ []) (length v.records) bound)
-      → Binds g r m name 0 v new before after answer key
-  added_binds linked mapped x new bound text a answer opened cases was chain whole is adds answers =
-      let sound = linked_ok linked mapped x _ cases was (key_chain v.records key (λ d. OnOk linked (d ≡ None)) keyed chain) in
-      let sign : Bound → List Record → List ℕ = λ b records. signature_at key records (length v.records) b in
-      let does = does_added g r m v.store v.random v.random shown v.is_open before after new (BoundRecord bound) (sign bound) [] text a opened adds
-      (gives_nothing (r.upcoming v.random)) refl whole in
-      subst (λ (y : Result (List ℕ) SignFault). Binds g r m name 0 v new before after y key) (sym answers) (record {
-        chance = undrawn_chance adds.fate (Some text);
-        outcome = append_so g r m v.store v.random v.random shown v.is_open before after (BoundRecord bound) (sign bound) [] adds.fate;
-        step = step_of_xmss adds.fate (Some text) sound
-            ∙ ap (λ (b : Bound). append_so g r m v.store v.random v.random shown v.is_open before after (BoundRecord b) (sign b) [] adds.fate) (sym is);
-        possible = record { trees = tt; bound = tt };
-        room = refl;
-        does = does;
-        keeps = keeps_after_draws g r m (levels_of key.secret - 0) v new before after _ _ _ (same_fault is_before_draws a _ ∙ comes_after_draws g v new (BoundRecord bound) a adds)
-            (counted g (levels_of key.secret - 0) v new _ (counts_answered is_out_of_memory _ _ a _ adds.refusals)) does;
-        not_before_caches = after_caches _ (same_fault is_before_draws a _ ∙ comes_after_draws g v new (BoundRecord bound) a adds);
-      })

@@ -38,7 +38,8 @@ impl<X: TreeSecret> Model for TreeCache<X> {
 }
 
 impl<X: TreeSecret> TreeCache<X> {
-    // Makes each leaf of the tree, once. Keeps the block of `leaf`, or the last one if the tree has no such leaf.
+    // Makes each leaf of the tree, once, and keeps the block of this leaf, or where there is no such leaf, of the last
+    // one.
     fn new<P: TreeProgress>(
         alloc: Global,
         level: u8,

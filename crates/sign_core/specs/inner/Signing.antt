@@ -6,6 +6,7 @@ use Rattle.typecodes.specs.declared.message.Message as message
 use Rattle.state_file.specs.declared.record.Bound.{Bound}
 use Rattle.state_file.specs.declared.record.Key.{Key}
 use Rattle.state_file.specs.declared.record.Record.{Record}
+use Rattle.state_file.specs.declared.record.Record.TheVariants.{Bound as BoundRecord}
 use Rattle.state_file.specs.declared.store.Store as store
 use Rattle.state_file.specs.Disk.{Counts}
 use Rattle.state_file.specs.Laws.{bottom_of, leaves_at, levels_of}
@@ -17,7 +18,8 @@ use Rattle.sign_core.specs.declared.links.Link.{Link}
 use Rattle.sign_core.specs.declared.links.SigningTree.{SigningTree}
 use Rattle.sign_core.specs.declared.signer.bind.TreeSeeds.{TreeSeeds}
 use Rattle.sign_core.specs.Source.{Provides}
-use Rattle.sign_core.specs.Records.{binding_in, current, has_identifier, has_moved, is_long, key_in, next_at}
+use Rattle.sign_core.specs.Records.{binding_in, current, has_identifier, has_moved, has_randomizer, is_long, key_in}
+use Rattle.sign_core.specs.Records.{next_at}
 use Rattle.sign_core.specs.inner.Links.{AreMade, IsMade, signings_of}
 use Rattle.sign_core.specs.Events.{AreDrawsOf, AreFields, IsTreeDraw, randomizer_sizes, tree_sizes}
 use Rattle.sign_core.specs.Signer.{Ends, IsRead, KeepsAtRefusal, LacksTree, RefusesAfterDraws, UnlessAppended}
@@ -25,9 +27,10 @@ use Rattle.sign_core.specs.Signer.{UsesMemory, View, is_before_caches, is_before
 use Rattle.sign_core.specs.Signer.{is_random_failed, signature_size, state_of}
 use Rattle.sign_core.specs.World.{Chance, Draw, Outcome, State, acked, answered}
 use Rattle.sign_core.specs.inner.Cases.{bound_sound, extended, fulfilled}
-use Rattle.sign_core.specs.World.{open_on}
+use Rattle.sign_core.specs.World.{open_on, randomizer_from}
 use Rattle.sign_core.specs.inner.Cases.{requested_of}
-use Rattle.sign_core.specs.Textbook.{Trees, damaged_in, secret_at, signature_by, signing_of_bound, signings_above}
+use Rattle.sign_core.specs.Textbook.{Trees, damaged_in, secret_at, signature_at, signature_by, signing_of_bound}
+use Rattle.sign_core.specs.Textbook.{signings_above}
 use Rattle.sign_core.specs.Textbook.{tree_before, trees_of}
 use Rattle.typecodes.specs.declared.types.LmsPair.{LmsPair}
 use Rattle.sign_core.specs.declared.ledger.Binding.{Binding}
@@ -95,8 +98,27 @@ DrawsTree records before after upcoming left (Err RandomRepeated) = (identifier 
     × (has_identifier records identifier ≡ true)
 DrawsTree records before after upcoming left (Err _) = ⊥
 
--- What a call does to the signer and its store, by an outcome of the world. The source gave the drawn bytes, and the
--- message is read or as it was. The source's failures and the store's refusals of memory are answered.
+-- C for a binding was drawn, or the zeros of XMSS, for which nothing is drawn.
+pub record IsRandomizer (secret : Secret) (before after : ℕ) (upcoming left : Option (List ℕ)) (randomizer : List ℕ)
+    : Type 0 where
+  pub fields : List (List ℕ)
+  pub made : randomizer_from secret fields ≡ Some randomizer
+  pub possible : AreFields (randomizer_sizes secret) fields
+  pub failures : after ≡ before
+  pub source : Provides upcoming (concat fields ++ []) left
+  pub fits : has_randomizer secret randomizer ≡ true
+
+-- Or the source failed, from which C was to be drawn.
+abbrev pub DrawsRandomizer : Secret → (failures_before failures_after : ℕ) (upcoming left : Option (List ℕ))
+    → Result (List ℕ) SignFault → Type 0
+DrawsRandomizer secret before after upcoming left (Ok randomizer) =
+    IsRandomizer secret before after upcoming left randomizer
+DrawsRandomizer secret before after upcoming left (Err fault) = (randomizer_from secret [] ≡ None)
+    × (fault ≡ RandomFailed) × (after ≡ before + 1) × Provides upcoming [] left
+
+-- What a call does, by an outcome of the world: to the signer and its store; the bytes that were drawn are those that
+-- the source gave; the message is read or as it was; the source's failures and the store's refusals of memory are
+-- answered.
 pub record Does {S R M A : Type 0} (g : store.Ghosts S) (r : source.Ghosts R) (m : message.Ghosts M)
     (old new : View S R) (before after : M) (given : Option (List ℕ)) (outcome : Outcome A)
     (answer : Result A SignFault) : Type 0 where
@@ -142,7 +164,28 @@ pub record Fulfils {S R M : Type 0} (g : store.Ghosts S) (r : source.Ghosts R) (
   pub not_before_draws : is_fault is_before_draws answer ≡ false
   pub lacks_tree : LacksTree g (below + 1) old new answer
 
--- A new name, where there is room, and this level is the deepest with a free leaf.
+-- the binding of a name to the next leaf of the bottom tree, with this C and digest
+abbrev pub bound_to_next : Key → List Record → (name randomizer digest : List ℕ) → Bound
+bound_to_next key records name randomizer digest = record {
+  name = name;
+  leaf = next_at key.secret records (bottom_of key.secret);
+  randomizer = randomizer;
+  digest = digest;
+}
+
+-- What binding a name to the next leaf comes to, by the answer: its signature is that of the record, with this C and
+-- digest; or it is refused.
+abbrev pub BindsNext : {S R M : Type 0} (g : store.Ghosts S) (r : source.Ghosts R) (m : message.Ghosts M)
+    (name : List ℕ) (old new : View S R) (before after : M) (answer : Result (List ℕ × List ℕ) SignFault) (key : Key)
+    → Type 0
+BindsNext g r m name old new before after (Ok (randomizer, digest)) key =
+    let bound = bound_to_next key old.records name randomizer digest in
+    Fulfils g r m name 0 old new before after
+    (Ok (signature_at key (old.records ++ BoundRecord bound ∷ []) (length old.records) bound)) key
+    × (key_in new.records ≡ Some key)
+BindsNext g r m name old new before after (Err fault) key = Fulfils g r m name 0 old new before after (Err fault) key
+
+-- A name that isn't bound, where there is room, and this level is the deepest with a free leaf.
 pub record Binds {S R M : Type 0} (g : store.Ghosts S) (r : source.Ghosts R) (m : message.Ghosts M) (name : List ℕ)
     (level : ℕ) (old new : View S R) (before after : M) (answer : Result (List ℕ) SignFault) (key : Key) : Type 0 where
   pub chance : Chance

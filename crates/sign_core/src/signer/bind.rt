@@ -4,15 +4,15 @@ ghost use Rattle.std.specs.Prelude.{◌≡◌, ◌<◌, ◌-◌, [], None, Some,
 ghost use Rattle.std.specs.Prelude.{◌+◌, IfOk, OnOk};
 ghost use Rattle.sign_core.specs.Caches.{LacksCache};
 ghost use Rattle.state_file.specs.Laws.{levels_of, bottom_of};
-ghost use Rattle.sign_core.specs.Records.{has_moved, free_at};
+ghost use Rattle.sign_core.specs.Records.{binding_in, free_at, has_moved, is_long};
 ghost use Rattle.sign_core.specs.inner.Request.{Prepares};
 ghost use Rattle.sign_core.specs.Signer.{KeepsAll};
-ghost use Rattle.sign_core.specs.inner.Signing.{Binds, CanBind, ChainStands, DrawsTree, Extends, Fulfils, IsReady};
+ghost use Rattle.sign_core.specs.inner.Signing.{Binds, BindsNext, CanBind, ChainStands, DrawsRandomizer, DrawsTree};
+ghost use Rattle.sign_core.specs.inner.Signing.{Extends, Fulfils, IsReady};
 ghost use Rattle.sign_core.specs.Signing.{IsXmssKey, KeepsCapacity, UnderKey, answered_with};
 ghost use Rattle.sign_core.specs.inner.Links.{trees_in};
 
-use super::Signer;
-use super::sign::{read_digest, read_xmss_digest};
+use super::{Signer, draw_field};
 use crate::fault::SignFault;
 use crate::key_trees::{KeyTrees, SecretTrees};
 use crate::ledger::Ledger;
@@ -21,7 +21,6 @@ use crate::progress::TreeProgress;
 use crate::source::{Source, draw};
 use crate::writing::{make_room, write_chain};
 use arrayvec::ArrayVec;
-use lmots::LmOts;
 use state_file::{Bound, Extend, Record, Store};
 use typecodes::{LmsSecret, Message, Name, XmssSecret};
 
@@ -49,6 +48,22 @@ fn draw_tree<R: Source>(random: &mut R, ledger: &Ledger) -> Result<TreeSeeds, Si
         seed,
         randomizer,
     })
+}
+
+impl SecretTrees {
+    ghost use Rattle.state_file.specs.declared.record.Secret.{Secret};
+    ghost use Rattle.sign_core.specs.inner.Links.{MakesTrees};
+
+    // C for a binding. Under XMSS nothing is drawn, and zeros are recorded.
+    fn draw_randomizer<R: Source>(&self, random: &mut R) -> Result<[u8; 32], SignFault>
+        ensures { (secret : Secret) → MakesTrees secret self.now → DrawsRandomizer secret (R.failures random.old)
+            (R.failures random.new) (R.upcoming random.old) (R.upcoming random.new) result }
+    {
+        match self {
+            SecretTrees::Chain(_) => draw_field::<R, 32>(random),
+            SecretTrees::Xmss(_) => Ok([0; 32]),
+        }
+    }
 }
 
 impl<S: Store, R: Source> Signer<S, R> {
@@ -140,8 +155,44 @@ impl<S: Store, R: Source> Signer<S, R> {
         Ok(made)
     }
 
-    // Makes a new name's records below a standing chain, one after the other: an Extend for each level without a tree,
-    // and the Bound. Then it writes the signature.
+    // Binds a name to the next leaf of the bottom tree: C is drawn, the message is read, and the record is appended.
+    // The answer is what the leaf signs with, C and the digest.
+    #[inline(never)]
+    fn bind<M: Message>(
+        &mut self,
+        name: &Name,
+        message: &mut M,
+    ) -> Result<([u8; 32], [u8; 32]), SignFault>
+        requires ready { IsReady (S.most self.old.store) 1 self.old }
+        requires unbound { binding_in self.old.records name.now ≡ None }
+        requires fits { UnderKey self.old.records (λ key. is_long key name.now ≡ false) }
+        requires free { UnderKey self.old.records (λ key.
+            0 < free_at key.secret self.old.records (bottom_of key.secret)) }
+        ensures { UnderKey self.old.records (BindsNext S.Store R.Source M.Message name.now self.old self.new
+            message.old message.new result) }
+    {
+        let secret = &self.ledger.key().secret;
+        let trees = SecretTrees::of(secret);
+        let bottom = secret.levels() - 1;
+        let Some(tree) = self.ledger.current(bottom) else {
+            unreachable!()
+        };
+        let (place, leaf) = (tree.place, tree.next);
+        // 23, 27
+        let randomizer = trees.draw_randomizer(&mut self.random)?;
+        let digest = trees.digest(&self.ledger, place, leaf, &randomizer, message)?;
+        // 29, 25
+        self.add(Record::Bound(Bound {
+            name: *name,
+            leaf,
+            randomizer,
+            digest,
+        }))?;
+        Ok((randomizer, digest))
+    }
+
+    // Makes the wanted records of a new name below a standing chain, one after the other: an Extend for each level that
+    // has no tree, and the Bound. Then it writes the signature.
     #[inline(never)]
     pub(super) fn fulfil<M: Message, P: TreeProgress>(
         &mut self,
@@ -166,17 +217,7 @@ impl<S: Store, R: Source> Signer<S, R> {
             prove!(self.is_open);
             return self.fulfil(trees, name, message, above, made, out, progress);
         }
-        let randomizer = draw::<R, 32>(&mut self.random)?;
-        let leaf = last.leaf;
-        let identifier = last.secret.identifier;
-        let one_time = LmOts { identifier, leaf };
-        let digest = read_digest(&one_time, &randomizer, message)?;
-        self.add(Record::Bound(Bound {
-            name: *name,
-            leaf,
-            randomizer,
-            digest,
-        }))?;
+        let (randomizer, digest) = self.bind(name, message)?;
         above.push(last.signing(randomizer, digest));
         write_chain(&self.ledger.key().secret, above, out);
         Ok(())
@@ -205,14 +246,8 @@ impl<S: Store, R: Source> Signer<S, R> {
         self.caches
             .xmss_link(*secret, &root, leaf, path, progress)
             .map_err(SignFault::Damaged)?;
+        let (_, digest) = self.bind(name, message)?;
         let randomizer = xmss::randomizer(secret, leaf);
-        let digest = read_xmss_digest(&randomizer, &root, leaf, message)?;
-        self.add(Record::Bound(Bound {
-            name: *name,
-            leaf,
-            randomizer: [0; 32],
-            digest,
-        }))?;
         xmss::write_signature(secret, leaf, &randomizer, &digest, path, out);
         Ok(())
     }

@@ -9,8 +9,6 @@ ghost use Rattle.sign_core.specs.Records.{binding_in, is_long};
 ghost use Rattle.sign_core.specs.Signer.{KeepsForRepeat, Signs, is_before_repeat, is_fault};
 ghost use Rattle.sign_core.specs.Signing.{IsXmssKey, KeepsCapacity, UnderKey, answered_with};
 ghost use Rattle.typecodes.specs.Message.{Digests};
-ghost use Rattle.lmots.specs.Key.{message_digest_of};
-ghost use Rattle.xmss.specs.Digest.{message_digest_of as xmss_digest_of};
 
 use super::Signer;
 use crate::fault::SignFault;
@@ -24,42 +22,14 @@ use state_file::Store;
 use typecodes::{Message, Name};
 use xmss::message_digest_from;
 
-// Q of the message that a reader gives, by a leaf's one-time key and C.
-pub(super) fn read_digest<M: Message>(
-    one_time: &LmOts,
-    randomizer: &[u8; 32],
-    message: &mut M,
-) -> Result<[u8; 32], SignFault>
-    ensures digest { Digests M.transition M.remaining
-        (message_digest_of one_time.now.identifier one_time.now.leaf randomizer.now) result message.old message.new }
-    ensures fault { IfErr result (λ fault. fault ≡ SignFault.MessageRead) }
-{
-    one_time
-        .message_digest_from(randomizer, message)
-        .map_err(|_| SignFault::MessageRead)
-}
-
-// M' of the message that a reader gives, by a leaf of an XMSS key with this root, and the leaf's randomizer.
-pub(super) fn read_xmss_digest<M: Message>(
-    randomizer: &[u8; 32],
-    root: &[u8; 32],
-    leaf: u32,
-    message: &mut M,
-) -> Result<[u8; 32], SignFault>
-    ensures digest { Digests M.transition M.remaining (xmss_digest_of randomizer.now root.now leaf) result
-        message.old message.new }
-    ensures fault { IfErr result (λ fault. fault ≡ SignFault.MessageRead) }
-{
-    message_digest_from(randomizer, root, leaf, message).map_err(|_| SignFault::MessageRead)
-}
-
 impl SecretTrees {
     ghost use Rattle.std.specs.Prelude.{ℕ};
     ghost use Rattle.state_file.specs.Laws.{bottom_of};
     ghost use Rattle.sign_core.specs.Textbook.{digest_at, tree_before};
     ghost use Rattle.sign_core.specs.inner.Links.{MakesTrees};
 
-    // The digest of a message by a leaf of the tree at a place: Q with this C, or M' with the leaf's own randomizer.
+    // The digest of a message that a leaf of the tree at a place signs: Q by this C, or M' by the leaf's own
+    // randomizer.
     pub(super) fn digest<M: Message>(
         &self,
         ledger: &Ledger,
@@ -78,11 +48,15 @@ impl SecretTrees {
         match self {
             SecretTrees::Chain(trees) => {
                 let identifier = trees.secret_at(ledger, place).identifier;
-                read_digest(&LmOts { identifier, leaf }, randomizer, message)
+                LmOts { identifier, leaf }
+                    .message_digest_from(randomizer, message)
+                    .map_err(|_| SignFault::MessageRead)
             }
             SecretTrees::Xmss(secret) => {
                 let randomizer = xmss::randomizer(secret, leaf);
-                read_xmss_digest(&randomizer, &key.root, leaf, message)
+                message_digest_from(&randomizer, &key.root, leaf, message).map_err(
+                    |_| SignFault::MessageRead,
+                )
             }
         }
     }
@@ -143,8 +117,8 @@ impl<S: Store, R: Source> Signer<S, R> {
         self.sign_telling(name, message, out, &Silent::new())
     }
 
-    /// As `sign`, telling the progress of each tree that is made: a current or new one, or for a bound name an earlier
-    /// one. It isn't told of a further block of a cache.
+    /// As `sign`, and the progress is told of each tree that is made: of those that stand, of new ones, and under a
+    /// bound name of those that aren't current any more. Of a further block of a cache it isn't told.
     pub fn sign_telling<M: Message, P: TreeProgress>(
         &mut self,
         name: &Name,

@@ -7,13 +7,14 @@ use Rattle.state_file.specs.declared.record.Key.{Key}
 use Rattle.state_file.specs.declared.record.Record.TheVariants.{Bound as BoundRecord}
 use Rattle.sign_core.specs.declared.fault.SignFault.{SignFault}
 use Rattle.sign_core.specs.Signing.{UnderKey, answered_with}
-use Rattle.sign_core.specs.Records.{binding_in, has_moved, is_long, key_in}
+use Rattle.sign_core.specs.Records.{free_at, is_long, key_in}
 use Rattle.sign_core.specs.inner.Links.{trees_in}
 use Rattle.sign_core.specs.Signer.{signature_size, view_of}
-use Rattle.sign_core.specs.inner.Signing.{CanBind, Extends, Fulfils, Stands, StandsIn}
+use Rattle.sign_core.specs.inner.Signing.{CanBind, Extends, Fulfils, IsReady, Stands, StandsIn, bound_to_next}
 use Rattle.sign_core.specs.Textbook.{signature_at, trees_of}
 use Rattle.sign_core.proofs.Adding.{levels_range}
-use Rattle.sign_core.proofs.Binding.{bound_below, chain_follows_bound, key_of_added, standing_made, standing_pairs, standing_signs, undrawn, unread_bound}
+use Rattle.sign_core.proofs.Binding.{standing_free, standing_made, standing_pairs, standing_signs}
+use Rattle.sign_core.proofs.Repeats.{refused_with}
 use Rattle.sign_core.proofs.Fulfils.{Recorded, at_end, fulfils_after, fulfils_refused, is_recorded, key_after, ready_after, unbound_after}
 use Rattle.sign_core.proofs.LedgerReading.{key_levels}
 use Rattle.sign_core.proofs.StandingChain.{at_bottom}
@@ -118,6 +119,36 @@ returns-then-len-from g t c key keyed =
     (fulfils_after g.S.Store g.R.Source g.M.Message a.name.now key below (length a.above.now.items + 1) a.self.now c.extend.new.self c.fulfil.new.self
     a.message.now c.fulfil.new.message (answered_with c.fulfil.result c.fulfil.new.out) at running first (c.fulfil.ensures key next))
 
+pub bind-requires-clause-ready : goal.bind-requires-clause-ready
+bind-requires-clause-ready g t c =
+    let own : key_in c.args.self.now.records ≡ Some c.key.result.now = ap (λ w. key_in w.records) (sym c.self.view_is) ∙ c.key.ensures.first in
+    let low : levels_of c.key.result.now.secret ≤ length c.args.above.now.items + 1 =
+    omega (arith, c.if-len-from.false, c.from.ensures, c.levels.ensures, c.len.ensures.value) in
+    let (bottom, one) = at_bottom c.args.self.now.records c.key.result.now c.key.result.now (trees_in c.args.trees.now) c.args.above.now.items c.args.last
+    own own (c.requires.stands c.key.result.now own) low in
+    subst (λ n. IsReady (g.S.Store.most c.args.self.now.store) n c.args.self.now) one (c.requires.can c.key.result.now own).ready
+
+pub bind-requires-clause-unbound : goal.bind-requires-clause-unbound
+bind-requires-clause-unbound g t c =
+    let own : key_in c.args.self.now.records ≡ Some c.key.result.now = ap (λ w. key_in w.records) (sym c.self.view_is) ∙ c.key.ensures.first in
+    (c.requires.can c.key.result.now own).unbound
+
+pub bind-requires-clause-fits : goal.bind-requires-clause-fits
+bind-requires-clause-fits g t c =
+    let own : key_in c.args.self.now.records ≡ Some c.key.result.now = ap (λ w. key_in w.records) (sym c.self.view_is) ∙ c.key.ensures.first in
+    (c.requires.can c.key.result.now own).fits
+
+pub bind-requires-clause-free : goal.bind-requires-clause-free
+bind-requires-clause-free g t c key keyed =
+    let own : key_in c.args.self.now.records ≡ Some c.key.result.now = ap (λ w. key_in w.records) (sym c.self.view_is) ∙ c.key.ensures.first in
+    let low : levels_of c.key.result.now.secret ≤ length c.args.above.now.items + 1 =
+    omega (arith, c.if-len-from.false, c.from.ensures, c.levels.ensures, c.len.ensures.value) in
+    let (bottom, one) = at_bottom c.args.self.now.records c.key.result.now key (trees_in c.args.trees.now) c.args.above.now.items c.args.last own keyed
+    (c.requires.stands key keyed) low in
+    subst (λ n. 0 < free_at key.secret c.args.self.now.records n) bottom
+    (standing_free key (trees_in c.args.trees.now) c.args.self.now.records (length c.args.above.now.items) c.args.above.now.items c.args.last
+    (c.requires.stands key keyed).1)
+
 pub returns-in_err-randomizer : goal.returns-in_err-randomizer
 returns-in_err-randomizer g t c key keyed =
     let own : key_in c.args.self.now.records ≡ Some c.key.result.now = ap (λ w. key_in w.records) (sym c.self.view_is) ∙ c.key.ensures.first in
@@ -125,120 +156,10 @@ returns-in_err-randomizer g t c key keyed =
     omega (arith, c.if-len-from.false, c.from.ensures, c.levels.ensures, c.len.ensures.value) in
     let (bottom, one) = at_bottom c.args.self.now.records c.key.result.now key (trees_in c.args.trees.now) c.args.above.now.items c.args.last own keyed
     (c.requires.stands key keyed) low in
-    let can = c.requires.can c.key.result.now own in
-    let i = c.self.inside in
-    let v = c.args.self.now in
-    let T = trees_in c.args.trees.now in
     let answer : c.from_residual-in_err-randomizer.result ≡ Err c.in_err-randomizer.field-0.0 = search rules in
-    let opened : i.is_open ≡ true = ap (λ w. w.is_open) c.self.view_is ∙ can.ready.is_open in
     at_end g.S.Store g.R.Source g.M.Message c.args.name.now _ _ _ _ _ key _ _ bottom
-    (subst (λ w. Fulfils g.S.Store g.R.Source g.M.Message c.args.name.now 0 w (view_of i.store c.draw.new.random i.ledger i.caches i.is_open) c.args.message.now
-    c.args.message.now (answered_with c.from_residual-in_err-randomizer.result c.args.out.now) key) c.self.view_is
-    (subst (λ a. Fulfils g.S.Store g.R.Source g.M.Message c.args.name.now 0 (view_of i.store i.random i.ledger i.caches i.is_open)
-    (view_of i.store c.draw.new.random i.ledger i.caches i.is_open) c.args.message.now c.args.message.now (answered_with a c.args.out.now) key) (sym answer)
-    (undrawn g.S.Store g.R.Source g.M.Message c.args.name.now i.store i.random c.draw.new.random i.ledger i.is_open c.args.message.now c.args.message.now key T
-    (c.requires.stands key keyed).0 c.in_err-randomizer.field-0.0 opened (c.self.invariant.0.tied opened) refl
-    (λ left honest running since. g.met.S.Store.leaves_nothing_else i.store left honest running since) c.in_err-randomizer.ensures.drawn)))
-
-pub returns-in_err-digest : goal.returns-in_err-digest
-returns-in_err-digest g t c key keyed =
-    let own : key_in c.args.self.now.records ≡ Some c.key.result.now = ap (λ w. key_in w.records) (sym c.self.view_is) ∙ c.key.ensures.first in
-    let low : levels_of c.key.result.now.secret ≤ length c.args.above.now.items + 1 =
-    omega (arith, c.if-len-from.false, c.from.ensures, c.levels.ensures, c.len.ensures.value) in
-    let (bottom, one) = at_bottom c.args.self.now.records c.key.result.now key (trees_in c.args.trees.now) c.args.above.now.items c.args.last own keyed
-    (c.requires.stands key keyed) low in
-    let can = c.requires.can c.key.result.now own in
-    let i = c.self.inside in
-    let T = trees_in c.args.trees.now in
-    let answer : c.from_residual-in_err-digest.result ≡ Err c.in_err-digest.field-0.0 = search rules in
-    let bytes : AreBytes c.in_ok-randomizer.randomizer = search rules in
-    let opened : i.is_open ≡ true = ap (λ w. w.is_open) c.self.view_is ∙ can.ready.is_open in
-    at_end g.S.Store g.R.Source g.M.Message c.args.name.now _ _ _ _ _ key _ _ bottom
-    (subst (λ w. Fulfils g.S.Store g.R.Source g.M.Message c.args.name.now 0 w (view_of i.store c.draw.new.random i.ledger i.caches i.is_open) c.args.message.now
-    c.read_digest.new.message (answered_with c.from_residual-in_err-digest.result c.args.out.now) key) c.self.view_is
-    (subst (λ a. Fulfils g.S.Store g.R.Source g.M.Message c.args.name.now 0 (view_of i.store i.random i.ledger i.caches i.is_open)
-    (view_of i.store c.draw.new.random i.ledger i.caches i.is_open) c.args.message.now c.read_digest.new.message (answered_with a c.args.out.now) key)
-    (sym (answer ∙ ap Err c.in_err-digest.ensures.fault))
-    (unread_bound g.S.Store g.R.Source g.M.Message c.args.name.now i.store i.random c.draw.new.random i.ledger i.is_open c.args.message.now
-    c.read_digest.new.message key T (c.requires.stands key keyed).0 c.in_ok-randomizer.randomizer opened (c.self.invariant.0.tied opened)
-    (λ left honest running since. g.met.S.Store.leaves_nothing_else i.store left honest running since) c.in_ok-randomizer.ensures.drawn
-    c.in_ok-randomizer.ensures.len bytes c.in_err-digest.ensures.digest)))
-
-pub add-requires-clause-follows : goal.add-requires-clause-follows
-add-requires-clause-follows g t c =
-    let own : key_in c.args.self.now.records ≡ Some c.key.result.now = ap (λ w. key_in w.records) (sym c.self.view_is) ∙ c.key.ensures.first in
-    let low : levels_of c.key.result.now.secret ≤ length c.args.above.now.items + 1 =
-    omega (arith, c.if-len-from.false, c.from.ensures, c.levels.ensures, c.len.ensures.value) in
-    let kept : key_in c.args.self.now.records ≡ Some c.self.inside.ledger.key = ap (λ w. key_in w.records) (sym c.self.view_is) ∙ c.self.invariant.1 in
-    let (bottom, one) = at_bottom c.args.self.now.records c.key.result.now c.self.inside.ledger.key (trees_in c.args.trees.now) c.args.above.now.items
-    c.args.last own kept (c.requires.stands c.self.inside.ledger.key kept) low in
-    let can = c.requires.can c.key.result.now own in
-    let i = c.self.inside in
-    let T = trees_in c.args.trees.now in
-    let first = c.self.invariant.1 in
-    let (these, standing) = subst (λ w. UnderKey w.records (StandsIn T w.records c.args.above.now.items c.args.last)) (sym c.self.view_is) c.requires.stands
-    i.ledger.key first in
-    let stands = subst (λ n. Stands i.ledger.key T i.ledger.records n c.args.above.now.items c.args.last) bottom standing in
-    chain_follows_bound i.ledger.records i.ledger.key T c.args.above.now.items c.args.last c.args.name.now _ first these
-    (ap (λ w. has_moved w.records) c.self.view_is ∙ can.ready.stays) stands refl refl
-    (ap (λ w. binding_in w.records c.args.name.now) c.self.view_is ∙ can.unbound)
-
-pub add-requires-clause-few : goal.add-requires-clause-few
-add-requires-clause-few g t c =
-    let own : key_in c.args.self.now.records ≡ Some c.key.result.now = ap (λ w. key_in w.records) (sym c.self.view_is) ∙ c.key.ensures.first in
-    let low : levels_of c.key.result.now.secret ≤ length c.args.above.now.items + 1 =
-    omega (arith, c.if-len-from.false, c.from.ensures, c.levels.ensures, c.len.ensures.value) in
-    let (bottom, one) = at_bottom c.args.self.now.records c.key.result.now c.key.result.now (trees_in c.args.trees.now) c.args.above.now.items c.args.last
-    own own (c.requires.stands c.key.result.now own) low in
-    let can = c.requires.can c.key.result.now own in
-    subst (λ w. length w.records < g.S.Store.most w.store) (sym c.self.view_is) (omega (arith, can.ready.few, one))
-
-pub add-requires-clause-counted : goal.add-requires-clause-counted
-add-requires-clause-counted g t c =
-    let own : key_in c.args.self.now.records ≡ Some c.key.result.now = ap (λ w. key_in w.records) (sym c.self.view_is) ∙ c.key.ensures.first in
-    let low : levels_of c.key.result.now.secret ≤ length c.args.above.now.items + 1 =
-    omega (arith, c.if-len-from.false, c.from.ensures, c.levels.ensures, c.len.ensures.value) in
-    let (bottom, one) = at_bottom c.args.self.now.records c.key.result.now c.key.result.now (trees_in c.args.trees.now) c.args.above.now.items c.args.last
-    own own (c.requires.stands c.key.result.now own) low in
-    let can = c.requires.can c.key.result.now own in
-    subst (λ w. length w.records < 2 ^ 32 - 1) (sym c.self.view_is) (omega (arith, can.ready.counted, one))
-
-pub add-requires-clause-room : goal.add-requires-clause-room
-add-requires-clause-room g t c takes =
-    let own : key_in c.args.self.now.records ≡ Some c.key.result.now = ap (λ w. key_in w.records) (sym c.self.view_is) ∙ c.key.ensures.first in
-    let low : levels_of c.key.result.now.secret ≤ length c.args.above.now.items + 1 =
-    omega (arith, c.if-len-from.false, c.from.ensures, c.levels.ensures, c.len.ensures.value) in
-    let (bottom, one) = at_bottom c.args.self.now.records c.key.result.now c.key.result.now (trees_in c.args.trees.now) c.args.above.now.items c.args.last
-    own own (c.requires.stands c.key.result.now own) low in
-    let can = c.requires.can c.key.result.now own in
-    subst (λ w. 0 < w.spare) (sym c.self.view_is) (omega (arith, can.ready.room, one))
-
-pub returns-in_err-add : goal.returns-in_err-add
-returns-in_err-add g t c key keyed =
-    let own : key_in c.args.self.now.records ≡ Some c.key.result.now = ap (λ w. key_in w.records) (sym c.self.view_is) ∙ c.key.ensures.first in
-    let low : levels_of c.key.result.now.secret ≤ length c.args.above.now.items + 1 =
-    omega (arith, c.if-len-from.false, c.from.ensures, c.levels.ensures, c.len.ensures.value) in
-    let (bottom, one) = at_bottom c.args.self.now.records c.key.result.now key (trees_in c.args.trees.now) c.args.above.now.items c.args.last own keyed
-    (c.requires.stands key keyed) low in
-    let can = c.requires.can c.key.result.now own in
-    let i = c.self.inside in
-    let records = i.ledger.records in
-    let bytes : AreBytes c.in_ok-randomizer.randomizer = search rules in
-    let (text, whole, digest_is) = c.in_ok-digest.ensures.digest in
-    let bound : Bound = record {
-      name = c.args.name.now;
-      leaf = c.args.last.leaf;
-      randomizer = c.in_ok-randomizer.randomizer;
-      digest = c.in_ok-digest.digest;
-    } in
-    let sig = signature_at key (records ++ BoundRecord bound ∷ []) (length records) bound in
-    let answer : c.from_residual-in_err-add.result ≡ Err c.in_err-add.field-0.0 = search rules in
-    at_end g.S.Store g.R.Source g.M.Message c.args.name.now _ _ _ _ _ key _ _ bottom
-    (bound_below g.S.Store g.R.Source g.M.Message c.args.name.now i.store i.random c.draw.new.random i.ledger i.is_open c.args.message.now
-    c.read_digest.new.message key (trees_in c.args.trees.now) c.args.self.now c.add.new.self c.args.above.now.items c.args.last bound text c.add.result
-    (answered_with c.from_residual-in_err-add.result c.args.out.now) c.self.view_is can.ready.is_open keyed (c.requires.stands key keyed)
-    (bottom) refl refl digest_is c.in_ok-randomizer.ensures.drawn c.in_ok-randomizer.ensures.len bytes whole c.add.ensures.adds
-    (ap (λ a. answered_with a c.args.out.now) answer ∙ ap (λ a. answered_with a sig) (sym c.in_err-add.was)))
+    (subst (λ y. Fulfils g.S.Store g.R.Source g.M.Message c.args.name.now 0 c.args.self.now c.bind.new.self c.args.message.now c.bind.new.message y key)
+    (refused_with c.from_residual-in_err-randomizer.result _ _ answer) (c.in_err-randomizer.ensures key keyed))
 
 pub push-requires : goal.push-requires
 push-requires g t c =
@@ -286,8 +207,8 @@ write_chain-requires-clause-pairs g t c other others =
     let (these, standing) = subst (λ w. UnderKey w.records (StandsIn T w.records c.args.above.now.items c.args.last)) (sym c.self.view_is) c.requires.stands
     i.ledger.key first in
     let stands = subst (λ n. Stands i.ledger.key T i.ledger.records n c.args.above.now.items c.args.last) bottom standing in
-    let own = key_of_added g.S.Store (view_of i.store c.draw.new.random i.ledger i.caches i.is_open) c.add.new.self _ c.add.result c.in_ok-add.field-0 i.ledger.key
-    c.key-2.result.now c.add.ensures.adds c.in_ok-add.was first (ap (λ w. key_in w.records) (sym c.self-2.view_is) ∙ c.key-2.ensures.first) in
+    let own = same_Some c.key-2.result.now i.ledger.key (sym (ap (λ w. key_in w.records) (sym c.self-2.view_is) ∙ c.key-2.ensures.first)
+    ∙ (c.in_ok-randomizer.ensures i.ledger.key kept).1) in
     standing_pairs i.ledger.records i.ledger.key T other c.args.above.now.items c.deref.result.now c.args.last c.signing.result these
     (ap (λ k. trees_of k.secret) (sym own) ∙ others) stands (c.deref.ensures.0 ∙ c.push.ensures.items) c.signing.ensures.tree
 
@@ -305,8 +226,8 @@ write_chain-requires-clause-trees g t c =
     let first = c.self.invariant.1 in
     let (these, standing) = subst (λ w. UnderKey w.records (StandsIn T w.records c.args.above.now.items c.args.last)) (sym c.self.view_is) c.requires.stands
     i.ledger.key first in
-    let own = key_of_added g.S.Store (view_of i.store c.draw.new.random i.ledger i.caches i.is_open) c.add.new.self _ c.add.result c.in_ok-add.field-0 i.ledger.key
-    c.key-2.result.now c.add.ensures.adds c.in_ok-add.was first (ap (λ w. key_in w.records) (sym c.self-2.view_is) ∙ c.key-2.ensures.first) in
+    let own = same_Some c.key-2.result.now i.ledger.key (sym (ap (λ w. key_in w.records) (sym c.self-2.view_is) ∙ c.key-2.ensures.first)
+    ∙ (c.in_ok-randomizer.ensures i.ledger.key kept).1) in
     (T, ap (λ k. trees_of k.secret) own ∙ these)
 
 pub returns : goal.returns
@@ -316,30 +237,16 @@ returns g t c key keyed =
     omega (arith, c.if-len-from.false, c.from.ensures, c.levels.ensures, c.len.ensures.value) in
     let (bottom, one) = at_bottom c.args.self.now.records c.key.result.now key (trees_in c.args.trees.now) c.args.above.now.items c.args.last own keyed
     (c.requires.stands key keyed) low in
-    let can = c.requires.can c.key.result.now own in
-    let i = c.self.inside in
     let T = trees_in c.args.trees.now in
-    let records = i.ledger.records in
-    let bytes : AreBytes c.in_ok-randomizer.randomizer = search rules in
-    let first : key_in records ≡ Some key = ap (λ w. key_in w.records) c.self.view_is ∙ keyed in
-    let (text, whole, digest_is) = c.in_ok-digest.ensures.digest in
-    let (these, standing) = subst (λ w. StandsIn T w.records c.args.above.now.items c.args.last key) (sym c.self.view_is) (c.requires.stands key keyed) in
-    let stands = subst (λ n. Stands key T records n c.args.above.now.items c.args.last) (bottom) standing in
-    let bound : Bound = record {
-      name = c.args.name.now;
-      leaf = c.args.last.leaf;
-      randomizer = c.in_ok-randomizer.randomizer;
-      digest = c.in_ok-digest.digest;
-    } in
-    let sig = signature_at key (records ++ BoundRecord bound ∷ []) (length records) bound in
-    let own = key_of_added g.S.Store (view_of i.store c.draw.new.random i.ledger i.caches i.is_open) c.add.new.self _ c.add.result c.in_ok-add.field-0 key
-    c.key-2.result.now c.add.ensures.adds c.in_ok-add.was first (ap (λ w. key_in w.records) (sym c.self-2.view_is) ∙ c.key-2.ensures.first) in
-    let signs = standing_signs records key c.key-2.result.now T c.args.above.now.items c.deref.result.now c.args.last c.signing.result bound c.write_chain.new.into
-    first own these stands (c.deref.ensures.0 ∙ c.push.ensures.items) c.signing.ensures.tree refl c.signing.ensures.randomizer c.signing.ensures.digest
-    c.write_chain.ensures in
+    let records = c.args.self.now.records in
+    let (these, standing) = c.requires.stands key keyed in
+    let stands = subst (λ n. Stands key T records n c.args.above.now.items c.args.last) bottom standing in
+    let (fulfils, next) = c.in_ok-randomizer.ensures key keyed in
+    let bound = bound_to_next key records c.args.name.now c.in_ok-randomizer.randomizer c.in_ok-randomizer.digest in
+    let own = same_Some c.key-2.result.now key (sym (ap (λ w. key_in w.records) (sym c.self-2.view_is) ∙ c.key-2.ensures.first) ∙ next) in
+    let signs = standing_signs records key c.key-2.result.now T c.args.above.now.items c.deref.result.now c.args.last c.signing.result bound
+    c.write_chain.new.into keyed own these stands (c.deref.ensures.0 ∙ c.push.ensures.items) c.signing.ensures.tree stands.leaf
+    c.signing.ensures.randomizer c.signing.ensures.digest c.write_chain.ensures in
     at_end g.S.Store g.R.Source g.M.Message c.args.name.now _ _ _ _ _ key _ _ bottom
-    (bound_below g.S.Store g.R.Source g.M.Message c.args.name.now i.store i.random c.draw.new.random i.ledger i.is_open c.args.message.now
-    c.read_digest.new.message key T c.args.self.now c.add.new.self c.args.above.now.items c.args.last bound text c.add.result _ c.self.view_is
-    can.ready.is_open keyed (c.requires.stands key keyed) (bottom) refl refl digest_is
-    c.in_ok-randomizer.ensures.drawn c.in_ok-randomizer.ensures.len bytes whole c.add.ensures.adds
-    (ap Ok signs ∙ ap (λ a. answered_with a sig) (sym c.in_ok-add.was)))
+    (subst (λ b. Fulfils g.S.Store g.R.Source g.M.Message c.args.name.now 0 c.args.self.now c.bind.new.self c.args.message.now c.bind.new.message (Ok b) key)
+    (sym signs) fulfils)
