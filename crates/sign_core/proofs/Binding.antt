@@ -249,7 +249,7 @@ bound_follows records key tree name bound keyed stays at leaf free named unbound
     ap (λ o. can_follow o records (BoundRecord bound)) keyed
     ∙ ap₂ (λ moved can. not moved && can) stays (ap₂ (λ two h. two && h) (ap₂ (λ f o. f && not (is_some o)) is none) has)
 
--- a leaf is free under a standing chain
+-- a standing chain has a free leaf
 pub standing_free : (key : Key) (trees : Trees) (records : List Record) (level : ℕ) (above : List Link) (last : SigningTree)
     → Stands key trees records level above last → 0 < free_at key.secret records level
 standing_free key trees records level above last stands =

@@ -38,8 +38,7 @@ impl<X: TreeSecret> Model for TreeCache<X> {
 }
 
 impl<X: TreeSecret> TreeCache<X> {
-    // Makes each leaf of the tree, once, and keeps the block of this leaf, or where there is no such leaf, of the last
-    // one.
+    // Makes each leaf of the tree, once. Keeps the block of `leaf`, or the last one if the tree has no such leaf.
     fn new<P: TreeProgress>(
         alloc: Global,
         level: u8,

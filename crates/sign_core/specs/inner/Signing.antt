@@ -108,7 +108,7 @@ pub record IsRandomizer (secret : Secret) (before after : ℕ) (upcoming left : 
   pub source : Provides upcoming (concat fields ++ []) left
   pub fits : has_randomizer secret randomizer ≡ true
 
--- Or the source failed, from which C was to be drawn.
+-- Or the source failed.
 abbrev pub DrawsRandomizer : Secret → (failures_before failures_after : ℕ) (upcoming left : Option (List ℕ))
     → Result (List ℕ) SignFault → Type 0
 DrawsRandomizer secret before after upcoming left (Ok randomizer) =
@@ -116,9 +116,8 @@ DrawsRandomizer secret before after upcoming left (Ok randomizer) =
 DrawsRandomizer secret before after upcoming left (Err fault) = (randomizer_from secret [] ≡ None)
     × (fault ≡ RandomFailed) × (after ≡ before + 1) × Provides upcoming [] left
 
--- What a call does, by an outcome of the world: to the signer and its store; the bytes that were drawn are those that
--- the source gave; the message is read or as it was; the source's failures and the store's refusals of memory are
--- answered.
+-- What a call does to the signer and its store, by an outcome of the world. The source gave the drawn bytes, and the
+-- message is read or as it was. The source's failures and the store's refusals of memory are answered.
 pub record Does {S R M A : Type 0} (g : store.Ghosts S) (r : source.Ghosts R) (m : message.Ghosts M)
     (old new : View S R) (before after : M) (given : Option (List ℕ)) (outcome : Outcome A)
     (answer : Result A SignFault) : Type 0 where
@@ -173,8 +172,7 @@ bound_to_next key records name randomizer digest = record {
   digest = digest;
 }
 
--- What binding a name to the next leaf comes to, by the answer: its signature is that of the record, with this C and
--- digest; or it is refused.
+-- A name is bound to the next leaf: its signature is the record's, with this C and digest. Or the binding is refused.
 abbrev pub BindsNext : {S R M : Type 0} (g : store.Ghosts S) (r : source.Ghosts R) (m : message.Ghosts M)
     (name : List ℕ) (old new : View S R) (before after : M) (answer : Result (List ℕ × List ℕ) SignFault) (key : Key)
     → Type 0
@@ -185,7 +183,7 @@ BindsNext g r m name old new before after (Ok (randomizer, digest)) key =
     × (key_in new.records ≡ Some key)
 BindsNext g r m name old new before after (Err fault) key = Fulfils g r m name 0 old new before after (Err fault) key
 
--- A name that isn't bound, where there is room, and this level is the deepest with a free leaf.
+-- A new name, where there is room, and this level is the deepest with a free leaf.
 pub record Binds {S R M : Type 0} (g : store.Ghosts S) (r : source.Ghosts R) (m : message.Ghosts M) (name : List ℕ)
     (level : ℕ) (old new : View S R) (before after : M) (answer : Result (List ℕ) SignFault) (key : Key) : Type 0 where
   pub chance : Chance

@@ -155,8 +155,8 @@ impl<S: Store, R: Source> Signer<S, R> {
         Ok(made)
     }
 
-    // Binds a name to the next leaf of the bottom tree: C is drawn, the message is read, and the record is appended.
-    // The answer is what the leaf signs with, C and the digest.
+    // Binds a name to the next leaf of the bottom tree: draws C, reads the message, and appends the record. Answers what
+    // the leaf signs with, C and the digest.
     #[inline(never)]
     fn bind<M: Message>(
         &mut self,
@@ -191,8 +191,8 @@ impl<S: Store, R: Source> Signer<S, R> {
         Ok((randomizer, digest))
     }
 
-    // Makes the wanted records of a new name below a standing chain, one after the other: an Extend for each level that
-    // has no tree, and the Bound. Then it writes the signature.
+    // Makes a new name's records below a standing chain, one after the other: an Extend for each level without a tree,
+    // and the Bound. Then it writes the signature.
     #[inline(never)]
     pub(super) fn fulfil<M: Message, P: TreeProgress>(
         &mut self,

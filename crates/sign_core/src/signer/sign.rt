@@ -28,8 +28,7 @@ impl SecretTrees {
     ghost use Rattle.sign_core.specs.Textbook.{digest_at, tree_before};
     ghost use Rattle.sign_core.specs.inner.Links.{MakesTrees};
 
-    // The digest of a message that a leaf of the tree at a place signs: Q by this C, or M' by the leaf's own
-    // randomizer.
+    // The digest of a message by a leaf of the tree at a place: Q with this C, or M' with the leaf's own randomizer.
     pub(super) fn digest<M: Message>(
         &self,
         ledger: &Ledger,
@@ -117,8 +116,8 @@ impl<S: Store, R: Source> Signer<S, R> {
         self.sign_telling(name, message, out, &Silent::new())
     }
 
-    /// As `sign`, and the progress is told of each tree that is made: of those that stand, of new ones, and under a
-    /// bound name of those that aren't current any more. Of a further block of a cache it isn't told.
+    /// As `sign`, telling the progress of each tree that is made: a current or new one, or for a bound name an earlier
+    /// one. It isn't told of a further block of a cache.
     pub fn sign_telling<M: Message, P: TreeProgress>(
         &mut self,
         name: &Name,
