@@ -255,8 +255,8 @@ impl Caches {
     ghost use Rattle.sign_core.specs.Caches.{LacksCache, LacksLevel};
     ghost use Rattle.sign_core.specs.inner.Links.{AreTreesOf, MakesTrees};
 
-    /// Makes the missing caches of the current trees from the top down to a level, for trees whose records stand before a
-    /// place.
+    /// Makes the missing caches of the current trees from the top down to a level, for trees whose records stand before
+    /// a place.
     pub(crate) fn keep_trees<P: TreeProgress>(
         &mut self,
         trees: &SecretTrees,

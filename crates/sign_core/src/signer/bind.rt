@@ -155,8 +155,8 @@ impl<S: Store, R: Source> Signer<S, R> {
         Ok(made)
     }
 
-    // Binds a name to the next leaf of the bottom tree: draws C, reads the message, and appends the record. Answers what
-    // the leaf signs with, C and the digest.
+    // Binds a name to the next leaf of the bottom tree: draws C, reads the message, and appends the record. Answers
+    // what the leaf signs with, C and the digest.
     #[inline(never)]
     fn bind<M: Message>(
         &mut self,
