@@ -156,7 +156,7 @@ const MADE_UP: [(OtsType, [u8; 32], [u8; 32]); 5] = [
 
 // The public hash of a made-up signature.
 fn hash_of_made_up(ots: OtsType, digest: &[u8; 32]) -> [u8; 32] {
-    let bytes = made_up_bytes();
+    let bytes: [u8; 32 * 265] = made_up_bytes();
     let (values, _) = bytes[..32 * usize::from(ots.chains())].as_chunks();
     KEY.hash_from_signature(ots, digest, values)
 }

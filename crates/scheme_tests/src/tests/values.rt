@@ -12,9 +12,9 @@ pub(crate) const RISING_FROM_40: [u8; 32] = [
     0x50, 0x51, 0x52, 0x53, 0x54, 0x55, 0x56, 0x57, 0x58, 0x59, 0x5a, 0x5b, 0x5c, 0x5d, 0x5e, 0x5f,
 ];
 
-// A value for each chain of a key, if it has the most: byte k is k modulo 251.
-pub(crate) fn made_up_bytes() -> [u8; 32 * 265] {
-    let mut bytes = [0; 32 * 265];
+// Byte k is k modulo 251.
+pub(crate) fn made_up_bytes<const N: usize>() -> [u8; N] {
+    let mut bytes = [0; N];
     for (k, byte) in bytes.iter_mut().enumerate() {
         *byte = (k % 251) as u8;
     }

@@ -136,6 +136,12 @@ const HASH_OF_MADE_UP: [u8; 32] = [
     0x19, 0x9b, 0xa2, 0xa7, 0xf8, 0x6d, 0x0c, 0x6e, 0xb1, 0xcf, 0x26, 0x99, 0x75, 0xfc, 0x8f, 0x86,
 ];
 
+fn hash_of_made_up(key: &Wots<'_>) -> [u8; 32] {
+    let bytes: [u8; 32 * 67] = made_up_bytes();
+    let (values, _) = bytes.as_chunks();
+    key.hash_from_signature(&VALUE, values)
+}
+
 #[test]
 fn key_makes_what_the_formulas_say(rt: HostRuntime) {
     let seed = Prf::new(SEED);
@@ -145,8 +151,6 @@ fn key_makes_what_the_formulas_say(rt: HostRuntime) {
     };
     let mut signed = [0; 32 * 67];
     key.sign_digest(&SECRET, &Sha256::digest("digest"), &mut signed);
-    let bytes = made_up_bytes();
-    let (values, _) = bytes[..32 * 67].as_chunks();
     for (what, made, expected) in [
         ("step", key.step(2, 3, &VALUE), AFTER_A_STEP),
         (
@@ -156,11 +160,7 @@ fn key_makes_what_the_formulas_say(rt: HostRuntime) {
         ),
         ("public hash", key.public_hash(&SECRET), PUBLIC_HASH),
         ("signature", Sha256::digest(&signed), SIGNED),
-        (
-            "made-up signature",
-            key.hash_from_signature(&VALUE, values),
-            HASH_OF_MADE_UP,
-        ),
+        ("made-up signature", hash_of_made_up(&key), HASH_OF_MADE_UP),
     ] {
         assert!(rt; made == expected, "{what}");
     }
@@ -357,7 +357,7 @@ fn l_trees_have_their_roots(rt: HostRuntime) {
     };
     for (count, root) in &ROOTS {
         assert!(rt; 0 < *count && *count <= 67);
-        let mut bytes = made_up_bytes();
+        let mut bytes: [u8; 32 * 67] = made_up_bytes();
         let (values, _) = bytes[..32 * *count].as_chunks_mut();
         assert!(rt; key.l_tree(values) == *root, "{count} values");
     }
