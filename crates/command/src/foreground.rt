@@ -7,34 +7,16 @@ use std::{fs, str};
 // What Linux says of this process: fields between blanks (proc_pid_stat(5)). The eighth ends before byte 200.
 const STAT: &str = "/proc/self/stat";
 
-/// What Linux says of this process. It is read anew at each question, since a shell may move a job at any time.
-#[derive(Drop)]
-pub struct Foreground {
-    stat: Option<File>,
-}
-
-impl Foreground {
-    /// Opens it, where standard error is a terminal.
-    pub fn watch<R: Files<File = File>>(rt: &R, is_on_terminal: bool) -> Self {
-        let stat = if is_on_terminal {
-            fs::open(rt, STAT).ok()
-        } else {
-            None
-        };
-        Foreground { stat }
-    }
-
-    /// Whether the process is in its terminal's foreground process group, has no controlling terminal, or Linux doesn't
-    /// say.
-    pub fn is_held(&self) -> bool {
-        let Some(stat) = &self.stat else {
-            return true;
-        };
-        let mut line = [0; 256];
-        match stat.read_at(&mut line, 0) {
-            Ok(len) => str::from_utf8(&line[..len]).is_ok_and(|stat| is_foreground(stat)),
-            Err(_) => true,
-        }
+/// Whether the process is in its terminal's foreground process group, has no controlling terminal, or Linux doesn't
+/// say. A shell may move a job at any time.
+pub fn is_in_foreground<R: Files<File = File>>(rt: &R) -> bool {
+    let mut line = [0; 256];
+    let Ok(stat) = fs::open(rt, STAT) else {
+        return true;
+    };
+    match stat.read_at(&mut line, 0) {
+        Ok(len) => str::from_utf8(&line[..len]).is_ok_and(|stat| is_foreground(stat)),
+        Err(_) => true,
     }
 }
 

@@ -8,12 +8,14 @@ ghost use Rattle.std.specs.Io.KnownBytes.{Appends};
 ghost use Rattle.command.specs.Progress.{bar, counts, fitting_text, group, grouped, has_room, head, is_due, line_text};
 ghost use Rattle.command.specs.Progress.{long_text, percent, seconds_left, separator, short_text, times};
 
+use crate::foreground::is_in_foreground;
 use crate::number::read_number;
 use crate::standard::Standard;
 use arrayvec::ArrayVec;
 use sign_core::TreeProgress;
 use std::cell::Cell;
 use std::env::{Env, FillError};
+use std::fs::{File, Files};
 use std::io;
 use std::io::Write;
 use std::time::Clock;
@@ -67,7 +69,7 @@ pub struct Bar<'a, R> {
     tree: Cell<Tree>,
 }
 
-impl<'a, R: Env + Clock> Bar<'a, R> {
+impl<'a, R: Env + Clock + Files<File = File>> Bar<'a, R> {
     /// Told of no tree yet. TERM, HBSIGN_QUIET, COLUMNS and the locale decide how the line looks.
     pub fn new(rt: R, standard: &'a Standard) -> Self {
         let shows = standard.is_on_terminal && !is_dumb(&rt) && !is_quiet(&rt);
@@ -96,7 +98,11 @@ impl<'a, R: Env + Clock> Bar<'a, R> {
         Some(seconds.saturating_add(u64::from(time.subsec_millis())))
     }
 
+    // In the background nothing is drawn or erased.
     fn show(&self, look: Look, tree: Tree, made: u32, now: u64) {
+        if !is_in_foreground(&self.rt) {
+            return self.standard.forget_line();
+        }
         let spent = u32::try_from(now.saturating_sub(tree.begun)).unwrap_or(u32::MAX);
         if made == 0 || made > tree.leaves {
             return;
@@ -108,7 +114,7 @@ impl<'a, R: Env + Clock> Bar<'a, R> {
     }
 }
 
-impl<R: Env + Clock> TreeProgress for Bar<'_, R> {
+impl<R: Env + Clock + Files<File = File>> TreeProgress for Bar<'_, R> {
     fn begin(&self, level: u8, leaves: u64) {
         if self.look.is_none() {
             return;
@@ -139,9 +145,8 @@ impl<R: Env + Clock> TreeProgress for Bar<'_, R> {
         let mut tree = self.tree.get();
         let step = now.saturating_sub(tree.told);
         if step > LONGEST_STEP {
-            // The stop doesn't count for the estimate, and others may have written on the terminal.
+            // A stop doesn't count for the estimate.
             tree.begun = tree.begun.saturating_add(step);
-            self.standard.forget_line();
         }
         tree.told = now;
         let made = u32::try_from(made).unwrap_or(u32::MAX);

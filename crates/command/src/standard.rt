@@ -3,7 +3,6 @@
 ghost use Rattle.std.specs.Prelude.{◌≡◌, IfErr};
 
 use crate::file_id::FileId;
-use crate::foreground::Foreground;
 use crate::key_start::has_key;
 use crate::refusal::Refusal;
 use arrayvec::{ArrayString, ArrayVec};
@@ -14,11 +13,6 @@ use std::io::{ErrorKind, IsTerminal, Read, Stderr, Write};
 use std::os::fd::AsFd;
 use std::os::unix::fs::FileTypeExt;
 use std::{fmt, fs, io};
-
-// DECSC and DECRC of a VT100: the first saves the cursor's place, the second moves it back there.
-const SAVE_CURSOR: &[u8; 2] = b"\x1b7";
-
-const RESTORE_CURSOR: &[u8; 2] = b"\x1b8";
 
 /// Standard output or standard error: which file of the machine it is, if this is known.
 #[derive(Drop)]
@@ -108,8 +102,7 @@ pub struct Standard {
     pub errors: Stream,
     /// Whether standard error is a terminal.
     pub is_on_terminal: bool,
-    foreground: Foreground,
-    // whether a line of progress is on the screen; the terminal has saved the place where it begins
+    // whether a line of progress is on the screen, in the row of the cursor
     has_line: Cell<bool>,
     stderr: Stderr,
     // in place of each closed stream, as long as this value lives
@@ -130,7 +123,6 @@ impl Standard {
             output: Stream::of(rt, "/proc/self/fd/1", rt.stdout().is_terminal(), true),
             errors: Stream::of(rt, "/proc/self/fd/2", is_on_terminal, false),
             is_on_terminal,
-            foreground: Foreground::watch(rt, is_on_terminal),
             has_line: Cell::new(false),
             stderr,
             _null_devices: [input, output, errors],
@@ -165,37 +157,26 @@ impl Standard {
         self.has_line.get()
     }
 
-    /// Draws a line of progress behind the cursor, in place of the one before. The terminal cuts it at its last column.
-    /// In the background nothing is drawn, and the line before is forgotten.
+    /// Draws a line of progress in the row of the cursor. The terminal cuts it at its last column.
     pub fn show_line(&self, text: &[u8]) {
-        if !self.foreground.is_held() {
-            return self.forget_line();
-        }
+        self.has_line.set(true);
         let mut line = ArrayVec::<u8, 512>::new();
         // Every text fits.
-        let _ = line.write_all(if self.has_line.get() {
-            RESTORE_CURSOR
-        } else {
-            SAVE_CURSOR
-        });
-        let _ = line.write_all(b"\x1b[K\x1b[?7l");
+        let _ = line.write_all(b"\r\x1b[K\x1b[?7l");
         let _ = line.write_all(text);
         let _ = line.write_all(b" \x1b[?7h");
-        self.has_line.set(true);
         self.write_to_terminal(line.as_slice());
     }
 
-    /// Erases the line of progress, and moves the cursor back to where it was.
+    /// Erases the line of progress.
     pub fn erase_line(&self) {
         if self.has_line.get() {
             self.forget_line();
-            if self.foreground.is_held() {
-                self.write_to_terminal(b"\x1b8\x1b[K");
-            }
+            self.write_to_terminal(b"\r\x1b[K");
         }
     }
 
-    /// Leaves the line of progress as it is. The next one begins at the cursor.
+    /// Leaves the line of progress as it is, to a row that others write to.
     pub fn forget_line(&self) {
         self.has_line.set(false);
     }
