@@ -16,12 +16,12 @@ use Rattle.sign_core.specs.declared.fault.SignFault.TheVariants.{Damaged, Moved,
 use Rattle.sign_core.specs.Records.{are_same, binding_in, has_identifier, has_moved, key_in}
 use Rattle.sign_core.specs.Records.{leaves_of_current, next_at, wanted_count}
 use Rattle.sign_core.specs.Textbook.{Trees, damaged_in, digest_at, lms_secret, public_in}
-use Rattle.sign_core.specs.Textbook.{signature_at, tree_before, trees_of}
-use Rattle.sign_core.specs.World.{◌>>=◌, ◌>>◌, Chance, Creation, Draw, Fate, Opening, Outcome, State, Step, answer_if}
+use Rattle.sign_core.specs.Textbook.{signature_at, tree_before}
+use Rattle.sign_core.specs.World.{◌>>=◌, ◌>>◌, Chance, Creation, Draw, Fate, Opening, Outcome, State, answer_if}
 use Rattle.sign_core.specs.World.{append, begin_trees, bind, close, draw, draw_identifier, draw_seed, event}
 use Rattle.sign_core.specs.World.{extend_record, first_refusal, give, new_bound, new_key, open_on}
-use Rattle.sign_core.specs.World.{open_signer, publish, randomizer_from, read, refuse_if}
-use Rattle.sign_core.specs.World.{refuse_with, secret_from, sign_as, some_or, the_records, the_state}
+use Rattle.sign_core.specs.World.{open_signer, publish, read, refuse_if}
+use Rattle.sign_core.specs.World.{refuse_with, secret_from, sign_as, some_or, the_records}
 
 -- ---- create and open
 
@@ -147,10 +147,11 @@ bound_sound state key name chance level damaged = event (do
 -- this level is the deepest with a free leaf
 abbrev pub bound_anew : (limit : ℕ) → State → Key → (name : List ℕ) → Chance → (level : Option ℕ) → Outcome (List ℕ)
 bound_anew limit state key name chance deepest = event (do
+  records ← the_records
   level ← some_or Exhausted deepest
-  refuse_if LedgerFull (nat_lt limit (length state.records + wanted_count key.secret level))
+  refuse_if LedgerFull (nat_lt limit (length records + wanted_count key.secret level))
   refuse_if OutOfMemory (not chance.has_room)
-  refuse_with (option_map Damaged (damaged_in key level state.records (tree_before level state.records (length state.records))))
+  refuse_with (option_map Damaged (damaged_in key level records (tree_before level records (length records))))
   open_signer
   begin_trees key (bottom_of key.secret - level) chance.trees
   bind key name chance) state
