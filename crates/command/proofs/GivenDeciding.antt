@@ -9,6 +9,7 @@ use Rattle.sign_core.specs.declared.key.AnyPublic.{AnyPublic}
 use Rattle.sign_core.specs.declared.key.KeyFault.{KeyFault}
 use Rattle.sign_core.specs.Once.{IsValidUnder}
 use Rattle.sign_core.specs.Uses.{LeafUse, MakesUses}
+use Rattle.sign_core.proofs.Valid.{accepted, accepts}
 use Rattle.command.specs.declared.answer.Done.{Done}
 use Rattle.command.specs.declared.refusal.Refusal.{Refusal}
 use Rattle.command.specs.AuditGiven.{AnswersGiven, AnswersWhole, BeginAll, BeginsGiven, given_answer}
@@ -19,14 +20,16 @@ use Rattle.command.proofs.Deciding.{more_than_the_greatest, verdict_decided, ver
 
 all_of_valid : (key : AnyPublic) (message bytes : List ℕ) → IsValidUnder key message bytes → take decisive bytes ≡ bytes
 all_of_valid key message bytes valid =
-    take_all decisive bytes (omega (arith, verified_short key message bytes valid, more_than_the_greatest))
+    take_all decisive bytes (omega (arith, verified_short key message bytes (accepts {A = ⊤} key message bytes tt valid), more_than_the_greatest))
 
 -- If one of the two is valid, both are, and have the same bytes.
 valid_whole : (key : AnyPublic) (whole first : Given) → BeginsGiven whole first → IsValidGiven key first → IsValidGiven key whole
 valid_whole key whole first (message, signature) valid = record {
-  verifies = verdict_decided {A = ⊤} decisive key whole.message.items whole.signature.items (Ok tt) more_than_the_greatest
+  verifies = accepted {A = ⊤} key whole.message.items whole.signature.items tt
+      (verdict_decided {A = ⊤} decisive key whole.message.items whole.signature.items (Ok tt) more_than_the_greatest
+      (accepts {A = ⊤} key whole.message.items (take decisive whole.signature.items) tt
       (subst (λ m. IsValidUnder key m (take decisive whole.signature.items)) message
-      (subst (λ s. IsValidUnder key first.message.items s) signature valid.verifies));
+      (subst (λ s. IsValidUnder key first.message.items s) signature valid.verifies))));
   short = subst (λ m. length m < 2 ^ 60) message valid.short;
 }
 

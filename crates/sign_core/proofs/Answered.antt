@@ -1,5 +1,5 @@
 -- A request that is answered leaves the signer open.
-use Rattle.std.proofs.Common.{◌≡◌, ◌∙◌, refl, sym, ap, ℕ, inl, inr, zero, suc, ◌-◌, true, List, [], ◌∷◌, ◌++◌, Option, Some, None, Ok}
+use Rattle.std.proofs.Common.{drop, ◌≡◌, ◌∙◌, refl, sym, ap, ℕ, inl, inr, zero, suc, ◌-◌, true, List, [], ◌∷◌, ◌++◌, Option, Some, None, Ok}
 use Rattle.std.proofs.Common.{Err}
 use Rattle.std.proofs.lemmas.Bool.{cases_Bool}
 use Rattle.state_file.specs.Laws.{bottom_of}
@@ -10,7 +10,7 @@ use Rattle.sign_core.specs.Records.{has_identifier, key_in, next_at}
 use Rattle.sign_core.specs.Textbook.{Trees, trees_of}
 use Rattle.sign_core.specs.World.{Chance, Draw, Fate, Outcome, State, acked, answered, appended, cut_new, cut_old}
 use Rattle.sign_core.specs.inner.Cases.{bound_with}
-use Rattle.sign_core.specs.World.{first_draw, later_draws, no_memory, open_on, randomizer_from, requested}
+use Rattle.sign_core.specs.World.{first_draw, no_memory, open_on, randomizer_from, requested}
 use Rattle.sign_core.specs.inner.Cases.{extended, extended_by, extended_with, fulfilled}
 use Rattle.sign_core.proofs.DrawnAgain.{IsSettled, settled_repeated, settled_under}
 use Rattle.sign_core.proofs.OnceKept.{kept_choice}
@@ -61,7 +61,7 @@ open_fulfilled key name chance zero draws records =
     open_bound records key name (randomizer_from key.secret chance.bound.fields) chance.given chance.bound.fate
 open_fulfilled key name chance (suc below) draws records =
     open_extended records key (bottom_of key.secret - below) (trees_of key.secret) (first_draw draws)
-    (fulfilled key name chance below (later_draws draws)) (open_fulfilled key name chance below (later_draws draws))
+    (fulfilled key name chance below (drop 1 draws)) (open_fulfilled key name chance below (drop 1 draws))
 
 pub signed_open : (limit : ℕ) (state : State) (name signature : List ℕ) (chance : Chance)
     → (requested limit state name chance).answer ≡ Ok signature → (requested limit state name chance).state.is_open ≡ true

@@ -235,13 +235,6 @@ next_at_tree secret records level tree is = ap (next_of secret records) is
 pub next_at_none : (secret : Secret) (records : List Record) (level : ℕ) → current level records ≡ None → next_at secret records level ≡ 0
 next_at_none secret records level is = ap (next_of secret records) is
 
--- after an Extend under a current tree its level's next leaf is 0
-pub next_at_new : (secret : Secret) (level above : ℕ) (records : List Record) (extend : Extend) → 0 < length records → extend.level ≡ suc level
-    → current level records ≡ Some above → next_at secret (records ++ ExtendRecord extend ∷ []) (suc level) ≡ 0
-next_at_new secret level above records extend some of parent =
-    next_at_tree secret (records ++ ExtendRecord extend ∷ []) (suc level) (length records) (current_new level above records extend of parent)
-    ∙ next_new secret records (ExtendRecord extend) some
-
 -- ---- free leaves
 
 pub free_at_tree : (secret : Secret) (records : List Record) (level tree : ℕ) → current level records ≡ Some tree

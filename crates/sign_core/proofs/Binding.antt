@@ -1,64 +1,50 @@
 -- The ends of a binding: its draws, then the message, then the append of its record.
-use Rattle.std.proofs.Common.{◌≡◌, ◌∙◌, refl, sym, ap, ap₂, subst, inl, ℕ, ◌+◌, ◌-◌, ◌<◌, ◌^◌, Bool, true, false, List, [], ◌∷◌, ◌++◌, length, map}
+use Rattle.std.proofs.Common.{◌≡◌, ◌∙◌, refl, sym, ap, ap₂, subst, inl, ℕ, ◌+◌, ◌<◌, Bool, true, false, List, [], ◌∷◌, ◌++◌, length}
 use Rattle.std.proofs.Common.{Option, Some, None, Result, Ok, Err, MatchResult, IfErr, OnOk, IsErrAnd, append-nil, arith}
-use Rattle.std.specs.Prelude.{not, is_some, replicate, unwrap_or, ◌&&◌, IfOk, if◌then◌else◌}
+use Rattle.std.specs.Prelude.{not, option_map, is_some, replicate, unwrap_or, ◌&&◌, IfOk}
 use Rattle.std.specs.List.{concat}
 use Rattle.std.specs.Cmp.Lexicographic.{bytes_decides}
 use Rattle.std.proofs.Math.Seq.{take-length}
-use Rattle.std.proofs.lemmas.List.{map-append}
 use Rattle.std.proofs.lemmas.Option.{none-some, same_Some}
 use Rattle.typecodes.specs.declared.message.Message as message
-use Rattle.typecodes.specs.declared.types.LmsPair.{LmsPair}
-use Rattle.typecodes.specs.Layout.{AreBytes}
 use Rattle.typecodes.specs.Message.{CantBeRead, ReadWhole}
-use Rattle.lmots.specs.Key.{message_digest_of}
-use Rattle.typecodes.specs.declared.secret.LmsSecret.{LmsSecret}
-use Rattle.hss.specs.Secret.{Signing}
 use Rattle.typecodes.specs.declared.secret.XmssSecret.{XmssSecret}
-use Rattle.xmss.specs.Secret.{digest_in as xmss_digest_in}
-use Rattle.typecodes.specs.Types.{xmss_height_of, xmss_signature_len_of}
 use Rattle.state_file.specs.declared.record.Bound.{Bound}
 use Rattle.state_file.specs.declared.record.Key.{Key}
 use Rattle.state_file.specs.declared.record.Record.{Record}
-use Rattle.state_file.specs.declared.record.Record.TheVariants.{Key as KeyRecord, Bound as BoundRecord}
+use Rattle.state_file.specs.declared.record.Record.TheVariants.{Bound as BoundRecord}
 use Rattle.state_file.specs.declared.record.Secret.{Secret}
 use Rattle.state_file.specs.declared.record.Secret.TheVariants.{Lms, Hss, Xmss}
 use Rattle.state_file.specs.declared.store.Store as store
 use Rattle.state_file.specs.Disk.{Counts}
-use Rattle.state_file.specs.Laws.{bottom_of, leaves_at, levels_of}
+use Rattle.state_file.specs.Laws.{bottom_of, leaves_at}
 use Rattle.state_file.proofs.Moments.{started}
 use Rattle.sign_core.specs.declared.fault.SignFault.{SignFault}
 use Rattle.sign_core.specs.declared.fault.SignFault.TheVariants.{Damaged, MessageRead, RandomFailed}
 use Rattle.sign_core.specs.declared.source.Source as source
-use Rattle.sign_core.specs.declared.links.Link.{Link}
-use Rattle.sign_core.specs.declared.links.SigningTree.{SigningTree}
 use Rattle.sign_core.specs.Events.{AreFields, randomizer_sizes}
 use Rattle.sign_core.specs.Signing.{answered_with}
 use Rattle.sign_core.specs.inner.Source.{DrawsBytes}
 use Rattle.sign_core.specs.Source.{Provides}
-use Rattle.sign_core.specs.Records.{binding_in, can_follow, current, free_at, has_moved, has_randomizer, is_free, key_in, next_at, next_in, next_of}
-use Rattle.sign_core.specs.inner.Links.{AreMade, IsMade, signing_of_link, signings_of}
+use Rattle.sign_core.specs.Records.{binding_in, can_follow, current, has_moved, has_randomizer, is_free, key_in, next_at, next_in, next_of}
 use Rattle.sign_core.specs.Caches.{Cached}
 use Rattle.sign_core.specs.inner.Signer.{Adds, added}
-use Rattle.sign_core.specs.Signer.{Ends, IsRead, IsTied, View, is_before_draws, is_of_append, is_out_of_memory, is_random_failed, is_store_failed, signature_size, state_of, view_of}
-use Rattle.sign_core.specs.inner.Signing.{Does, DrawsRandomizer, Fulfils, IsRandomizer, Stands, WritesChain, pairs_of}
-use Rattle.sign_core.specs.Signing.{IsXmssKey}
-use Rattle.sign_core.specs.Ledger.{Table}
-use Rattle.sign_core.specs.World.{Chance, Fate, Outcome, acked, answered, appended, cut_new, cut_old, drawing, new_bound, no_memory}
-use Rattle.sign_core.specs.inner.Cases.{bound_sound, bound_with, fulfilled}
+use Rattle.sign_core.specs.Signer.{Ends, IsRead, IsTied, View, is_before_draws, is_of_append, is_out_of_memory, is_random_failed, is_store_failed, state_of, view_of}
+use Rattle.sign_core.specs.inner.Signing.{Does, DrawsRandomizer, Fulfils, IsBindingOf, IsBoundLast, IsRandomizer, Stands}
+use Rattle.sign_core.specs.declared.ledger.Binding.{Binding}
+use Rattle.sign_core.specs.Ledger.{Table, binding_kept, kept_of}
+use Rattle.sign_core.specs.World.{Fate, Outcome, acked, answered, appended, cut_new, cut_old, drawing, new_bound, no_memory}
+use Rattle.sign_core.specs.inner.Cases.{bound_with}
 use Rattle.sign_core.specs.World.{open_on, randomizer_from, reading}
-use Rattle.sign_core.specs.Textbook.{Trees, damaged_in, digest_at, secret_at, signature_at, signing_of_bound, signings_above, tree_before, trees_of}
+use Rattle.sign_core.specs.Textbook.{Trees, damaged_in, digest_at, signature_at, tree_before, trees_of}
 use Rattle.sign_core.proofs.Adding.{LeavesItsList}
 use Rattle.sign_core.proofs.Draws.{draw_fails}
 use Rattle.sign_core.proofs.Appended.{added_records, counts_answered, ends_alike, comes_after_draws, is_tried, no_draw_fails, same_fault}
-use Rattle.sign_core.proofs.Append.{tree_within}
-use Rattle.sign_core.proofs.ChainParts.{all_pairs, leaf_digest, key_chain, xmss_leaf_digest}
 use Rattle.sign_core.proofs.Follow.{tell_free}
-use Rattle.sign_core.proofs.LinkParts.{more_made}
-use Rattle.sign_core.proofs.Refusals.{after_caches, counted, keeps_at_all, keeps_after_draws, same_view}
-use Rattle.sign_core.proofs.Repeats.{fault_of, linked_ok}
+use Rattle.sign_core.proofs.Refusals.{counted}
 use Rattle.sign_core.proofs.Retiring.{beginning_kept}
-use Rattle.sign_core.proofs.Stays.{before_stays, key_stays, secret_stays, signings_stay, some_keyed}
+use Rattle.sign_core.proofs.SoundChains.{chain_at_end}
+use Rattle.sign_core.proofs.Stays.{before_stays, key_stays}
 
 -- ---- what a call does to a signer that is open
 
@@ -249,13 +235,67 @@ bound_follows records key tree name bound keyed stays at leaf free named unbound
     ap (λ o. can_follow o records (BoundRecord bound)) keyed
     ∙ ap₂ (λ moved can. not moved && can) stays (ap₂ (λ two h. two && h) (ap₂ (λ f o. f && not (is_some o)) is none) has)
 
--- a standing chain has a free leaf
-pub standing_free : (key : Key) (trees : Trees) (records : List Record) (level : ℕ) (above : List Link) (last : SigningTree)
-    → Stands key trees records level above last → 0 < free_at key.secret records level
-standing_free key trees records level above last stands =
-    let is : free_at key.secret records level ≡ leaves_at key.secret level - next_at key.secret records level =
-    ap (λ o. if is_some o then leaves_at key.secret level - next_at key.secret records level else 0) stands.current_is in
-    omega (arith, is, stands.free)
+-- what is kept of the binding that the last record makes
+pub kept_last : (key own : Key) (records all : List Record) (tree place : ℕ) (bound : Bound) → current (bottom_of key.secret) records ≡ Some tree
+    → place ≡ length records → all ≡ records ++ BoundRecord bound ∷ [] → key ≡ own
+    → kept_of own.secret all (length records, bound)
+    ≡ record { place = place; leaf = bound.leaf; randomizer = bound.randomizer; digest = bound.digest; tree = tree }
+kept_last key own records all tree place bound at is grown same =
+    let bottom = bottom_of key.secret in
+    let binding : Binding = record { place = place; leaf = bound.leaf; randomizer = bound.randomizer; digest = bound.digest; tree = tree } in
+    let before : tree_before bottom (records ++ BoundRecord bound ∷ []) (length records) ≡ tree =
+    before_stays bottom records (BoundRecord bound ∷ []) (length records) (omega arith) ∙ tree_at_end records bottom tree at in
+    subst (λ (k : Key). kept_of k.secret all (length records, bound) ≡ binding) same
+    (ap (λ l. kept_of key.secret l (length records, bound)) grown
+    ∙ (λ i. record { place = sym is i; leaf = bound.leaf; randomizer = bound.randomizer; digest = bound.digest; tree = before i }))
+
+-- so it is a binding of the name ..
+pub bound_last : (key own : Key) (old new records : List Record) (name : List ℕ) (bound : Bound) (binding : Binding)
+    → IsBoundLast key old new name bound binding → records ≡ new → key ≡ own → IsBindingOf records binding own name
+bound_last key own old new records name bound binding last same is =
+    subst (λ l. binding_kept own.secret l name ≡ Some binding) (sym same)
+    (subst (λ (k : Key). binding_kept k.secret new name ≡ Some binding) is
+    (ap (option_map (kept_of key.secret new)) last.named ∙ ap Some last.kept))
+
+kept_along : (key own : Key) (old new records : List Record) (name : List ℕ) (bound : Bound) (binding : Binding)
+    → IsBoundLast key old new name bound binding → records ≡ new → key ≡ own → kept_of own.secret records (length old, bound) ≡ binding
+kept_along key own old new records name bound binding last same is =
+    subst (λ l. kept_of own.secret l (length old, bound) ≡ binding) (sym same)
+    (subst (λ (k : Key). kept_of k.secret new (length old, bound) ≡ binding) is last.kept)
+
+-- .. whose chain of trees is still sound
+pub sound_last : (key own : Key) (old new records : List Record) (name : List ℕ) (bound : Bound) (binding : Binding) (level : ℕ) → 0 < length old
+    → level ≡ bottom_of key.secret → Stands old level key → IsBoundLast key old new name bound binding → records ≡ new → key ≡ own
+    → damaged_in own (bottom_of own.secret) records binding.tree ≡ None
+sound_last key own old new records name bound binding level some level_is stands last same is =
+    let entry = BoundRecord bound in
+    let bottom = bottom_of key.secret in
+    let before : damaged_in key bottom old (tree_before bottom old (length old)) ≡ None =
+    subst (λ n. damaged_in key n old (tree_before n old (length old)) ≡ None) level_is stands.sound in
+    let after : damaged_in key bottom new (tree_before bottom new (length old)) ≡ None =
+    subst (λ l. damaged_in key bottom l (tree_before bottom l (length old)) ≡ None) (sym last.grown) (chain_at_end key bottom old entry some before) in
+    let own_tree : damaged_in key bottom new binding.tree ≡ None =
+    subst (λ t. damaged_in key bottom new t ≡ None) (ap (λ (kept : Binding). kept.tree) last.kept) after in
+    subst (λ l. damaged_in own (bottom_of own.secret) l binding.tree ≡ None) (sym same)
+    (subst (λ (k : Key). damaged_in k (bottom_of k.secret) new binding.tree ≡ None) is own_tree)
+
+-- where no record is damaged, none is answered
+pub never_damaged : (linked : Result (Unit {0}) ℕ) (mapped : Result (Unit {0}) SignFault) (damaged : Option ℕ)
+    → MatchResult linked (λ x. mapped ≡ Ok x) (λ k. IsErrAnd mapped (λ e. e ≡ Damaged k)) → IfErr linked (λ k. damaged ≡ Some k) → damaged ≡ None
+    → (x : Unit {0}) × (linked ≡ Ok x) × (mapped ≡ Ok x)
+never_damaged (Ok x) mapped damaged cases found none = (x, refl, cases)
+never_damaged (Err k) mapped damaged cases found none = absurd (none-some _ (sym none ∙ found))
+
+-- What is written for it is the signature of the record.
+pub written_last : (key own : Key) (old new records : List Record) (name : List ℕ) (bound : Bound) (binding : Binding) (linked : Result (Unit {0}) ℕ)
+    (x : Unit {0}) (bytes : List ℕ) → linked ≡ Ok x → IsBoundLast key old new name bound binding → records ≡ new → key ≡ own
+    → OnOk linked ((k : ℕ) (other : Bound) → kept_of own.secret records (k, other) ≡ binding → bytes ≡ signature_at own records k other)
+    → bytes ≡ signature_at key (old ++ BoundRecord bound ∷ []) (length old) bound
+written_last key own old new records name bound binding linked x bytes ok last same is writes =
+    let written = subst (λ (r : Result (Unit {0}) ℕ). OnOk r ((k : ℕ) (other : Bound) → kept_of own.secret records (k, other) ≡ binding
+    → bytes ≡ signature_at own records k other)) ok writes in
+    written (length old) bound (kept_along key own old new records name bound binding last same is)
+    ∙ ap₂ (λ (k : Key) l. signature_at k l (length old) bound) (sym is) (same ∙ last.grown)
 
 -- ---- C for a binding
 
@@ -364,64 +404,3 @@ module _ {S R M : Type 0} (g : store.Ghosts S) (r : source.Ghosts R) (m : messag
         not_before_draws = same_fault is_before_draws a _ ∙ comes_after_draws g (view_of kept_in mid ledger caches is_open) new (BoundRecord bound) a adds;
         lacks_tree = counted g 1 (view_of kept_in random ledger caches is_open) new _ (counts_answered is_out_of_memory _ _ a _ adds.refusals);
       })
-
--- ---- the links of a signature
-
-pair_of : Link → LmsPair
-pair_of link = link.tree.secret.pair
-
--- a standing chain whose last tree signs has the types of the levels
-pub standing_pairs : (records : List Record) (key : Key) (trees other : Trees) (above links : List Link) (last : SigningTree) (link : Link)
-    → trees_of key.secret ≡ Some trees → trees_of key.secret ≡ Some other → Stands key trees records (bottom_of key.secret) above last
-    → links ≡ above ++ link ∷ [] → link.tree ≡ last → pairs_of links ≡ other.pairs
-unfolding pair_of
-standing_pairs records key trees other above links last link these others stands is same =
-    ap (map pair_of) is ∙ map-append pair_of above (link ∷ []) ∙ ap (λ (t : SigningTree). map pair_of above ++ t.secret.pair ∷ []) same
-    ∙ stands.pairs ∙ all_pairs key.secret trees these
-    ∙ ap (λ (t : Trees). t.pairs) (same_Some trees other (sym these ∙ others))
-
-pub standing_made : (records : List Record) (key : Key) (trees : Trees) (above links : List Link) (last : SigningTree) (link : Link)
-    → Stands key trees records (bottom_of key.secret) above last → links ≡ above ++ link ∷ [] → link.tree ≡ last → AreMade links
-standing_made records key trees above links last link stands is same =
-    subst AreMade (sym is) (more_made above link stands.made (subst IsMade (sym same) stands.last_made))
-
-pub standing_signs : (records : List Record) (key own : Key) (trees : Trees) (above links : List Link) (last : SigningTree) (link : Link) (bound : Bound) (bytes : List ℕ)
-    → key_in records ≡ Some key → own ≡ key → trees_of key.secret ≡ Some trees → Stands key trees records (bottom_of key.secret) above last
-    → links ≡ above ++ link ∷ [] → link.tree ≡ last → last.leaf ≡ bound.leaf → link.randomizer ≡ bound.randomizer → link.digest ≡ bound.digest
-    → WritesChain own.secret links bytes → bytes ≡ signature_at key (records ++ BoundRecord bound ∷ []) (length records) bound
-standing_signs records key own trees above links last link bound bytes keyed same these stands is tree_is leaf randomizer digest writes =
-    let all = records ++ BoundRecord bound ∷ [] in
-    let k = length records in
-    let bottom = bottom_of key.secret in
-    let tree = stands.tree in
-    let low : tree < length records = tree_within records bottom tree (some_keyed records key keyed) stands.current_is in
-    let here : tree_before bottom all k ≡ tree =
-    before_stays bottom records (BoundRecord bound ∷ []) k (omega arith) ∙ tree_at_end records bottom tree stands.current_is in
-    let bound_with_tree : LmsSecret → Signing = λ s. record { secret = s; leaf = bound.leaf; randomizer = bound.randomizer; digest = bound.digest } in
-    let secret_is : link.tree.secret ≡ secret_at trees all tree =
-    ap (λ (t : SigningTree). t.secret) tree_is ∙ stands.secret ∙ sym (secret_stays trees records (BoundRecord bound ∷ []) tree low) in
-    let leaf_is : link.tree.leaf ≡ bound.leaf = ap (λ (t : SigningTree). t.leaf) tree_is ∙ leaf in
-    let signs_with : signing_of_link link ≡ bound_with_tree (secret_at trees all tree) =
-    λ i. record { secret = secret_is i; leaf = leaf_is i; randomizer = randomizer i; digest = digest i } in
-    let signs : signings_of links ≡ signings_above trees bottom all (tree_before bottom all k)
-    ++ signing_of_bound trees all (tree_before bottom all k) bound ∷ [] =
-    ap signings_of is ∙ map-append signing_of_link above (link ∷ [])
-    ∙ ap₂ (λ front s. front ++ s ∷ []) (stands.signings ∙ sym (signings_stay trees bottom records (BoundRecord bound ∷ []) tree low))
-    signs_with
-    ∙ ap (λ t. signings_above trees bottom all t ++ bound_with_tree (secret_at trees all t) ∷ []) (sym here) in
-    subst (λ (k' : Key). WritesChain k'.secret links bytes) same writes trees all k bound
-    (key, key_stays records (BoundRecord bound ∷ []) key keyed) these signs
-
--- ---- a binding under XMSS
-
--- a free leaf is one of the tree's
-pub xmss_next_inside : (records : List Record) (key : Key) (secret : XmssSecret) → IsXmssKey secret key → 0 < free_at key.secret records 0
-    → next_at key.secret records (bottom_of key.secret) < 2 ^ xmss_height_of secret.tree
-xmss_next_inside records key secret of_key free =
-    let low : next_at key.secret records 0 < leaves_at key.secret 0 = omega (arith, free) in
-    let leaves : leaves_at key.secret 0 ≡ 2 ^ xmss_height_of secret.tree = ap (λ s. leaves_at s 0) of_key in
-    let at : next_at key.secret records (bottom_of key.secret) ≡ next_at key.secret records 0 = ap (λ s. next_at key.secret records (bottom_of s)) of_key in
-    omega (arith, low, leaves, at)
-
-pub xmss_room : (key : Key) (secret : XmssSecret) (size : ℕ) → IsXmssKey secret key → size ≡ signature_size key.secret → size ≡ xmss_signature_len_of secret.tree
-xmss_room key secret size of_key is = is ∙ ap signature_size of_key

@@ -1,6 +1,6 @@
 -- What a request draws: no more than its records need, and 24 comes only after an I that stands in the records. And
 -- what it signs was read.
-use Rattle.std.proofs.Common.{◌≡◌, ◌≢◌, ◌∙◌, refl, sym, ap, subst, ℕ, zero, suc, ◌+◌, ◌-◌, ◌*◌, ◌≤◌, List, []}
+use Rattle.std.proofs.Common.{drop, ◌≡◌, ◌≢◌, ◌∙◌, refl, sym, ap, subst, ℕ, zero, suc, ◌+◌, ◌-◌, ◌*◌, ◌≤◌, List, []}
 use Rattle.std.proofs.Common.{◌∷◌, ◌++◌, append-nil, length, length-append, take, Option, Some, None, Ok, Err, Bool}
 use Rattle.std.proofs.Common.{true, false, arith}
 use Rattle.std.specs.Prelude.{IsSome, if◌then◌else◌, nat_lt, not, slice_index_or, sum}
@@ -24,7 +24,7 @@ use Rattle.sign_core.specs.World.{Chance, Draw, Fate, Outcome, State, acked, ans
 use Rattle.sign_core.specs.inner.Cases.{bound_anew, bound_sound, bound_with}
 use Rattle.sign_core.specs.World.{cut_new, cut_old, drawing, extend_record}
 use Rattle.sign_core.specs.inner.Cases.{extended, extended_by, extended_with}
-use Rattle.sign_core.specs.World.{first_draw, later_draws, no_memory, open_on}
+use Rattle.sign_core.specs.World.{first_draw, no_memory, open_on}
 use Rattle.sign_core.specs.inner.Cases.{fulfilled}
 use Rattle.sign_core.specs.World.{randomizer_from, reading, refused, requested}
 use Rattle.sign_core.specs.inner.Cases.{repeated, repeated_sound, requested_of, requested_under}
@@ -287,8 +287,8 @@ most_fulfilled key name chance zero draws records trees bound =
 most_fulfilled key name chance (suc below) draws records trees bound =
     let most = 80 * below + sum (randomizer_sizes key.secret) in
     let whole = most_extended most (open_on records) key (bottom_of key.secret - below) (trees_of key.secret) (first_draw draws)
-    (fulfilled key name chance below (later_draws draws)) (first_drawn draws trees)
-    (λ all. most_fulfilled key name chance below (later_draws draws) all (later_drawn draws trees) bound) in
+    (fulfilled key name chance below (drop 1 draws)) (first_drawn draws trees)
+    (λ all. most_fulfilled key name chance below (drop 1 draws) all (later_drawn draws trees) bound) in
     omega (arith, whole)
 
 pub drawn_most : (limit : ℕ) (state : State) (key : Key) (name : List ℕ) (chance : Chance) → key_in state.records ≡ Some key
@@ -351,7 +351,7 @@ read_fulfilled key name chance zero draws records =
     read_bound (open_on records) key name (randomizer_from key.secret chance.bound.fields) chance.given chance.bound.fate
 read_fulfilled key name chance (suc below) draws records =
     read_extended chance.given (open_on records) key (bottom_of key.secret - below) (trees_of key.secret) (first_draw draws)
-    (fulfilled key name chance below (later_draws draws)) (read_fulfilled key name chance below (later_draws draws))
+    (fulfilled key name chance below (drop 1 draws)) (read_fulfilled key name chance below (drop 1 draws))
 
 read_repeated : (state : State) (key : Key) (k : ℕ) (bound : Bound) (chance : Chance) (given : Option (List ℕ))
     → IsRead given (repeated state key k bound chance given)

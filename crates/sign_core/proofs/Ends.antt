@@ -1,5 +1,5 @@
 -- The ways in which a request can end.
-use Rattle.std.proofs.Common.{◌≡◌, ◌≢◌, refl, ℕ, zero, suc, ◌+◌, ◌-◌, List, [], ◌∷◌, ◌++◌, length, Option, Some, None, Err}
+use Rattle.std.proofs.Common.{drop, ◌≡◌, ◌≢◌, refl, ℕ, zero, suc, ◌+◌, ◌-◌, List, [], ◌∷◌, ◌++◌, length, Option, Some, None, Err}
 use Rattle.std.specs.Prelude.{nat_lt, not}
 use Rattle.std.specs.List.{concat}
 use Rattle.state_file.specs.Laws.{bottom_of}
@@ -15,7 +15,7 @@ use Rattle.sign_core.specs.World.{Chance, Draw, Fate, Outcome, State, acked, ans
 use Rattle.sign_core.specs.inner.Cases.{bound_anew, bound_sound, bound_with}
 use Rattle.sign_core.specs.World.{cut_new, cut_old, drawing}
 use Rattle.sign_core.specs.inner.Cases.{extended}
-use Rattle.sign_core.specs.World.{first_draw, later_draws, no_memory, open_on, randomizer_from, reading}
+use Rattle.sign_core.specs.World.{first_draw, no_memory, open_on, randomizer_from, reading}
 use Rattle.sign_core.specs.inner.Cases.{extended_by, extended_with, fulfilled}
 use Rattle.sign_core.specs.World.{refused}
 use Rattle.sign_core.specs.inner.Cases.{repeated, repeated_sound}
@@ -85,7 +85,7 @@ ended_fulfilled Q ends key name chance zero draws records = ends.drawn (concat c
     (ended_bound Q ends (open_on records) key name (randomizer_from key.secret chance.bound.fields) chance.given chance.bound.fate)
 ended_fulfilled Q ends key name chance (suc below) draws records =
     ended_extended Q ends (open_on records) key (bottom_of key.secret - below) (trees_of key.secret) (first_draw draws) _
-    (ended_fulfilled Q ends key name chance below (later_draws draws))
+    (ended_fulfilled Q ends key name chance below (drop 1 draws))
 
 abbrev pub IsDamaged : (Outcome (List ℕ) → Type 0) → State → Key → Type 0
 IsDamaged Q state key = (level tree slot : ℕ) → damaged_in key level state.records tree ≡ Some slot → Q (refused state (Damaged slot))

@@ -1,6 +1,6 @@
 -- Each end of an extend is one new tree, by some draw.
 use Rattle.std.proofs.Common.{◌≡◌, ◌∙◌, ℕ, ◌+◌, ◌<◌, true, false, List, [], ◌∷◌, ◌++◌, length, take, Some, Result, Ok, Err, refl, sym, ap, subst, append-nil, arith, inl, inr}
-use Rattle.std.specs.Prelude.{Bool, if◌then◌else◌, slice_index_or}
+use Rattle.std.specs.Prelude.{Bool, if◌then◌else◌}
 use Rattle.std.specs.List.{concat}
 use Rattle.std.proofs.Math.Seq.{take-length}
 use Rattle.state_file.proofs.Moments.{started}
@@ -13,17 +13,8 @@ use Rattle.sign_core.specs.declared.fault.SignFault.TheVariants.{Changed, Device
 use Rattle.sign_core.specs.declared.fault.SignFault.TheVariants.{NoKey, NoMemoryToOpen, OutOfMemory, RandomFailed, RandomRepeated, RetireRange, LongName}
 use Rattle.sign_core.specs.declared.fault.SignFault.TheVariants.{Damaged, Stopped, StoreFailed, Unreadable}
 use Rattle.sign_core.specs.declared.source.Source as source
-use Rattle.typecodes.specs.declared.types.LmsPair.{LmsPair}
-use Rattle.lmots.specs.Key.{message_digest_of}
-use Rattle.lms.specs.declared.key.LmsPublic.{LmsPublic}
-use Rattle.lms.specs.Secret.{public_of}
-use Rattle.lms.specs.Writing.{public_bytes}
-use Rattle.sign_core.specs.declared.links.Link.{Link}
-use Rattle.sign_core.specs.declared.links.SigningTree.{SigningTree}
 use Rattle.sign_core.specs.Ledger.{Table}
-use Rattle.state_file.specs.declared.record.Record.TheVariants.{Extend as ExtendRecord}
 use Rattle.sign_core.proofs.Adding.{LeavesItsList}
-use Rattle.sign_core.proofs.StandingChain.{entry_is}
 use Rattle.sign_core.specs.declared.signer.bind.TreeSeeds.{TreeSeeds}
 use Rattle.sign_core.specs.Signing.{answered_with}
 use Rattle.sign_core.specs.Source.{Provides}
@@ -33,7 +24,7 @@ use Rattle.sign_core.specs.Caches.{Cached}
 use Rattle.sign_core.specs.inner.Signer.{Adds, added}
 use Rattle.sign_core.specs.Signer.{Ends, IsTied, View, caching, is_before_draws, is_fault, is_of_append, is_out_of_memory, is_random_failed}
 use Rattle.sign_core.specs.Signer.{is_store_failed, state_of, view_of}
-use Rattle.sign_core.specs.inner.Signing.{DrawsTree, Extends, StandsIn}
+use Rattle.sign_core.specs.inner.Signing.{DrawsTree, Extends}
 use Rattle.sign_core.specs.World.{Fate, Outcome, acked, answered, appended, cut_new, cut_old, drawing, no_memory}
 use Rattle.sign_core.specs.inner.Cases.{extended}
 use Rattle.sign_core.specs.World.{open_on, refused}
@@ -253,29 +244,15 @@ adds_caching g old new caches entry answer adds = record {
   untaken = adds.untaken;
 }
 
--- The tree that was drawn below a standing chain: its record is the world's, and is appended.
-pub drawn_below : {S R : Type 0} {caches others : Cached} (g : store.Ghosts S) (r : source.Ghosts R) (key : Key) (trees : Trees) (kept_in : S) (random after : R) (ledger : Table)
-    (is_open : Bool) (v new : View S R) (above : List Link) (last : SigningTree) (seeds : TreeSeeds) (pair : LmsPair) (public : LmsPublic) (level : ℕ)
-    (digest root : List ℕ) (answer : Result (Unit {0}) SignFault) → view_of kept_in random ledger caches is_open ≡ v → v.is_open ≡ true
-    → StandsIn trees v.records above last key → level ≡ length above + 1 → pair ≡ slice_index_or trees.pairs level trees.top.pair
-    → public ≡ public_of (record { pair = pair; identifier = seeds.identifier; seed = seeds.seed })
-    → digest ≡ message_digest_of last.secret.identifier last.leaf seeds.randomizer (public_bytes public) → root ≡ public.root
+-- The tree that was drawn below the current ones: its record is the world's, and is appended.
+pub drawn_below : {S R : Type 0} {caches others : Cached} (g : store.Ghosts S) (r : source.Ghosts R) (key : Key) (trees : Trees) (kept_in : S) (random after : R)
+    (ledger : Table) (is_open : Bool) (v new : View S R) (level : ℕ) (seeds : TreeSeeds) (entry : Record) (answer : Result (Unit {0}) SignFault)
+    → view_of kept_in random ledger caches is_open ≡ v → v.is_open ≡ true → trees_of key.secret ≡ Some trees
+    → entry ≡ next_extend key trees ledger.records level seeds.identifier seeds.seed seeds.randomizer
     → DrawsTree ledger.records (r.failures random) (r.failures after) (r.upcoming random) (r.upcoming after) (Ok seeds)
-    → Adds g (view_of kept_in after ledger others is_open) new (ExtendRecord (record {
-      level = level;
-      parent_leaf = last.leaf;
-      identifier = seeds.identifier;
-      seed = seeds.seed;
-      randomizer = seeds.randomizer;
-      digest = digest;
-      root = root;
-    })) answer → Extends g r (length above + 1) v new (answered_with answer []) key
-drawn_below {S = S} {R = R} {caches = caches} {others = others} g r key trees kept_in random after ledger is_open v new above last seeds pair public level digest root answer is opened standing
-    count paired made digested rooted draws adds =
-    let view = view_of kept_in random ledger caches is_open in
-    let (these, stands) = subst (λ (w : View S R). StandsIn trees w.records above last key) (sym is) standing in
-    let entry = entry_is key trees ledger.records above last (record { pair = pair; identifier = seeds.identifier; seed = seeds.seed }) public _ stands count
-    refl refl refl made digested rooted (paired ∙ ap (λ n. slice_index_or trees.pairs n trees.top.pair) count) in
-    subst (λ (w : View S R). Extends g r (length above + 1) w new (answered_with answer []) key) is
-    (drawn g r (length above + 1) key trees view new after seeds _ answer these (ap (λ w. w.is_open) is ∙ opened) draws entry
-    (adds_caching g (view_of kept_in after ledger caches is_open) new others _ answer adds))
+    → Adds g (view_of kept_in after ledger others is_open) new entry answer → Extends g r level v new (answered_with answer []) key
+drawn_below {S = S} {R = R} {caches = caches} {others = others} g r key trees kept_in random after ledger is_open v new level seeds entry answer is opened these
+    same draws adds =
+    subst (λ (w : View S R). Extends g r level w new (answered_with answer []) key) is
+    (drawn g r level key trees (view_of kept_in random ledger caches is_open) new after seeds entry answer these (ap (λ w. w.is_open) is ∙ opened) draws same
+    (adds_caching g (view_of kept_in after ledger caches is_open) new others entry answer adds))

@@ -1,5 +1,5 @@
 -- Reads of an input, one after the other, and reads of a message in it.
-use Rattle.std.proofs.Common.{◌≡◌, ◌∙◌, ◌⊎◌, inl, inr, refl, sym, ap, subst, arith, zero, suc, ℕ, ◌+◌, ◌<◌, ◌≤◌, ◌^◌}
+use Rattle.std.proofs.Common.{◌≡◌, ◌∙◌, inl, inr, refl, sym, ap, subst, arith, ℕ, ◌+◌, ◌<◌, ◌≤◌, ◌^◌}
 use Rattle.std.proofs.Common.{List, [], ◌∷◌, ◌++◌, length, take, append_assoc, append-nil, length-append, length-take-le, take_all, Ok, Err}
 use Rattle.std.specs.Io.KnownBytes.{Consumes, IsAtEnd, Keeps}
 use Rattle.std.proofs.KnownBytes.{Consumes-nil, Consumes-trans, Consumes-kept}
@@ -7,10 +7,10 @@ use Rattle.std.specs.declared.io.ErrorKind.{ErrorKind}
 use Rattle.std.specs.IoError.{error_kind}
 use Rattle.std.specs.declared.io.Error.{Error}
 use Rattle.typecodes.specs.declared.message.Message as message
-use Rattle.typecodes.specs.Message.{CantBeRead, FailsBy, Gave, GivesAll, GivesText, ReadOutcome, ReadWhole, Transition, Transitions}
+use Rattle.typecodes.specs.Message.{CantBeRead, Gave, GivesText, ReadOutcome, ReadWhole, Transition, Transitions}
 use Rattle.typecodes.specs.Reading.{ReadsFull}
 use Rattle.typecodes.proofs.Messages.{gave-append, reads-append}
-use Rattle.sign_core.specs.Frames.{CutsAt, Ending, LastRead, ReadsInput, ReadsPart, broken, ended, going}
+use Rattle.sign_core.specs.Frames.{CutsAt, Ending, ReadsInput, ReadsPart, broken, ended, going}
 
 -- ---- reads of an input
 

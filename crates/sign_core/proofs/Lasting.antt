@@ -1,5 +1,5 @@
 -- No event takes a record or a signature away.
-use Rattle.std.proofs.Common.{◌≡◌, ◌∙◌, refl, sym, ap, ℕ, zero, suc, ◌+◌, ◌-◌, Bool, true, false, List, [], ◌∷◌, ◌++◌, length, Option, Some, None}
+use Rattle.std.proofs.Common.{drop, ◌≡◌, ◌∙◌, refl, sym, ap, ℕ, zero, suc, ◌+◌, ◌-◌, Bool, true, false, List, [], ◌∷◌, ◌++◌, length, Option, Some, None}
 use Rattle.std.proofs.Common.{append-nil, append_assoc, inl, inr, map, take}
 use Rattle.std.specs.Prelude.{if◌then◌else◌, nat_le, nat_lt, not}
 use Rattle.typecodes.specs.declared.spec.Spec.{Spec}
@@ -19,7 +19,6 @@ use Rattle.sign_core.specs.inner.Cases.{begun, bound_anew}
 use Rattle.sign_core.specs.inner.Cases.{bound_sound, bound_with}
 use Rattle.sign_core.specs.World.{create, created, cut_new, cut_old, first_draw}
 use Rattle.sign_core.specs.inner.Cases.{created_after, extended, extended_by, extended_with, fulfilled}
-use Rattle.sign_core.specs.World.{later_draws}
 use Rattle.sign_core.specs.World.{new_key, no_memory, open_on, opened, randomizer_from, reopen}
 use Rattle.sign_core.specs.inner.Cases.{opened_by, opened_on, published, repeated}
 use Rattle.sign_core.specs.World.{request}
@@ -116,7 +115,7 @@ grown_fulfilled key name chance zero draws records =
     grown_bound (open_on records) key name (randomizer_from key.secret chance.bound.fields) chance.given chance.bound.fate
 grown_fulfilled key name chance (suc below) draws records =
     grown_extended (open_on records) key (bottom_of key.secret - below) (trees_of key.secret) (first_draw draws) _
-    (grown_fulfilled key name chance below (later_draws draws))
+    (grown_fulfilled key name chance below (drop 1 draws))
 
 grown_sound : (state : State) (key : Key) (name : List ℕ) (chance : Chance) (level : ℕ) (damaged : Option ℕ)
     → Grown state.records (bound_sound state key name chance level damaged)

@@ -20,10 +20,10 @@ use Rattle.sign_core.specs.declared.ledger.Made.{Made}
 use Rattle.sign_core.specs.declared.links.Link.{Link}
 use Rattle.sign_core.specs.declared.links.SigningTree.{SigningTree}
 use Rattle.sign_core.specs.Records.{current, key_in}
-use Rattle.sign_core.specs.inner.Links.{AreMade, IsMade, IsTreeAt, IsTreeBy, signing_of_link, signing_with}
+use Rattle.sign_core.specs.inner.Links.{AreMade, IsMade, IsTreeAt, IsTreeBy, signing_of_link}
 use Rattle.sign_core.specs.Ledger.{made_at, made_by}
 use Rattle.sign_core.specs.Textbook.{Trees, chain, damaged_in, is_sound_at, secret_at, secret_by, tree_before}
-use Rattle.sign_core.specs.Textbook.{signing_by, signings_above, trees_of}
+use Rattle.sign_core.specs.Textbook.{signing_by, signing_with, signings_above, trees_of}
 use Rattle.sign_core.proofs.Chains.{got_front, got_last, named_by}
 use Rattle.sign_core.proofs.Keys.{key_stands, legal_key}
 use Rattle.sign_core.proofs.TreeSteps.{before_current}

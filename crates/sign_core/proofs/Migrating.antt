@@ -1,10 +1,10 @@
 -- A migration keeps trees, leaves, names and signatures: none of them depends on the version, or on a Moved at the end.
 use Rattle.std.proofs.Common.{◌≡◌, ◌≢◌, ◌∙◌, refl, sym, ap, ap₂, subst, ℕ, zero, suc, ◌+◌, ◌-◌, ◌<◌, ◌≤◌, ◌⊎◌, inl, inr, Bool, true, false, not, ◌&&◌}
-use Rattle.std.proofs.Common.{List, [], ◌∷◌, ◌++◌, length, take, map, Option, Some, None, arith, true≢false}
-use Rattle.std.specs.Prelude.{Contains, fold, find, if◌then◌else◌, is_some, max, nat_lt, nat_le, slice_get, unwrap_or}
+use Rattle.std.proofs.Common.{List, [], ◌∷◌, ◌++◌, length, take, map, Option, Some, None, arith}
+use Rattle.std.specs.Prelude.{fold, find, if◌then◌else◌, is_some, max, nat_lt, nat_le, slice_get, unwrap_or}
 use Rattle.std.proofs.lemmas.Bool.{cases_lt, cases_Bool, and_parts, and_from, not_from_false}
 use Rattle.std.proofs.lemmas.List.{length_push, take_all}
-use Rattle.std.proofs.lemmas.Option.{none-some, same_Some, slice_get_within}
+use Rattle.std.proofs.lemmas.Option.{same_Some, slice_get_within}
 use Rattle.state_file.specs.Carried.{carried, in_version, unmoved, with_moved}
 use Rattle.state_file.specs.Laws.{IsLegal, bottom_of, identifier_of, leaves_at, levels_of}
 use Rattle.state_file.specs.declared.record.Bound.{Bound}
@@ -15,7 +15,7 @@ use Rattle.state_file.specs.declared.record.Record.TheVariants.{Key as KeyRecord
 use Rattle.state_file.specs.declared.record.Secret.{Secret}
 use Rattle.state_file.specs.declared.record.Secret.TheVariants.{Lms, Hss, Xmss}
 use Rattle.state_file.specs.declared.record.Version.{Version}
-use Rattle.state_file.specs.declared.record.Version.TheVariants.{One, Two}
+use Rattle.state_file.specs.declared.record.Version.TheVariants.{Two}
 use Rattle.state_file.proofs.Legal.{legal_beginning}
 use Rattle.typecodes.specs.declared.secret.LmsSecret.{LmsSecret}
 use Rattle.lms.specs.Secret.{public_of}
@@ -24,17 +24,17 @@ use Rattle.lmots.specs.Key.{message_digest_of}
 use Rattle.hss.specs.Secret.{Signing}
 use Rattle.hss.specs.Writing.{signature_bytes, textbook}
 use Rattle.sign_core.specs.Headline.{IsRecorded}
-use Rattle.sign_core.specs.Records.{are_same, binding_in, can_follow, can_follow_legal, can_move, has_randomizer, current, first_illegal, has_identifier, has_moved, illegal_from, in_tree}
+use Rattle.sign_core.specs.Records.{are_same, binding_in, can_follow, can_follow_legal, can_move, has_randomizer, current, has_identifier, has_moved, illegal_from, in_tree}
 use Rattle.sign_core.specs.Records.{is_free, is_moved, is_of, key_in, last_from, next_at, next_in, next_of, number_in, numbers_from, reaches, same_tree, under}
 use Rattle.sign_core.specs.Textbook.{AllHaveSizes, AreSound, HasSizes, Trees, digest_at, digest_by, digest_under, hss_signature_under, is_sound_at, is_sound_extend}
 use Rattle.sign_core.specs.Textbook.{is_sound_record, secret_at, secret_by, signature_at, signature_by, signing_by, signings_above, tree_before, trees_of}
 use Rattle.sign_core.specs.World.{Handed, Migration, State, carried_over, closed_on, left_alone, migrated, migrated_to, migrated_under, sealed}
 use Rattle.sign_core.proofs.Bindings.{binding_other, binding_stands}
-use Rattle.sign_core.proofs.Follow.{key_first, key_stays as key_of_front, moved_means, none_moved}
+use Rattle.sign_core.proofs.Follow.{key_stays as key_of_front, moved_means, none_moved}
 use Rattle.sign_core.proofs.Illegal.{legal_from_none, none_from_legal}
 use Rattle.sign_core.proofs.Lists.{slice_get_stays, take_with_next}
 use Rattle.sign_core.proofs.OnceKept.{IsKept, kept_grown, sound_with}
-use Rattle.sign_core.proofs.Stays.{digest_stays, signature_stays, some_keyed, sound_stays}
+use Rattle.sign_core.proofs.Stays.{digest_stays, signature_stays, sound_stays}
 
 abbrev pub NoMoved : List Record → Type 0
 NoMoved records = (k : ℕ) (entry : Record) → slice_get records k ≡ Some entry → entry ≢ Moved

@@ -1,5 +1,5 @@
 -- Runs of the world lead to what a migration leaves at either place.
-use Rattle.std.proofs.Common.{◌≡◌, ◌∙◌, sym, ap, subst, ℕ, ◌⊎◌, inl, inr, IsTrue, List, [], Result, Ok, Some}
+use Rattle.std.proofs.Common.{◌≡◌, ◌∙◌, sym, subst, ℕ, ◌⊎◌, inl, inr, IsTrue, List, Result, Ok}
 use Rattle.state_file.specs.declared.disk.Disk as disk
 use Rattle.state_file.specs.declared.migration.MigrateFault.{MigrateFault}
 use Rattle.state_file.specs.declared.record.Record.{Record}

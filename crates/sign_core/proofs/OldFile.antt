@@ -1,6 +1,6 @@
 -- The loads of the old file, one after the other.
 use Rattle.std.proofs.Common.{◌≡◌, inr, ℕ, ◌+◌, ◌<◌, ◌≤◌, Bool, true, false, List, [], ◌∷◌, ◌++◌, length, Some, None, Ok, Err, Result, refl, sym}
-use Rattle.std.proofs.Common.{ap, ◌∙◌, subst, arith, IsTrue, true≢false, take}
+use Rattle.std.proofs.Common.{ap, ◌∙◌, subst, arith, IsTrue, true≢false}
 use Rattle.std.proofs.lemmas.Option.{same_Some}
 use Rattle.std.specs.Prelude.{OnOk, IfErr, Option, if◌then◌else◌, slice_get}
 use Rattle.state_file.specs.declared.disk.Disk as disk

@@ -1,5 +1,5 @@
 -- What holds of any legal records: they are opened, stay legal, and what is signed over them is valid.
-use Rattle.std.proofs.Common.{◌≡◌, ◌∙◌, refl, sym, ap, subst, ℕ, zero, suc, ◌+◌, ◌-◌, ◌<◌, inl, inr, Bool, true, false, List, [], ◌∷◌, ◌++◌}
+use Rattle.std.proofs.Common.{drop, ◌≡◌, ◌∙◌, refl, sym, ap, subst, ℕ, zero, suc, ◌+◌, ◌-◌, ◌<◌, inl, inr, Bool, true, false, List, [], ◌∷◌, ◌++◌}
 use Rattle.std.proofs.Common.{length, Option, Some, None, Result, Ok, Err, append-nil, arith}
 use Rattle.std.specs.Prelude.{Contains, if◌then◌else◌, nat_le, nat_lt, not}
 use Rattle.std.proofs.lemmas.Bool.{cases_Bool, le-leb}
@@ -26,7 +26,7 @@ use Rattle.sign_core.specs.Opened.{AreWellFormed, IsValidOver, OpenedLaw}
 use Rattle.sign_core.specs.World.{Chance, Creation, Draw, Event, Fate, Handed, Opening, Outcome, State, World, acked, after, appended}
 use Rattle.sign_core.specs.World.{create, cut_new, cut_old, drawing}
 use Rattle.sign_core.specs.inner.Cases.{begun, bound_anew, bound_sound, bound_with, created_after, extended, extended_by, extended_with}
-use Rattle.sign_core.specs.World.{first_draw, handed_with, later_draws, new_bound, no_memory, open_on}
+use Rattle.sign_core.specs.World.{first_draw, handed_with, new_bound, no_memory, open_on}
 use Rattle.sign_core.specs.inner.Cases.{fulfilled, opened_by, opened_on, published}
 use Rattle.sign_core.specs.World.{randomizer_from, refused, reopen, request, requested, retire}
 use Rattle.sign_core.specs.inner.Cases.{repeated, repeated_sound, requested_of, requested_under}
@@ -139,7 +139,7 @@ module _ (key : Key) (public : AnyPublic) (is_public : public_in key ≡ Some pu
       (λ drawn is. randomizer_size key.secret chance.bound.fields drawn bound is)
   fits_fulfilled name chance (suc below) draws records trees bound ready =
       fits_extended chance.given name below records (trees_of key.secret) (first_draw draws) _ ready refl (first_drawn draws trees)
-      (λ all more. fits_fulfilled name chance below (later_draws draws) all (later_drawn draws trees) bound more)
+      (λ all more. fits_fulfilled name chance below (drop 1 draws) all (later_drawn draws trees) bound more)
 
   fits_sound : (state : State) (name : List ℕ) (chance : Chance) (level : ℕ) (damaged : Option ℕ) → AreDraws chance → AreOf key state.records
       → (damaged ≡ None → IsStanding key name (bottom_of key.secret - level) state.records)

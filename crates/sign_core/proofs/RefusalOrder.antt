@@ -1,5 +1,5 @@
 -- Each event answers the refusal of the first cause that applies.
-use Rattle.std.proofs.Common.{◌≡◌, ◌≢◌, ◌∙◌, refl, sym, ap, subst, ℕ, zero, suc, ◌+◌, ◌-◌, ◌<◌, ◌≤◌, ◌⊎◌, Bool, true, false, inl, inr, List, [], ◌∷◌, ◌++◌}
+use Rattle.std.proofs.Common.{drop, ◌≡◌, ◌≢◌, ◌∙◌, refl, sym, ap, subst, ℕ, zero, suc, ◌+◌, ◌-◌, ◌<◌, ◌≤◌, ◌⊎◌, Bool, true, false, inl, inr, List, [], ◌∷◌, ◌++◌}
 use Rattle.std.proofs.Common.{length, Option, Some, None, Result, Err, IsOk, arith, true≢false, lt-ltb, ltb-true, ltb-false, leb-true}
 use Rattle.std.proofs.lemmas.Bool.{leb-false, le-leb}
 use Rattle.std.specs.Cmp.Lexicographic.{bytes_decides}
@@ -29,7 +29,7 @@ use Rattle.sign_core.specs.inner.Cases.{begun, bound_anew, bound_sound, bound_wi
 use Rattle.sign_core.specs.World.{new_bound}
 use Rattle.sign_core.specs.World.{cut_new, cut_old, extend_record, first_draw}
 use Rattle.sign_core.specs.inner.Cases.{created_after, extended, extended_by, extended_with, fulfilled}
-use Rattle.sign_core.specs.World.{later_draws, no_memory, open_on, randomizer_from, refused}
+use Rattle.sign_core.specs.World.{no_memory, open_on, randomizer_from, refused}
 use Rattle.sign_core.specs.inner.Cases.{opened_by, opened_on, published, repeated, repeated_sound}
 use Rattle.sign_core.specs.World.{requested, retired, secret_from, new_key}
 use Rattle.sign_core.specs.inner.Cases.{requested_of, requested_under, retired_under}
@@ -251,10 +251,10 @@ by_wanted key name chance (suc below) low possible draws records IsKnown are kno
     let IsKnownNext = λ (i : List ℕ). IsKnown i ⊎ BeginsWith fields i in
     let (these, is) = trees_there key.secret (omega (arith, low)) in
     by_tree (open_on records) key (trees_of key.secret) (bottom_of key.secret - below) (first_draw draws) IsKnown
-    (RefusesWanted key chance below (later_draws draws) IsKnownNext) (fulfilled key name chance below (later_draws draws)) these is
+    (RefusesWanted key chance below (drop 1 draws) IsKnownNext) (fulfilled key name chance below (drop 1 draws)) these is
     (first_drawn draws are) knows
     (λ entry identifier first own.
-    by_wanted key name chance below (omega (arith, low)) possible (later_draws draws) (records ++ entry ∷ []) IsKnownNext (later_drawn draws are)
+    by_wanted key name chance below (omega (arith, low)) possible (drop 1 draws) (records ++ entry ∷ []) IsKnownNext (later_drawn draws are)
     (knows_more records IsKnown fields identifier entry first own knows))
 
 -- ---- a request
@@ -472,7 +472,7 @@ alike_wanted key chance zero draws IsKnown one other = λ first second.
     alike_of (λ a b. alike_of (λ c d. alike_append alike_ok c d) a b) first second
 alike_wanted key chance (suc below) draws IsKnown one other = λ first second.
     alike_of (λ a b. alike_of (λ c d. alike_of (λ e f. alike_append
-    (alike_wanted key chance below (later_draws draws) (λ i. IsKnown i ⊎ BeginsWith (first_draw draws).fields i) one other) e f) c d) a b) first second
+    (alike_wanted key chance below (drop 1 draws) (λ i. IsKnown i ⊎ BeginsWith (first_draw draws).fields i) one other) e f) c d) a b) first second
 
 module _ (limit : ℕ) (state : State) (key : Key) (chance : Chance) (one other : Result (List ℕ) SignFault) where
   alike_at : (level : ℕ) → RefusesAt limit state key chance level one → RefusesAt limit state key chance level other → RefuseAlike one other

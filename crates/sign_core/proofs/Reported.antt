@@ -1,5 +1,5 @@
 -- A request is answered 27 exactly where its message is read and can't be.
-use Rattle.std.proofs.Common.{◌≡◌, refl, ℕ, zero, suc, ◌+◌, ◌-◌, true, List, [], ◌∷◌, ◌++◌, length, Option, Some, None, Result, Err}
+use Rattle.std.proofs.Common.{drop, ◌≡◌, refl, ℕ, zero, suc, ◌+◌, ◌-◌, true, List, [], ◌∷◌, ◌++◌, length, Option, Some, None, Result, Err}
 use Rattle.std.specs.Prelude.{nat_lt, not}
 use Rattle.state_file.specs.Laws.{bottom_of}
 use Rattle.state_file.specs.declared.record.Bound.{Bound}
@@ -12,7 +12,7 @@ use Rattle.sign_core.specs.Records.{are_same, binding_in, deepest, has_identifie
 use Rattle.sign_core.specs.Textbook.{Trees, damaged_in, digest_at, tree_before, trees_of}
 use Rattle.sign_core.specs.World.{Chance, Draw, Fate, Outcome, State, acked, answered, appended, cut_new, cut_old}
 use Rattle.sign_core.specs.inner.Cases.{bound_anew, bound_sound, bound_with}
-use Rattle.sign_core.specs.World.{first_draw, later_draws, no_memory, open_on, randomizer_from, reading}
+use Rattle.sign_core.specs.World.{first_draw, no_memory, open_on, randomizer_from, reading}
 use Rattle.sign_core.specs.inner.Cases.{extended, extended_by, extended_with, fulfilled}
 use Rattle.sign_core.specs.World.{refused, requested}
 use Rattle.sign_core.specs.inner.Cases.{repeated, repeated_sound, requested_of, requested_under}
@@ -108,7 +108,7 @@ reported_fulfilled key name chance zero draws records =
     record { unread = rest.unread; reported = rest.reported }
 reported_fulfilled key name chance (suc below) draws records =
     reported_extended chance.given (open_on records) key (bottom_of key.secret - below) (trees_of key.secret) (first_draw draws)
-    (fulfilled key name chance below (later_draws draws)) (reported_fulfilled key name chance below (later_draws draws))
+    (fulfilled key name chance below (drop 1 draws)) (reported_fulfilled key name chance below (drop 1 draws))
 
 -- ---- requests
 

@@ -1,5 +1,5 @@
 -- What a request keeps.
-use Rattle.std.proofs.Common.{◌≡◌, ◌∙◌, refl, sym, ap, subst, ℕ, zero, suc, ◌+◌, ◌-◌, ◌<◌, ◌≤◌, Bool, true, false, List, [], ◌∷◌, ◌++◌}
+use Rattle.std.proofs.Common.{drop, ◌≡◌, ◌∙◌, refl, sym, ap, subst, ℕ, zero, suc, ◌+◌, ◌-◌, ◌<◌, ◌≤◌, Bool, true, false, List, [], ◌∷◌, ◌++◌}
 use Rattle.std.proofs.Common.{length, Option, Some, None, arith}
 use Rattle.std.specs.Prelude.{if◌then◌else◌, is_some, nat_lt, not, slice_index_or}
 use Rattle.std.specs.List.{AllByRecursion}
@@ -29,7 +29,7 @@ use Rattle.sign_core.specs.World.{Chance, Draw, Fate, Handed, Outcome, State, ex
 use Rattle.sign_core.specs.inner.Cases.{bound_anew, bound_sound, bound_with, extended}
 use Rattle.sign_core.specs.World.{first_draw}
 use Rattle.sign_core.specs.inner.Cases.{extended_by, extended_with, fulfilled}
-use Rattle.sign_core.specs.World.{later_draws, new_bound, open_on, randomizer_from, requested}
+use Rattle.sign_core.specs.World.{new_bound, open_on, randomizer_from, requested}
 use Rattle.sign_core.specs.inner.Cases.{repeated, repeated_sound, requested_of, requested_under}
 use Rattle.sign_core.specs.Textbook.{HasSizes, Trees, damaged_in, digest_at, is_sound_extend, lms_secret, secret_at, signature_at, tree_before, trees_of}
 use Rattle.sign_core.proofs.Append.{current_new, next_new, some_leaves}
@@ -239,7 +239,7 @@ pub first_drawn : (draws : List Draw) → AllByRecursion IsTreeDraw draws → Is
 first_drawn [] all = tt
 first_drawn (draw ∷ draws) all = all.0
 
-pub later_drawn : (draws : List Draw) → AllByRecursion IsTreeDraw draws → AllByRecursion IsTreeDraw (later_draws draws)
+pub later_drawn : (draws : List Draw) → AllByRecursion IsTreeDraw draws → AllByRecursion IsTreeDraw (drop 1 draws)
 later_drawn [] all = all
 later_drawn (draw ∷ draws) all = all.1
 
@@ -252,7 +252,7 @@ kept_fulfilled key name chance handed zero draws records trees bound ready =
     (λ drawn is. randomizer_size key.secret chance.bound.fields drawn bound is)
 kept_fulfilled key name chance handed (suc below) draws records trees bound ready =
     kept_extended key name chance.given below records handed (trees_of key.secret) (first_draw draws) _ ready refl (first_drawn draws trees)
-    (λ all more. kept_fulfilled key name chance handed below (later_draws draws) all (later_drawn draws trees) bound more)
+    (λ all more. kept_fulfilled key name chance handed below (drop 1 draws) all (later_drawn draws trees) bound more)
 
 kept_sound : (state : State) (handed : List Handed) (key : Key) (name : List ℕ) (chance : Chance) (level : ℕ) (damaged : Option ℕ) → AreDraws chance
     → IsReady key name (bottom_of key.secret - level) state.records handed → Keeps handed name chance.given (bound_sound state key name chance level damaged)

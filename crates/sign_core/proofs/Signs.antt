@@ -1,7 +1,7 @@
 -- Each end of a call of sign is a step of the world.
 use Rattle.std.proofs.Common.{◌≡◌, ◌∙◌, ℕ, ◌+◌, ◌-◌, ◌<◌, ◌≤◌, Bool, true, false, not, List, [], ◌++◌, length, Option, Some, None, Result, Ok, Err, refl}
 use Rattle.std.proofs.Common.{sym, ap, ap₂, subst, inl, arith, true≢false, append-nil}
-use Rattle.std.specs.Prelude.{take, nat_lt, if◌then◌else◌, option_map, MatchResult, IsErrAnd}
+use Rattle.std.specs.Prelude.{take, nat_lt, if◌then◌else◌, option_map}
 use Rattle.std.specs.Option.{ok_or}
 use Rattle.std.proofs.Math.Seq.{take-length}
 use Rattle.std.proofs.lemmas.Bool.Decides.{nat_tests}
@@ -441,10 +441,6 @@ module _ {S R M : Type 0} (g : store.Ghosts S) (r : source.Ghosts R) (m : messag
 
 -- ---- what a call answered
 
-value_or : {A E : Type 0} → A → Result A E → A
-value_or other (Ok x) = x
-value_or other (Err fault) = other
-
 -- the deepest level with a free leaf, along equal records
 pub deepest_after : (records other : List Record) (key own : Key) (level : ℕ) → other ≡ records → key_in records ≡ Some key → key_in other ≡ Some own
     → deepest key.secret records ≡ Some level → deepest own.secret other ≡ Some level
@@ -465,13 +461,6 @@ can_bind most v mid name level size capacity room x keeps unbound fits prepares 
       fits = λ own is. fits own (ap key_in (sym keeps.records) ∙ is);
       room = λ own is. same ∙ made.does.1 ∙ ap (λ k. signature_size k.secret) (same_Some key own (sym keyed ∙ is));
     }
-
--- an Ok was an Ok before its faults were mapped
-pub linked_value : {A : Type 0} (linked : Result A ℕ) (mapped : Result A SignFault) (x : A)
-    → MatchResult linked (λ y. mapped ≡ Ok y) (λ k. IsErrAnd mapped (λ e. e ≡ Damaged k)) → mapped ≡ Ok x → linked ≡ Ok x
-unfolding value_or
-linked_value (Ok y) mapped x cases was = ap Ok (ap (value_or y) (sym cases ∙ was))
-linked_value (Err k) mapped x cases was = absurd (subst (λ r. IsErrAnd r (λ e. e ≡ Damaged k)) was cases)
 
 fault_in : Result ℕ SignFault → SignFault
 fault_in (Ok level) = Exhausted

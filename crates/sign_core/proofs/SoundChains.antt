@@ -84,7 +84,7 @@ pub record IsStanding (key : Key) (name : List ℕ) (below : ℕ) (records : Lis
   pub free : 0 < free_at key.secret records (bottom_of key.secret - below)
   pub sound : let level = bottom_of key.secret - below in damaged_in key level records (tree_before level records (length records)) ≡ None
 
-new_chain : (key : Key) (above : ℕ) (records : List Record) (entry : Record) → 0 < length records
+pub new_chain : (key : Key) (above : ℕ) (records : List Record) (entry : Record) → 0 < length records
     → damaged_in key above records (tree_before above records (length records)) ≡ None
     → is_sound_record key records (length records) (Some entry) ≡ true → current (suc above) (records ++ entry ∷ []) ≡ Some (length records)
     → (let all = records ++ entry ∷ [] in damaged_in key (suc above) all (tree_before (suc above) all (length all)) ≡ None)

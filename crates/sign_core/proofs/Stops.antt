@@ -1,5 +1,5 @@
 -- What a crash at any moment of an event leaves, an event leaves whose append is cut there.
-use Rattle.std.proofs.Common.{◌≡◌, ◌∙◌, refl, sym, ap, subst, ℕ, zero, suc, ◌+◌, ◌-◌, ◌≤◌, ◌⊎◌, inl, inr, Bool}
+use Rattle.std.proofs.Common.{drop, ◌≡◌, ◌∙◌, refl, sym, ap, subst, ℕ, zero, suc, ◌+◌, ◌-◌, ◌≤◌, ◌⊎◌, inl, inr, Bool}
 use Rattle.std.proofs.Common.{true, false, List, [], ◌∷◌, ◌++◌, length, Option, Some, None, Result, Ok, Err, append_assoc, append-nil, arith}
 use Rattle.std.specs.Prelude.{if◌then◌else◌, nat_le, nat_lt, not, take}
 use Rattle.std.specs.List.{AllByRecursion, concat}
@@ -17,7 +17,7 @@ use Rattle.sign_core.specs.Records.{are_same, binding_in, deepest, has_identifie
 use Rattle.sign_core.specs.Textbook.{Trees, damaged_in, digest_at, public_in, tree_before, trees_of}
 use Rattle.sign_core.specs.World.{Chance, Creation, Draw, Fate, Outcome, State, acked, answered, appended}
 use Rattle.sign_core.specs.inner.Cases.{begun, bound_anew, bound_sound}
-use Rattle.sign_core.specs.World.{closed_on, created, drawing, later_draws, reading}
+use Rattle.sign_core.specs.World.{closed_on, created, drawing, reading}
 use Rattle.sign_core.specs.inner.Cases.{bound_with, created_after}
 use Rattle.sign_core.specs.World.{cut_new, cut_old, first_draw, new_key, no_memory, open_on}
 use Rattle.sign_core.specs.inner.Cases.{extended, extended_by, extended_with, fulfilled}
@@ -233,7 +233,7 @@ all_first : (draws : List Draw) → AllByRecursion IsTreeDraw draws → IsTreeDr
 all_first [] all = tt
 all_first (draw ∷ draws) all = all.0
 
-all_later : (draws : List Draw) → AllByRecursion IsTreeDraw draws → AllByRecursion IsTreeDraw (later_draws draws)
+all_later : (draws : List Draw) → AllByRecursion IsTreeDraw draws → AllByRecursion IsTreeDraw (drop 1 draws)
 all_later [] all = tt
 all_later (draw ∷ draws) all = all.1
 
@@ -254,8 +254,8 @@ stops_fulfilled key name chance (suc below) draws all records =
       way.1,
     ))
     (stops_extended {I = Others} no_others (open_on records) key (bottom_of key.secret - below) (trees_of key.secret) (first_draw draws)
-    (fulfilled key name chance below (later_draws draws)) (λ o unused. fulfilled key name (other_chance chance o.fate unused) below o.trees)
-    (stops_fulfilled key name chance below (later_draws draws) (all_later draws all)))
+    (fulfilled key name chance below (drop 1 draws)) (λ o unused. fulfilled key name (other_chance chance o.fate unused) below o.trees)
+    (stops_fulfilled key name chance below (drop 1 draws) (all_later draws all)))
 
 stops_sound : (state : State) (key : Key) (name : List ℕ) (chance : Chance) → AllByRecursion IsTreeDraw chance.trees → (level : ℕ) (damaged : Option ℕ)
     → Stops state.records (bound_sound state key name chance level damaged)

@@ -1,5 +1,5 @@
 -- No refusal of a request but 25 binds a name; and what a retiring answers where it records nothing.
-use Rattle.std.proofs.Common.{◌≡◌, ◌≢◌, ◌∙◌, refl, ap, ℕ, zero, suc, ◌+◌, ◌-◌, ◌<◌, ◌≤◌, Bool, true, false, List, [], ◌∷◌, ◌++◌}
+use Rattle.std.proofs.Common.{drop, ◌≡◌, ◌≢◌, ◌∙◌, refl, ap, ℕ, zero, suc, ◌+◌, ◌-◌, ◌<◌, ◌≤◌, Bool, true, false, List, [], ◌∷◌, ◌++◌}
 use Rattle.std.proofs.Common.{length, Option, Some, None, Err}
 use Rattle.std.specs.Prelude.{if◌then◌else◌, nat_le, nat_lt, not, slice_index_or}
 use Rattle.std.proofs.lemmas.Bool.{le-leb, le-ltb, lt-leb, lt-ltb}
@@ -15,7 +15,7 @@ use Rattle.sign_core.specs.Records.{binding_in, has_identifier, has_moved, key_i
 use Rattle.sign_core.specs.Textbook.{Trees, lms_secret, trees_of}
 use Rattle.sign_core.specs.World.{Chance, Draw, Fate, Outcome, State, acked, answered, appended, cut_new, cut_old, extend_record}
 use Rattle.sign_core.specs.inner.Cases.{bound_with}
-use Rattle.sign_core.specs.World.{first_draw, later_draws, no_memory, open_on, randomizer_from, refused}
+use Rattle.sign_core.specs.World.{first_draw, no_memory, open_on, randomizer_from, refused}
 use Rattle.sign_core.specs.inner.Cases.{extended, extended_by, extended_with, fulfilled}
 use Rattle.sign_core.specs.World.{requested, retired}
 use Rattle.sign_core.specs.inner.Cases.{retired_under}
@@ -80,7 +80,7 @@ quiet_fulfilled key name chance zero draws records =
     quiet_bound records key name (randomizer_from key.secret chance.bound.fields) chance.given chance.bound.fate
 quiet_fulfilled key name chance (suc below) draws records =
     quiet_extended records key (bottom_of key.secret - below) (trees_of key.secret) (first_draw draws)
-    (fulfilled key name chance below (later_draws draws)) (quiet_fulfilled key name chance below (later_draws draws))
+    (fulfilled key name chance below (drop 1 draws)) (quiet_fulfilled key name chance below (drop 1 draws))
 
 pub binds_none : (limit : ℕ) (state : State) (name other : List ℕ) (chance : Chance) (fault : SignFault)
     → (requested limit state name chance).answer ≡ Err fault → fault ≢ StoreFailed

@@ -1,6 +1,6 @@
 -- The textbook signature of a binding is valid where the chain of its trees is sound.
 use Rattle.std.proofs.Common.{◌≡◌, ◌∙◌, refl, sym, ap, subst, ℕ, zero, suc, ◌+◌, ◌-◌, ◌<◌, ◌≤◌, ◌^◌, Bool, true, false, not, List, [], ◌∷◌, length}
-use Rattle.std.proofs.Common.{take, find, cond, length-append, Some, None, arith}
+use Rattle.std.proofs.Common.{take, find, cond, length-append, Some, None, Ok, arith}
 use Rattle.std.specs.Prelude.{slice_get, slice_index_or, unwrap_or}
 use Rattle.std.specs.Cmp.Lexicographic.{same_text}
 use Rattle.std.proofs.lemmas.Option.{same_Some, slice_get-get_or, slice_get_within}
@@ -36,6 +36,7 @@ use Rattle.sign_core.specs.declared.key.AnyPublic.{AnyPublic}
 use Rattle.sign_core.specs.declared.key.AnyPublic.TheVariants.{Lms as AnyLms, Hss as AnyHss, Xmss as AnyXmss}
 use Rattle.sign_core.specs.Records.{current, key_in}
 use Rattle.sign_core.specs.Headline.{IsBoundTo, IsValidUnder}
+use Rattle.sign_core.specs.Key.{KeyVerdict}
 use Rattle.sign_core.specs.Textbook.{AllHaveSizes, AreSound, Trees, chain, damaged_in, digest_at, is_sound_at, is_sound_record, lms_public_in}
 use Rattle.sign_core.specs.Textbook.{lms_secret, public_by, public_in, root_by, signature_at, signing_of_bound, signings_above, tree_before}
 use Rattle.sign_core.proofs.Bindings.{binding_stands}
@@ -252,3 +253,18 @@ pub all_valid : (records : List Record) (key : Key) (name message : List ℕ) (k
 all_valid records key name message k bound public sound sizes is is_public =
     checked records key name message k bound public sound.legal sizes is
     (undamaged records key (bottom_of key.secret) (tree_before (bottom_of key.secret) records k) sound is.keyed) is_public
+
+-- ---- what verification accepts
+
+-- A signature is valid exactly where verification answers Ok.
+pub accepts : {A : Type 0} (public : AnyPublic) (message bytes : List ℕ) (answer : A) → IsValidUnder public message bytes
+    → KeyVerdict public message bytes (Ok answer)
+accepts (AnyLms key) message bytes answer valid = valid
+accepts (AnyHss key) message bytes answer valid = valid
+accepts (AnyXmss key) message bytes answer valid = valid
+
+pub accepted : {A : Type 0} (public : AnyPublic) (message bytes : List ℕ) (answer : A) → KeyVerdict public message bytes (Ok answer)
+    → IsValidUnder public message bytes
+accepted (AnyLms key) message bytes answer valid = valid
+accepted (AnyHss key) message bytes answer valid = valid
+accepted (AnyXmss key) message bytes answer valid = valid

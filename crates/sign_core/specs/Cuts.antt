@@ -4,7 +4,7 @@ use Rattle.std.specs.Option.{option_to_list}
 use Rattle.typecodes.specs.declared.spec.Spec.{Spec}
 use Rattle.state_file.specs.declared.record.Record.{Record}
 use Rattle.sign_core.specs.World.{Chance, Creation, Draw, Event, Fate, Outcome, State, World, acked, cut_new, cut_old}
-use Rattle.sign_core.specs.World.{no_memory, create, request, beginning, closed_on, created, requested, retired, run}
+use Rattle.sign_core.specs.World.{no_memory, create, request, closed_on, created, requested, retired, run}
 use Rattle.sign_core.specs.Events.{IsEvent, AllEvents}
 
 -- ---- cuts

@@ -1,22 +1,24 @@
 -- The headline: in every run no leaf signs two digests, and each signature handed out is recorded and valid.
-use Rattle.std.specs.Prelude.{◌≡◌, ℕ, ◌+◌, List, [], ◌∷◌, ◌++◌, Contains, length, map, Option, Some, None, Ok}
+use Rattle.std.specs.Prelude.{◌≡◌, ℕ, ◌+◌, List, [], ◌∷◌, ◌++◌, Contains, length, map, Option, Some, None}
 use Rattle.std.specs.List.{range_with_len}
 use Rattle.typecodes.specs.Layout.{Spells}
 use Rattle.lmots.specs.Key.{message_digest_of as q_of}
 use Rattle.lms.specs.declared.key.LmsPublic.{LmsPublic}
 use Rattle.lms.specs.Signature.{Signature as LmsSignature, signature as lms_signature}
+use Rattle.lms.specs.Verification.{IsValid as IsLmsValid}
 use Rattle.xmss.specs.Digest.{message_digest_of as m_of}
 use Rattle.xmss.specs.Signature.{Signature as XmssSignature, signature as xmss_signature}
+use Rattle.xmss.specs.Verification.{IsValid as IsXmssValid}
 use Rattle.xmss.specs.Writing.{public_bytes as xmss_public_bytes}
 use Rattle.hss.specs.Signature.{Signature as HssSignature, signature as hss_signature}
 use Rattle.hss.specs.Signature.{key_at, message_at, signature_at as hss_signature_at}
+use Rattle.hss.specs.Verification.{IsValid as IsHssValid}
 use Rattle.sign_core.specs.Textbook.{digest_at, public_in, signature_at}
 use Rattle.sign_core.specs.declared.key.AnyPublic.{AnyPublic}
 use Rattle.sign_core.specs.declared.key.AnyPublic.TheVariants.{Lms, Hss, Xmss}
 use Rattle.state_file.specs.declared.record.Bound.{Bound}
 use Rattle.state_file.specs.declared.record.Key.{Key}
 use Rattle.state_file.specs.declared.record.Record.{Record}
-use Rattle.sign_core.specs.Key.{KeyVerdict}
 use Rattle.sign_core.specs.Records.{binding_in, key_in}
 use Rattle.sign_core.specs.Events.{AllEvents}
 use Rattle.sign_core.specs.World.{Event, Handed, World, beginning, run}
@@ -51,9 +53,13 @@ MakesUses (Xmss key) message bytes uses =
 
 -- ---- what was handed out
 
--- The bytes are a valid signature of the message under the key.
+-- The bytes spell a signature that is valid for the message under the key: what verification accepts (`KeyVerdict` of
+-- an Ok).
 abbrev pub IsValidUnder : AnyPublic → (message bytes : List ℕ) → Type 0
-IsValidUnder public message bytes = KeyVerdict {A = Unit {0}} public message bytes (Ok tt)
+IsValidUnder (Lms key) message bytes = (s : LmsSignature) × Spells lms_signature s bytes × IsLmsValid key message s
+IsValidUnder (Hss key) message bytes = (s : HssSignature) × Spells hss_signature s bytes × IsHssValid key message s
+IsValidUnder (Xmss key) message bytes =
+    (s : XmssSignature) × Spells (xmss_signature key.tree) s bytes × IsXmssValid key message s
 
 -- A name is bound to the digest of this message under the bound leaf and C.
 pub record IsBoundTo (records : List Record) (key : Key) (name message : List ℕ) (k : ℕ) (bound : Bound) : Type 0 where

@@ -2,7 +2,7 @@
 -- bindings. A tree is named by the place of the record that makes it.
 use Rattle.std.specs.Prelude.{◌≡◌, ◌⊎◌, ℕ, zero, suc, ◌+◌, ◌-◌, ◌≤◌, Bool, true, false, not, List, [], ◌∷◌}
 use Rattle.std.specs.Prelude.{length, take, map, reverse, fold, max, nat_eq, nat_lt, nat_le, find, slice_get, is_some}
-use Rattle.std.specs.Prelude.{Option, Some, None, if◌then◌else◌, ◌&&◌, replicate}
+use Rattle.std.specs.Prelude.{Option, Some, None, option_map, if◌then◌else◌, ◌&&◌, replicate}
 use Rattle.std.specs.Cmp.Lexicographic.{pointwise}
 use Rattle.std.specs.List.{range_with_len}
 use Rattle.state_file.specs.Laws.{bottom_of, has_moved, identifier_of, leaves_at, levels_of}
@@ -14,7 +14,7 @@ use Rattle.state_file.specs.declared.record.Record.{Record}
 use Rattle.state_file.specs.declared.record.Record.TheVariants.{Key as KeyRecord, Extend as ExtendRecord}
 use Rattle.state_file.specs.declared.record.Record.TheVariants.{Bound as BoundRecord, Retire, Moved}
 use Rattle.state_file.specs.declared.record.Secret.{Secret}
-use Rattle.state_file.specs.declared.record.Secret.TheVariants.{Lms, Hss, Xmss}
+use Rattle.state_file.specs.declared.record.Secret.TheVariants.{Xmss}
 use Rattle.state_file.specs.declared.record.Version.{Version}
 use Rattle.state_file.specs.declared.record.Version.TheVariants.{One, Two}
 
@@ -22,22 +22,15 @@ use Rattle.state_file.specs.declared.record.Version.TheVariants.{One, Two}
 
 -- the key: record 0
 abbrev pub key_in : List Record → Option Key
-key_in [] = None
 key_in (KeyRecord key ∷ rest) = Some key
-key_in (ExtendRecord extend ∷ rest) = None
-key_in (BoundRecord bound ∷ rest) = None
-key_in (Retire upto ∷ rest) = None
-key_in (Moved ∷ rest) = None
+key_in _ = None
 
 -- ---- trees
 
 -- whether a record makes a tree of a level below the top
 abbrev pub makes : ℕ → Record → Bool
 makes level (ExtendRecord extend) = nat_eq extend.level level
-makes level (KeyRecord key) = false
-makes level (BoundRecord bound) = false
-makes level (Retire upto) = false
-makes level Moved = false
+makes level _ = false
 
 -- the place of the last Extend of a level, in records from place k on; else what was found before
 abbrev pub last_from : (level k : ℕ) → Option ℕ → List Record → Option ℕ
@@ -46,8 +39,7 @@ last_from level k found (entry ∷ rest) = last_from level (k + 1) (if makes lev
 
 abbrev pub same_tree : Option ℕ → Option ℕ → Bool
 same_tree (Some a) (Some b) = nat_eq a b
-same_tree (Some a) None = false
-same_tree None other = false
+same_tree _ _ = false
 
 -- the tree of an Extend at place j, if the tree above is still the one that was current before it
 abbrev pub under : (above : List Record → Option ℕ) → List Record → Option ℕ → Option ℕ
@@ -64,15 +56,13 @@ current (suc level) = λ records. under (current level) records (last_from (suc 
 
 -- the tree in which a record names or retires leaves, among the records before it, and the number above these leaves
 abbrev pub in_tree : Option ℕ → ℕ → Option (ℕ × ℕ)
-in_tree None n = None
-in_tree (Some tree) n = Some (tree, n)
+in_tree found n = option_map (λ tree. (tree, n)) found
 
 abbrev pub reaches : Secret → (before : List Record) → Record → Option (ℕ × ℕ)
-reaches secret before (KeyRecord key) = None
 reaches secret before (ExtendRecord extend) = in_tree (current (extend.level - 1) before) (extend.parent_leaf + 1)
 reaches secret before (BoundRecord bound) = in_tree (current (bottom_of secret) before) (bound.leaf + 1)
 reaches secret before (Retire upto) = in_tree (current (bottom_of secret) before) upto
-reaches secret before Moved = None
+reaches secret before _ = None
 
 -- that number, for one tree alone
 abbrev pub number_in : (tree : ℕ) → Option (ℕ × ℕ) → ℕ
@@ -132,10 +122,7 @@ are_same a b = pointwise nat_eq a b
 
 abbrev pub binds : (name : List ℕ) → Record → Option Bound
 binds name (BoundRecord bound) = if are_same bound.name name then Some bound else None
-binds name (KeyRecord key) = None
-binds name (ExtendRecord extend) = None
-binds name (Retire upto) = None
-binds name Moved = None
+binds name _ = None
 
 -- a name's binding with its place: the record at place k's, or else a later one
 abbrev pub or_later : (k : ℕ) → Option Bound → Option (ℕ × Bound) → Option (ℕ × Bound)
@@ -171,9 +158,8 @@ is_free secret records level leaf =
 
 -- a binding's C is any; for XMSS it is zero
 abbrev pub has_randomizer : Secret → (randomizer : List ℕ) → Bool
-has_randomizer (Lms secret) randomizer = true
-has_randomizer (Hss levels identifier seed) randomizer = true
 has_randomizer (Xmss secret) randomizer = are_same randomizer (replicate 32 0)
+has_randomizer _ randomizer = true
 
 -- how many leaves a level's current tree has, 0 where there is none
 abbrev pub leaves_of_current : Secret → List Record → (level : ℕ) → ℕ

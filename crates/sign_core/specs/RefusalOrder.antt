@@ -1,6 +1,6 @@
 -- Which refusal each event answers: the first cause that applies, in this order.
 use Rattle.std.specs.Prelude.{◌≡◌, ◌≢◌, ◌⊎◌, ◌↔◌, ℕ, zero, suc, ◌+◌, ◌-◌, ◌<◌, ◌≤◌, true, false, List, [], ◌∷◌}
-use Rattle.std.specs.Prelude.{length, IsOk, Option, Some, None, Result, Err}
+use Rattle.std.specs.Prelude.{drop, length, IsOk, Option, Some, None, Result, Err}
 use Rattle.typecodes.specs.declared.spec.Spec.{Spec}
 use Rattle.typecodes.specs.Spec.{IsSpec}
 use Rattle.state_file.specs.Laws.{bottom_of, levels_of}
@@ -21,7 +21,7 @@ use Rattle.sign_core.specs.Records.{leaves_of_current, next_at, wanted_count}
 use Rattle.sign_core.specs.Textbook.{AllHaveSizes, damaged_in, digest_at, tree_before}
 use Rattle.sign_core.specs.Events.{AreDrawsOf, AreFields, key_sizes, randomizer_sizes}
 use Rattle.sign_core.specs.World.{Chance, Creation, Draw, Fate, Opening, State, cut_new, cut_old, no_memory}
-use Rattle.sign_core.specs.World.{created, first_draw, later_draws, opened, requested, retired}
+use Rattle.sign_core.specs.World.{created, first_draw, opened, requested, retired}
 
 -- ---- causes in their order
 
@@ -91,7 +91,7 @@ RefusesWanted key chance zero = λ draws IsKnown.
 RefusesWanted key chance (suc below) = λ draws IsKnown.
     let fields = (first_draw draws).fields in
     RefusesTree IsKnown (first_draw draws)
-    (RefusesWanted key chance below (later_draws draws)
+    (RefusesWanted key chance below (drop 1 draws)
     (λ identifier. IsKnown identifier ⊎ BeginsWith fields identifier))
 
 -- Under a new name, where this level is the deepest with a free leaf: 30, 29, 28, and `RefusesWanted`.

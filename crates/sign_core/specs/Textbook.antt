@@ -20,7 +20,7 @@ use Rattle.state_file.specs.declared.record.Extend.{Extend}
 use Rattle.state_file.specs.declared.record.Key.{Key}
 use Rattle.state_file.specs.declared.record.Record.{Record}
 use Rattle.state_file.specs.declared.record.Record.TheVariants.{Key as KeyRecord, Extend as ExtendRecord}
-use Rattle.state_file.specs.declared.record.Record.TheVariants.{Bound as BoundRecord, Retire, Moved}
+use Rattle.state_file.specs.declared.record.Record.TheVariants.{Bound as BoundRecord}
 use Rattle.state_file.specs.declared.record.Secret.{Secret}
 use Rattle.state_file.specs.declared.record.Secret.TheVariants.{Lms, Hss, Xmss}
 use Rattle.sign_core.specs.declared.key.AnyPublic.{AnyPublic}
@@ -41,11 +41,7 @@ pub record Trees : Type 0 where
 abbrev pub secret_by : Trees → Option Record → LmsSecret
 secret_by trees (Some (ExtendRecord extend)) =
     lms_secret (slice_index_or trees.pairs extend.level trees.top.pair) extend.identifier extend.seed
-secret_by trees (Some (KeyRecord key)) = trees.top
-secret_by trees (Some (BoundRecord bound)) = trees.top
-secret_by trees (Some (Retire upto)) = trees.top
-secret_by trees (Some Moved) = trees.top
-secret_by trees None = trees.top
+secret_by trees _ = trees.top
 
 abbrev pub secret_at : Trees → List Record → (tree : ℕ) → LmsSecret
 secret_at trees records tree = secret_by trees (slice_get records tree)
@@ -61,19 +57,15 @@ abbrev pub chain : (level : ℕ) → List Record → (tree : ℕ) → List ℕ
 chain zero records tree = tree ∷ []
 chain (suc level) records tree = chain level records (tree_before level records tree) ++ tree ∷ []
 
+abbrev pub signing_with : LmsSecret → (leaf : ℕ) → (randomizer digest : List ℕ) → Signing
+signing_with secret leaf randomizer digest =
+    record { secret = secret; leaf = leaf; randomizer = randomizer; digest = digest }
+
 -- the signing of the tree that a record makes, by a leaf of its parent tree
 abbrev pub signing_by : Trees → List Record → (parent : ℕ) → Option Record → List Signing
-signing_by trees records parent (Some (ExtendRecord extend)) = record {
-  secret = secret_at trees records parent;
-  leaf = extend.parent_leaf;
-  randomizer = extend.randomizer;
-  digest = extend.digest;
-} ∷ []
-signing_by trees records parent (Some (KeyRecord key)) = []
-signing_by trees records parent (Some (BoundRecord bound)) = []
-signing_by trees records parent (Some (Retire upto)) = []
-signing_by trees records parent (Some Moved) = []
-signing_by trees records parent None = []
+signing_by trees records parent (Some (ExtendRecord extend)) =
+    signing_with (secret_at trees records parent) extend.parent_leaf extend.randomizer extend.digest ∷ []
+signing_by trees records parent _ = []
 
 -- the signings of a chain's trees below the Key's, from the top down
 abbrev pub signings_above : Trees → (level : ℕ) → List Record → (tree : ℕ) → List Signing
@@ -83,22 +75,17 @@ signings_above trees (suc level) records tree =
     signings_above trees level records parent ++ signing_by trees records parent (slice_get records tree)
 
 abbrev pub signing_of_bound : Trees → List Record → (tree : ℕ) → Bound → Signing
-signing_of_bound trees records tree bound = record {
-  secret = secret_at trees records tree;
-  leaf = bound.leaf;
-  randomizer = bound.randomizer;
-  digest = bound.digest;
-}
+signing_of_bound trees records tree bound =
+    signing_with (secret_at trees records tree) bound.leaf bound.randomizer bound.digest
 
 -- ---- by scheme
 
 -- The LMS trees of a key; XMSS has none.
 abbrev pub trees_of : Secret → Option Trees
 trees_of (Lms secret) = Some (record { top = secret; pairs = secret.pair ∷ [] })
-trees_of (Hss [] identifier seed) = None
 trees_of (Hss (pair ∷ rest) identifier seed) =
     Some (record { top = lms_secret pair identifier seed; pairs = pair ∷ rest })
-trees_of (Xmss secret) = None
+trees_of _ = None
 
 abbrev pub lms_public_in : LmsPair → (identifier root : List ℕ) → LmsPublic
 lms_public_in pair identifier root = record { pair = pair; identifier = identifier; root = root }
@@ -177,10 +164,7 @@ is_sound_extend (Some trees) records k extend =
 abbrev pub is_sound_record : Key → List Record → (k : ℕ) → Option Record → Bool
 is_sound_record key records k (Some (KeyRecord own)) = are_same own.root (root_by own.secret)
 is_sound_record key records k (Some (ExtendRecord extend)) = is_sound_extend (trees_of key.secret) records k extend
-is_sound_record key records k (Some (BoundRecord bound)) = true
-is_sound_record key records k (Some (Retire upto)) = true
-is_sound_record key records k (Some Moved) = true
-is_sound_record key records k None = true
+is_sound_record key records k _ = true
 
 abbrev pub is_sound_at : Key → List Record → (k : ℕ) → Bool
 is_sound_at key records k = is_sound_record key records k (slice_get records k)
@@ -209,8 +193,7 @@ HasSizes (KeyRecord key) = SecretHasSizes key.secret × (length key.root ≡ 32)
 HasSizes (ExtendRecord extend) = (length extend.identifier ≡ 16) × (length extend.seed ≡ 32)
     × (length extend.randomizer ≡ 32) × (length extend.digest ≡ 32) × (length extend.root ≡ 32)
 HasSizes (BoundRecord bound) = (length bound.randomizer ≡ 32) × (length bound.digest ≡ 32)
-HasSizes (Retire upto) = Unit {0}
-HasSizes Moved = Unit {0}
+HasSizes _ = Unit {0}
 
 abbrev pub AllHaveSizes : List Record → Type 0
 AllHaveSizes records = (k : ℕ) (entry : Record) → slice_get records k ≡ Some entry → HasSizes entry

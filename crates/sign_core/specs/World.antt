@@ -1,7 +1,7 @@
 -- The world of one key, and what each event does to it: its records, whether a signer is open on them, and what was
 -- handed out.
 use Rattle.std.specs.Prelude.{ℕ, zero, suc, ◌+◌, ◌-◌, Bool, true, false, not, ◌&&◌, List, [], ◌∷◌, ◌++◌, length}
-use Rattle.std.specs.Prelude.{replicate, slice_index_or}
+use Rattle.std.specs.Prelude.{drop, replicate, slice_index_or}
 use Rattle.std.specs.Prelude.{Option, Some, None, option_map, Result, Ok, Err, nat_le, nat_lt, if◌then◌else◌}
 use Rattle.std.specs.List.{concat}
 use Rattle.typecodes.specs.declared.spec.Spec.{Spec}
@@ -66,14 +66,8 @@ closed_on records = record { records = records; is_open = false }
 
 -- The append of a record was cut, and left these records; the signer is closed.
 abbrev pub cut : {A : Type 0} → (acknowledged : List Record) → Record → (left : List Record) → Outcome A
-cut acknowledged entry left = record {
-  state = closed_on left;
-  answer = Err StoreFailed;
-  acknowledged = acknowledged;
-  failed = Some entry;
-  drawn = [];
-  is_read = false;
-}
+cut acknowledged entry left =
+    record (refused (closed_on left) StoreFailed) { acknowledged = acknowledged; failed = Some entry }
 
 abbrev pub drawing : {A : Type 0} → List ℕ → Outcome A → Outcome A
 drawing bytes outcome = record outcome { drawn = bytes ++ outcome.drawn }
@@ -132,9 +126,6 @@ some_or fault (Some a) state rest = rest a state
 abbrev pub refuse_if : {B : Type 0} → SignFault → Bool → Step B (Unit {0})
 refuse_if fault wrong state rest = if wrong then refused state fault else rest tt state
 
-abbrev pub refuse_unless : {B : Type 0} → SignFault → Bool → Step B (Unit {0})
-refuse_unless fault right state rest = if not right then refused state fault else rest tt state
-
 abbrev pub answer_if : {B : Type 0} → B → Bool → Step B (Unit {0})
 answer_if answer done state rest = if done then answered state answer else rest tt state
 
@@ -174,12 +165,10 @@ pub record Creation : Type 0 where
 -- a key's secret: I and SEED, or the three seeds of XMSS, in the order of their draws
 abbrev pub secret_from : Spec → (fields : List (List ℕ)) → Option Secret
 secret_from (LmsSpec pair) (identifier ∷ seed ∷ []) = Some (Lms (lms_secret pair identifier seed))
-secret_from (LmsSpec pair) fields = None
 secret_from (HssSpec levels) (identifier ∷ seed ∷ []) = Some (Hss levels identifier seed)
-secret_from (HssSpec levels) fields = None
 secret_from (XmssSpec tree) (secret_seed ∷ prf_key ∷ public_seed ∷ []) =
     Some (Xmss (record { tree = tree; secret_seed = secret_seed; prf_key = prf_key; public_seed = public_seed }))
-secret_from (XmssSpec tree) fields = None
+secret_from _ _ = None
 
 abbrev pub new_key : Version → Secret → Key
 new_key version secret = record { version = version; secret = secret; root = root_by secret }
@@ -199,7 +188,7 @@ created state spec chance = event (do
   records ← the_records
   refuse_if KeyThere (nat_le 1 (length records))
   secret ← draw (secret_from spec chance.fields) chance.fields
-  refuse_unless OutOfMemory chance.has_room
+  refuse_if OutOfMemory (not chance.has_room)
   key ← give (new_key chance.version secret)
   append (KeyRecord key) chance.fate
   publish (public_in key)) state
@@ -246,20 +235,12 @@ abbrev pub first_draw : List Draw → Draw
 first_draw [] = record { fields = []; fate = acked }
 first_draw (draw ∷ draws) = draw
 
-abbrev pub later_draws : List Draw → List Draw
-later_draws [] = []
-later_draws (draw ∷ draws) = draws
-
-abbrev pub later_fields : List (List ℕ) → List (List ℕ)
-later_fields [] = []
-later_fields (field ∷ fields) = fields
-
 -- the key that an open signer signs with
 abbrev pub signing_key : {B : Type 0} → Step B Key
 signing_key = do
   state ← the_state
   key ← some_or Stopped (key_in state.records)
-  refuse_unless Stopped state.is_open
+  refuse_if Stopped (not state.is_open)
   refuse_if Moved (has_moved state.records)
   give key
 
@@ -268,8 +249,8 @@ abbrev pub repeat : Key → (k : ℕ) → Bound → Chance → Step (List ℕ) (
 repeat key k bound chance = do
   records ← the_records
   message ← read chance.given
-  refuse_unless Changed (are_same (digest_at key records k bound.leaf bound.randomizer message) bound.digest)
-  refuse_unless OutOfMemory chance.has_room
+  refuse_if Changed (not (are_same (digest_at key records k bound.leaf bound.randomizer message) bound.digest))
+  refuse_if OutOfMemory (not chance.has_room)
   bottom ← give (bottom_of key.secret)
   refuse_with (option_map Damaged (damaged_in key bottom records (tree_before bottom records k)))
   give (signature_at key records k bound)
@@ -305,7 +286,7 @@ begin_tree key level chance = do
   trees ← some_or RandomFailed (trees_of key.secret)
   identifier ← draw_identifier chance.fields
   refuse_if RandomRepeated (has_identifier records identifier)
-  drawn ← draw_seed (later_fields chance.fields)
+  drawn ← draw_seed (drop 1 chance.fields)
   secret ← give (lms_secret (slice_index_or trees.pairs level trees.top.pair) identifier drawn.0)
   leaf ← give (next_at key.secret records (level - 1))
   append (extend_record trees records level secret drawn.1 leaf) chance.fate
@@ -315,16 +296,14 @@ abbrev pub begin_trees : {B : Type 0} → Key → (below : ℕ) → List Draw �
 begin_trees key zero draws = give tt
 begin_trees key (suc below) draws = do
   begin_tree key (bottom_of key.secret - below) (first_draw draws)
-  begin_trees key below (later_draws draws)
+  begin_trees key below (drop 1 draws)
 
 -- C; XMSS draws none, since it makes it from the leaf's number
 abbrev pub randomizer_from : Secret → (fields : List (List ℕ)) → Option (List ℕ)
-randomizer_from (Lms secret) (randomizer ∷ []) = Some randomizer
-randomizer_from (Lms secret) fields = None
-randomizer_from (Hss levels identifier seed) (randomizer ∷ []) = Some randomizer
-randomizer_from (Hss levels identifier seed) fields = None
 randomizer_from (Xmss secret) [] = Some (replicate 32 0)
 randomizer_from (Xmss secret) fields = None
+randomizer_from _ (randomizer ∷ []) = Some randomizer
+randomizer_from _ _ = None
 
 abbrev pub new_bound : Key → List Record → (name : List ℕ) → (leaf : ℕ) → (randomizer message : List ℕ) → Bound
 new_bound key records name leaf randomizer message = record {
@@ -351,7 +330,7 @@ bind_anew limit key name chance = do
   records ← the_records
   level ← some_or Exhausted (deepest key.secret records)
   refuse_if LedgerFull (nat_lt limit (length records + wanted_count key.secret level))
-  refuse_unless OutOfMemory chance.has_room
+  refuse_if OutOfMemory (not chance.has_room)
   refuse_with (option_map Damaged (damaged_in key level records (tree_before level records (length records))))
   open_signer
   begin_trees key (bottom_of key.secret - level) chance.trees
@@ -427,8 +406,7 @@ pub data Event : Type 0 where
 abbrev pub handed_with : (name : List ℕ) → (given : Option (List ℕ)) → Result (List ℕ) SignFault → List Handed
 handed_with name (Some message) (Ok signature) =
     record { name = name; message = message; signature = signature } ∷ []
-handed_with name None (Ok signature) = []
-handed_with name given (Err fault) = []
+handed_with name _ _ = []
 
 -- an event in a world whose store takes `limit` records
 abbrev pub after : (limit : ℕ) → World → Event → World

@@ -58,6 +58,12 @@ impl<X: TreeSecret> TreeCache<X> {
         Ok(TreeCache { secret, cache })
     }
 
+    fn root(&self) -> [u8; 32]
+        ensures { result ≡ root_of (X.leaves_in self.now) (X.joins_in self.now) (X.height_in self.now) }
+    {
+        self.cache.root()
+    }
+
     // Writes the authentication path of a leaf, and answers the root.
     fn root_and_path(&mut self, leaf: u32, into: &mut [[u8; 32]]) -> [u8; 32]
         requires inside { leaf < 2 ^ X.height_in self.old }
@@ -181,6 +187,7 @@ impl Model for Caches {
 impl Caches {
     ghost use Rattle.sign_core.specs.Caches.{HasLevel, cache_at};
     ghost use Rattle.sign_core.specs.inner.Links.{IsMade};
+    ghost use Rattle.lms.specs.Secret.{root_in as lms_root_in};
     ghost use Rattle.xmss.specs.Secret.{path_in as xmss_path_in, root_in as xmss_root_in};
 
     /// No cache for any level.
@@ -221,23 +228,22 @@ impl Caches {
         keep(kept, self.alloc, level, secret, leaf, progress)
     }
 
-    /// Replaces a level's cache by a new tree's, and answers the tree, ready to sign by its first leaf.
+    /// Replaces a level's cache by a new tree's, which is to sign by its first leaf, and answers the tree's root.
     pub(crate) fn begin<P: TreeProgress>(
         &mut self,
         level: u8,
         secret: LmsSecret,
         progress: &P,
-    ) -> Result<SigningTree, SignFault>
+    ) -> Result<[u8; 32], SignFault>
         requires { level < 8 }
         ensures fault { IfErr result (λ fault. fault ≡ SignFault.OutOfMemory) }
         ensures stays { OnErr result (self.new ≡ self.old) }
-        ensures secret { IfOk result (λ begun. begun.secret ≡ secret) }
-        ensures leaf { IfOk result (λ begun. begun.leaf ≡ 0) }
-        ensures made { IfOk result (λ begun. IsMade begun) }
+        ensures root { IfOk result (λ root. root ≡ lms_root_in secret) }
     {
         let cache = TreeCache::new(self.alloc, level, secret, 0, progress)?;
+        let root = cache.root();
         self.levels[usize::from(level)] = Some(cache);
-        Ok(self.signing_tree(level, secret, 0, progress))
+        Ok(root)
     }
 
     /// The tree of a secret, ready to sign by a leaf: from the level's cache, if that is the secret's, else made anew.

@@ -6,8 +6,6 @@ ghost use Rattle.arrayvec.specs.ArrayVec.{array_vec_len};
 ghost use Rattle.typecodes.specs.Types.{height_of};
 ghost use Rattle.state_file.specs.Laws.{IsLegal, levels_of};
 ghost use Rattle.sign_core.specs.Records.{free_at, key_in};
-ghost use Rattle.sign_core.specs.inner.Links.{AreTreesOf, trees_in};
-ghost use Rattle.sign_core.specs.inner.Signing.{StandsIn};
 ghost use Rattle.sign_core.specs.Textbook.{damaged_in, tree_before};
 
 use crate::caches::Caches;
@@ -192,20 +190,22 @@ impl KeyTrees {
         above.push(parent.signing(randomizer, digest));
         self.sound_tree(ledger, caches, level, place, leaf, progress)
     }
+}
 
-    /// The chain of the current trees down to a level with a free leaf: the trees above, and the level's own, ready to
-    /// sign by its next leaf. Or the place of the chain's first record that isn't sound.
+impl SecretTrees {
+    ghost use Rattle.sign_core.specs.inner.Links.{MakesTrees};
+
+    /// Checks the current trees down to a level with a free leaf: or answers the place of the first record that isn't
+    /// sound.
     #[inline(never)]
-    pub(crate) fn standing<P: TreeProgress>(
+    pub(crate) fn check_current<P: TreeProgress>(
         &self,
         ledger: &Ledger,
         caches: &mut Caches,
         level: u8,
         progress: &P,
-    ) -> Result<(ArrayVec<Link, 8>, SigningTree), u32>
-        requires legal { IsLegal ledger.now.records }
-        requires keyed { key_in ledger.now.records ≡ Some ledger.now.key }
-        requires trees { AreTreesOf self.now ledger.now.key }
+    ) -> Result<(), u32>
+        requires trees { MakesTrees ledger.now.key.secret self.now }
         requires level { level < levels_of ledger.now.key.secret }
         requires few { level < 8 }
         requires free { 0 < free_at ledger.now.key.secret ledger.now.records level }
@@ -213,18 +213,26 @@ impl KeyTrees {
             (tree_before level ledger.now.records (length ledger.now.records)) ≡ None) }
         ensures damaged { IfErr result (λ k. damaged_in ledger.now.key level ledger.now.records
             (tree_before level ledger.now.records (length ledger.now.records)) ≡ Some k) }
-        ensures stands { IfOk result (λ chain.
-            StandsIn (trees_in self.now) ledger.now.records chain.0.items chain.1 ledger.now.key) }
-        ensures count { IfOk result (λ chain. length chain.0.items ≡ level) }
         ensures caches { caches.new ≡ caches.old }
     {
-        let (place, leaf) = match ledger.current(level) {
-            Some(tree) => (tree.place, tree.next),
-            None => (0, 0),
+        let key = ledger.key();
+        let Some(tree) = ledger.current(level) else {
+            unreachable!()
         };
-        let mut above = ArrayVec::new();
-        let last = self.chain_to(ledger, caches, level, place, leaf, &mut above, progress)?;
-        Ok((above, last))
+        match self {
+            SecretTrees::Chain(trees) => {
+                let mut above = ArrayVec::new();
+                trees.chain_to(
+                    ledger, caches, level, tree.place, tree.next, &mut above, progress,
+                )?;
+                Ok(())
+            }
+            SecretTrees::Xmss(secret) => {
+                let mut nodes = [[0; 32]; 20];
+                let path = &mut nodes[..usize::from(secret.tree.height())];
+                caches.xmss_link(*secret, &key.root, tree.next, path, progress)
+            }
+        }
     }
 }
 

@@ -69,14 +69,6 @@ impl SigningTree {
         extend.root == public.root
             && extend.digest == key_digest(parent, extend.parent_leaf, &extend.randomizer, &public)
     }
-
-    /// Q, the digest of the public key of another tree, which the leaf signs with this C.
-    pub(crate) fn digest_of(&self, randomizer: &[u8; 32], public: &LmsPublic) -> [u8; 32]
-        ensures { result ≡ message_digest_of self.now.secret.identifier self.now.leaf randomizer.now
-            (public_bytes public.now) }
-    {
-        key_digest(self.secret.identifier, self.leaf, randomizer, public)
-    }
 }
 
 impl Link {
@@ -106,8 +98,8 @@ impl Link {
     }
 }
 
-// Q, the digest of a public key, for a leaf of the tree with this I, and this C.
-fn key_digest(
+/// Q, the digest of a public key, for a leaf of the tree with this I, and this C.
+pub(crate) fn key_digest(
     identifier: [u8; 16],
     leaf: u32,
     randomizer: &[u8; 32],

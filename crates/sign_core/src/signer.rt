@@ -2,6 +2,7 @@
 
 ghost use Rattle.std.specs.Prelude.{◌≡◌, ◌<◌, ◌≤◌, ◌-◌, ◌^◌, ◌∷◌, [], true, false, Some, Ok, Err, length, IfErr, IfOk};
 ghost use Rattle.std.specs.Prelude.{IfSome, IsTrue, None, OnOk};
+ghost use Rattle.merkle.specs.Tree.{root_of as tree_root};
 ghost use Rattle.state_file.specs.Store.{CanFollow, is_key};
 ghost use Rattle.sign_core.specs.inner.Source.{DrawsBytes};
 ghost use Rattle.sign_core.specs.Events.{AreFields};
@@ -24,14 +25,13 @@ use crate::key_trees::{KeyTrees, SecretTrees};
 use crate::ledger::{Ledger, LedgerFault};
 use crate::progress::{TreeLeaves, TreeProgress};
 use crate::source::{Source, draw};
+use crate::tree_secret::TreeSecret;
 use arrayvec::ArrayVec;
-use lms::LmsTree;
 use merkle::{Silent, Told, root};
 use state_file::{Key, Record, Refused, Secret, Store, StoreFault, Version};
 use std::alloc::Global;
 use std::marker::Model;
 use typecodes::{LmsSecret, Spec, XmssSecret};
-use xmss::XmssTree;
 
 /// Signs messages under names, each new name with a leaf of its own. What it signed stands in its store, and it draws
 /// its secrets and randomizers from its source.
@@ -130,17 +130,18 @@ fn root_of<P: TreeProgress>(secret: &Secret, progress: &P) -> [u8; 32]
     ensures { result ≡ root_by secret.now }
 {
     match SecretTrees::of(secret) {
-        SecretTrees::Chain(KeyTrees { top, .. }) => {
-            let height = top.pair.tree.height();
-            let leaves = TreeLeaves::begin(progress, 0, height);
-            root(&mut Told::new(LmsTree::new(top), leaves), height)
-        }
-        SecretTrees::Xmss(secret) => {
-            let height = secret.tree.height();
-            let leaves = TreeLeaves::begin(progress, 0, height);
-            root(&mut Told::new(XmssTree::new(secret), leaves), height)
-        }
+        SecretTrees::Chain(KeyTrees { top, .. }) => top_root(top, progress),
+        SecretTrees::Xmss(secret) => top_root(secret, progress),
     }
+}
+
+// The root of a secret's tree, of which `progress` is told as a top tree.
+fn top_root<X: TreeSecret, P: TreeProgress>(secret: X, progress: &P) -> [u8; 32]
+    ensures { result ≡ tree_root (X.leaves_in secret) (X.joins_in secret) (X.height_in secret) }
+{
+    let height = secret.height();
+    let leaves = TreeLeaves::begin(progress, 0, height);
+    root(&mut Told::new(secret.tree(), leaves), height)
 }
 
 // The number of a key's levels, 1 to 8 by their type.

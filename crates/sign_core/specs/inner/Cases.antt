@@ -1,5 +1,5 @@
 -- The model of World from a step on, by what this step finds: what private functions do is one case of it or another.
-use Rattle.std.specs.Prelude.{ℕ, ◌+◌, ◌-◌, List, length, Option, nat_le, nat_lt}
+use Rattle.std.specs.Prelude.{ℕ, ◌+◌, ◌-◌, List, length, drop, not, Option, nat_le, nat_lt}
 use Rattle.std.specs.Prelude.{option_map, slice_index_or}
 use Rattle.typecodes.specs.declared.spec.Spec.{Spec}
 use Rattle.state_file.specs.Laws.{bottom_of}
@@ -16,12 +16,12 @@ use Rattle.sign_core.specs.declared.fault.SignFault.TheVariants.{Damaged, Moved,
 use Rattle.sign_core.specs.Records.{are_same, binding_in, has_identifier, has_moved, key_in}
 use Rattle.sign_core.specs.Records.{leaves_of_current, next_at, wanted_count}
 use Rattle.sign_core.specs.Textbook.{Trees, damaged_in, digest_at, lms_secret, public_in}
-use Rattle.sign_core.specs.Textbook.{signature_at, tree_before, trees_of}
-use Rattle.sign_core.specs.World.{◌>>=◌, ◌>>◌, Chance, Creation, Draw, Fate, Opening, Outcome, State, Step, answer_if}
+use Rattle.sign_core.specs.Textbook.{signature_at, tree_before}
+use Rattle.sign_core.specs.World.{◌>>=◌, ◌>>◌, Chance, Creation, Draw, Fate, Opening, Outcome, State, answer_if}
 use Rattle.sign_core.specs.World.{append, begin_trees, bind, close, draw, draw_identifier, draw_seed, event}
-use Rattle.sign_core.specs.World.{extend_record, first_refusal, give, later_fields, new_bound, new_key, open_on}
-use Rattle.sign_core.specs.World.{open_signer, publish, randomizer_from, read, refuse_if, refuse_unless}
-use Rattle.sign_core.specs.World.{refuse_with, secret_from, sign_as, some_or, the_records, the_state}
+use Rattle.sign_core.specs.World.{extend_record, first_refusal, give, new_bound, new_key, open_on}
+use Rattle.sign_core.specs.World.{open_signer, publish, read, refuse_if}
+use Rattle.sign_core.specs.World.{refuse_with, secret_from, sign_as, some_or, the_records}
 
 -- ---- create and open
 
@@ -33,7 +33,7 @@ published records public = event (publish public) (open_on records)
 abbrev pub begun : State → Creation → Option Secret → Outcome AnyPublic
 begun state chance made = event (do
   secret ← some_or RandomFailed made
-  refuse_unless OutOfMemory chance.has_room
+  refuse_if OutOfMemory (not chance.has_room)
   key ← give (new_key chance.version secret)
   append (KeyRecord key) chance.fate
   publish (public_in key)) state
@@ -45,7 +45,7 @@ created_after failed state spec chance = event (do
   records ← the_records
   refuse_if KeyThere (nat_le 1 (length records))
   secret ← draw (secret_from spec chance.fields) chance.fields
-  refuse_unless OutOfMemory chance.has_room
+  refuse_if OutOfMemory (not chance.has_room)
   key ← give (new_key chance.version secret)
   append (KeyRecord key) chance.fate
   publish (public_in key)) state
@@ -78,8 +78,8 @@ repeated_sound state key k bound damaged = event (do
 abbrev pub repeated : State → Key → (k : ℕ) → Bound → Chance → (given : Option (List ℕ)) → Outcome (List ℕ)
 repeated state key k bound chance given = event (do
   message ← read given
-  refuse_unless Changed (are_same (digest_at key state.records k bound.leaf bound.randomizer message) bound.digest)
-  refuse_unless OutOfMemory chance.has_room
+  refuse_if Changed (not (are_same (digest_at key state.records k bound.leaf bound.randomizer message) bound.digest))
+  refuse_if OutOfMemory (not chance.has_room)
   bottom ← give (bottom_of key.secret)
   refuse_with (option_map Damaged (damaged_in key bottom state.records (tree_before bottom state.records k)))
   give (signature_at key state.records k bound)) state
@@ -100,7 +100,7 @@ abbrev pub extended_by : State → Trees → (level leaf : ℕ) → (fields : Li
 extended_by state trees level leaf fields fate next = (do
   identifier ← draw_identifier fields
   refuse_if RandomRepeated (has_identifier state.records identifier)
-  drawn ← draw_seed (later_fields fields)
+  drawn ← draw_seed (drop 1 fields)
   secret ← give (lms_secret (slice_index_or trees.pairs level trees.top.pair) identifier drawn.0)
   append (extend_record trees state.records level secret drawn.1 leaf) fate) state (λ a later. next later.records)
 
@@ -111,7 +111,7 @@ extended state key level found chance next = (do
   trees ← some_or RandomFailed found
   identifier ← draw_identifier chance.fields
   refuse_if RandomRepeated (has_identifier state.records identifier)
-  drawn ← draw_seed (later_fields chance.fields)
+  drawn ← draw_seed (drop 1 chance.fields)
   secret ← give (lms_secret (slice_index_or trees.pairs level trees.top.pair) identifier drawn.0)
   leaf ← give (next_at key.secret state.records (level - 1))
   append (extend_record trees state.records level secret drawn.1 leaf) chance.fate) state
@@ -147,10 +147,11 @@ bound_sound state key name chance level damaged = event (do
 -- this level is the deepest with a free leaf
 abbrev pub bound_anew : (limit : ℕ) → State → Key → (name : List ℕ) → Chance → (level : Option ℕ) → Outcome (List ℕ)
 bound_anew limit state key name chance deepest = event (do
+  records ← the_records
   level ← some_or Exhausted deepest
-  refuse_if LedgerFull (nat_lt limit (length state.records + wanted_count key.secret level))
-  refuse_unless OutOfMemory chance.has_room
-  refuse_with (option_map Damaged (damaged_in key level state.records (tree_before level state.records (length state.records))))
+  refuse_if LedgerFull (nat_lt limit (length records + wanted_count key.secret level))
+  refuse_if OutOfMemory (not chance.has_room)
+  refuse_with (option_map Damaged (damaged_in key level records (tree_before level records (length records))))
   open_signer
   begin_trees key (bottom_of key.secret - level) chance.trees
   bind key name chance) state
@@ -165,7 +166,7 @@ requested_of limit state key name chance found = event (sign_as limit key name c
 abbrev pub requested_under : (limit : ℕ) → State → (name : List ℕ) → Chance → Option Key → Outcome (List ℕ)
 requested_under limit state name chance found = event (do
   key ← some_or Stopped found
-  refuse_unless Stopped state.is_open
+  refuse_if Stopped (not state.is_open)
   refuse_if Moved (has_moved state.records)
   records ← the_records
   sign_as limit key name chance (binding_in records name)) state
@@ -176,7 +177,7 @@ requested_under limit state name chance found = event (do
 abbrev pub retired_under : (limit : ℕ) → State → (upto : ℕ) → Fate → Option Key → Outcome (Unit {0})
 retired_under limit state upto fate found = event (do
   key ← some_or Stopped found
-  refuse_unless Stopped state.is_open
+  refuse_if Stopped (not state.is_open)
   refuse_if Moved (has_moved state.records)
   records ← the_records
   bottom ← give (bottom_of key.secret)

@@ -19,7 +19,7 @@ use Rattle.sign_core.specs.declared.key_trees.SecretTrees.TheVariants.{Chain, Xm
 use Rattle.sign_core.specs.declared.links.Link.{Link}
 use Rattle.sign_core.specs.declared.links.SigningTree.{SigningTree}
 use Rattle.sign_core.specs.Records.{are_same}
-use Rattle.sign_core.specs.Textbook.{Trees, trees_of}
+use Rattle.sign_core.specs.Textbook.{Trees, signing_with, trees_of}
 
 abbrev pub trees_in : KeyTrees → Trees
 trees_in trees = record { top = trees.top; pairs = trees.levels }
@@ -38,10 +38,6 @@ abbrev pub IsTreeAt : List Record → (level place : ℕ) → Type 0
 IsTreeAt records zero place = place ≡ 0
 IsTreeAt records (suc level) place =
     (extend : Extend) × (slice_get records place ≡ Some (ExtendRecord extend)) × (extend.level ≡ suc level)
-
-abbrev pub signing_with : LmsSecret → (leaf : ℕ) → (randomizer digest : List ℕ) → Signing
-signing_with secret leaf randomizer digest =
-    record { secret = secret; leaf = leaf; randomizer = randomizer; digest = digest }
 
 abbrev pub signing_of_link : Link → Signing
 signing_of_link link = signing_with link.tree.secret link.tree.leaf link.randomizer link.digest

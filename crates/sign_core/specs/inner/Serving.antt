@@ -6,7 +6,7 @@ use Rattle.typecodes.specs.Message.{CantBeRead, ReadWhole}
 use Rattle.typecodes.specs.Name.{IsName}
 use Rattle.state_file.specs.declared.store.Store as store
 use Rattle.sign_core.specs.declared.fault.ServeFault.{ServeFault}
-use Rattle.sign_core.specs.declared.fault.ServeFault.TheVariants.{MessageRead, WriteFailed}
+use Rattle.sign_core.specs.declared.fault.ServeFault.TheVariants.{WriteFailed}
 use Rattle.sign_core.specs.declared.fault.SignFault.{SignFault}
 use Rattle.sign_core.specs.declared.fault.SignFault.TheVariants as refused
 use Rattle.sign_core.specs.declared.serving.Reply.{Reply}

@@ -1,6 +1,6 @@
 -- What private functions alone cite of `Signing.antt`'s subject.
 use Rattle.std.specs.Prelude.{◌≡◌, ◌⊎◌, ℕ, ◌+◌, ◌-◌, ◌<◌, Bool, true, false, List, [], ◌∷◌, ◌++◌, length, Option, None}
-use Rattle.std.specs.Prelude.{Some, Result, Ok, Err, Vec, map, take, vec_capacity, ◌≤◌, ◌^◌}
+use Rattle.std.specs.Prelude.{Some, Result, Ok, Err, Vec, map, vec_capacity, ◌≤◌, ◌^◌}
 use Rattle.std.specs.List.{AllByRecursion, concat}
 use Rattle.typecodes.specs.declared.message.Message as message
 use Rattle.state_file.specs.declared.record.Bound.{Bound}
@@ -9,18 +9,16 @@ use Rattle.state_file.specs.declared.record.Record.{Record}
 use Rattle.state_file.specs.declared.record.Record.TheVariants.{Bound as BoundRecord}
 use Rattle.state_file.specs.declared.store.Store as store
 use Rattle.state_file.specs.Disk.{Counts}
-use Rattle.state_file.specs.Laws.{bottom_of, leaves_at, levels_of}
+use Rattle.state_file.specs.Laws.{bottom_of, levels_of}
 use Rattle.state_file.specs.declared.record.Secret.{Secret}
 use Rattle.sign_core.specs.declared.fault.SignFault.{SignFault}
 use Rattle.sign_core.specs.declared.fault.SignFault.TheVariants.{RandomFailed, RandomRepeated}
 use Rattle.sign_core.specs.declared.source.Source as source
 use Rattle.sign_core.specs.declared.links.Link.{Link}
-use Rattle.sign_core.specs.declared.links.SigningTree.{SigningTree}
 use Rattle.sign_core.specs.declared.signer.bind.TreeSeeds.{TreeSeeds}
 use Rattle.sign_core.specs.Source.{Provides}
-use Rattle.sign_core.specs.Records.{binding_in, current, has_identifier, has_moved, has_randomizer, is_long, key_in}
-use Rattle.sign_core.specs.Records.{next_at}
-use Rattle.sign_core.specs.inner.Links.{AreMade, IsMade, signings_of}
+use Rattle.sign_core.specs.Records.{binding_in, free_at, has_identifier, has_moved, has_randomizer, is_long, key_in}
+use Rattle.sign_core.specs.inner.Links.{signings_of}
 use Rattle.sign_core.specs.Events.{AreDrawsOf, AreFields, IsTreeDraw, randomizer_sizes, tree_sizes}
 use Rattle.sign_core.specs.Signer.{Ends, IsRead, KeepsAtRefusal, LacksTree, RefusesAfterDraws, UnlessAppended}
 use Rattle.sign_core.specs.Signer.{UsesMemory, View, is_before_caches, is_before_draws, is_before_repeat, is_fault}
@@ -29,41 +27,23 @@ use Rattle.sign_core.specs.World.{Chance, Draw, Outcome, State, acked, answered}
 use Rattle.sign_core.specs.inner.Cases.{bound_sound, extended, fulfilled}
 use Rattle.sign_core.specs.World.{open_on, randomizer_from}
 use Rattle.sign_core.specs.inner.Cases.{requested_of}
-use Rattle.sign_core.specs.Textbook.{Trees, damaged_in, secret_at, signature_at, signature_by, signing_of_bound}
+use Rattle.sign_core.specs.Textbook.{Trees, damaged_in, signature_at, signature_by, signing_of_bound}
 use Rattle.sign_core.specs.Textbook.{signings_above}
 use Rattle.sign_core.specs.Textbook.{tree_before, trees_of}
 use Rattle.typecodes.specs.declared.types.LmsPair.{LmsPair}
 use Rattle.sign_core.specs.declared.ledger.Binding.{Binding}
 use Rattle.sign_core.specs.Caches.{Cached, LacksCache}
-use Rattle.sign_core.specs.Ledger.{binding_kept}
+use Rattle.sign_core.specs.Ledger.{binding_kept, kept_of}
 use Rattle.sign_core.specs.Signing.{UnderKey, answered_with, KeepsCapacity}
 
 abbrev pub pairs_of : List Link → List LmsPair
 pairs_of links = map (λ link. link.tree.secret.pair) links
 
--- A chain's trees are the current ones down to a level, and each signs the next. The last is to sign by its next leaf,
--- which is free.
-pub record Stands (key : Key) (trees : Trees) (records : List Record) (level : ℕ) (above : List Link)
-    (last : SigningTree) : Type 0 where
-  pub tree : ℕ
-  pub current_is : current level records ≡ Some tree
-  pub count : length above ≡ level
-  pub signings : signings_of above ≡ signings_above trees level records tree
-  pub secret : last.secret ≡ secret_at trees records tree
-  pub leaf : last.leaf ≡ next_at key.secret records level
-  pub free : next_at key.secret records level < leaves_at key.secret level
-  pub made : AreMade above
-  pub last_made : IsMade last
-  pub pairs : pairs_of above ++ last.secret.pair ∷ [] ≡ take (level + 1) trees.pairs
-
--- These are the trees of a key of LMS or HSS, and the chain stands.
-abbrev pub StandsIn : Trees → List Record → (above : List Link) → (last : SigningTree) → Key → Type 0
-StandsIn trees records above last key =
-    (trees_of key.secret ≡ Some trees) × Stands key trees records (length above) above last
-
--- `StandsIn` under the records' key.
-abbrev pub ChainStands : List Record → Trees → (above : List Link) → (last : SigningTree) → Type 0
-ChainStands records trees above last = UnderKey records (StandsIn trees records above last)
+-- A level's current tree has a free leaf, and the chain of trees down to it is sound.
+pub record Stands (records : List Record) (level : ℕ) (key : Key) : Type 0 where
+  pub inside : level < levels_of key.secret
+  pub free : 0 < free_at key.secret records level
+  pub sound : damaged_in key level records (tree_before level records (length records)) ≡ None
 
 -- A signer is open, its records don't go on elsewhere, and store and memory have room for `wanted` more.
 pub record IsReady {S R : Type 0} (most wanted : ℕ) (view : View S R) : Type 0 where
@@ -147,7 +127,7 @@ pub record Extends {S R : Type 0} (g : store.Ghosts S) (r : source.Ghosts R) (le
   pub stays : UnlessAppended old new answer (new.store ≡ old.store)
   pub not_before_draws : is_fault is_before_draws answer ≡ false
 
--- All records of a new name, where `below` levels under a standing chain have no tree: the Extends, and the Bound.
+-- All records of a new name, where the lowest `below` levels have no tree: the Extends, and the Bound.
 pub record Fulfils {S R M : Type 0} (g : store.Ghosts S) (r : source.Ghosts R) (m : message.Ghosts M) (name : List ℕ)
     (below : ℕ) (old new : View S R) (before after : M) (answer : Result (List ℕ) SignFault) (key : Key) : Type 0 where
   pub trees : List Draw
@@ -163,24 +143,21 @@ pub record Fulfils {S R M : Type 0} (g : store.Ghosts S) (r : source.Ghosts R) (
   pub not_before_draws : is_fault is_before_draws answer ≡ false
   pub lacks_tree : LacksTree g (below + 1) old new answer
 
--- the binding of a name to the next leaf of the bottom tree, with this C and digest
-abbrev pub bound_to_next : Key → List Record → (name randomizer digest : List ℕ) → Bound
-bound_to_next key records name randomizer digest = record {
-  name = name;
-  leaf = next_at key.secret records (bottom_of key.secret);
-  randomizer = randomizer;
-  digest = digest;
-}
+-- The last record binds a name, and this is kept of it.
+pub record IsBoundLast (key : Key) (old new : List Record) (name : List ℕ) (bound : Bound) (binding : Binding)
+    : Type 0 where
+  pub grown : new ≡ old ++ BoundRecord bound ∷ []
+  pub named : binding_in new name ≡ Some (length old, bound)
+  pub kept : kept_of key.secret new (length old, bound) ≡ binding
 
--- A name is bound to the next leaf: its signature is the record's, with this C and digest. Or the binding is refused.
+-- A name is bound to the next leaf: its signature is the record's, and what is kept of it is answered. Or the binding
+-- is refused.
 abbrev pub BindsNext : {S R M : Type 0} (g : store.Ghosts S) (r : source.Ghosts R) (m : message.Ghosts M)
-    (name : List ℕ) (old new : View S R) (before after : M) (answer : Result (List ℕ × List ℕ) SignFault) (key : Key)
-    → Type 0
-BindsNext g r m name old new before after (Ok (randomizer, digest)) key =
-    let bound = bound_to_next key old.records name randomizer digest in
-    Fulfils g r m name 0 old new before after
+    (name : List ℕ) (old new : View S R) (before after : M) (answer : Result Binding SignFault) (key : Key) → Type 0
+BindsNext g r m name old new before after (Ok binding) key = (bound : Bound)
+    × Fulfils g r m name 0 old new before after
     (Ok (signature_at key (old.records ++ BoundRecord bound ∷ []) (length old.records) bound)) key
-    × (key_in new.records ≡ Some key)
+    × IsBoundLast key old.records new.records name bound binding
 BindsNext g r m name old new before after (Err fault) key = Fulfils g r m name 0 old new before after (Err fault) key
 
 -- A new name, where there is room, and this level is the deepest with a free leaf.

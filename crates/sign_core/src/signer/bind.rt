@@ -7,22 +7,21 @@ ghost use Rattle.state_file.specs.Laws.{levels_of, bottom_of};
 ghost use Rattle.sign_core.specs.Records.{binding_in, free_at, has_moved, is_long};
 ghost use Rattle.sign_core.specs.inner.Request.{Prepares};
 ghost use Rattle.sign_core.specs.Signer.{KeepsAll};
-ghost use Rattle.sign_core.specs.inner.Signing.{Binds, BindsNext, CanBind, ChainStands, DrawsRandomizer, DrawsTree};
-ghost use Rattle.sign_core.specs.inner.Signing.{Extends, Fulfils, IsReady};
-ghost use Rattle.sign_core.specs.Signing.{IsXmssKey, KeepsCapacity, UnderKey, answered_with};
-ghost use Rattle.sign_core.specs.inner.Links.{trees_in};
+ghost use Rattle.sign_core.specs.inner.Signing.{BindsNext, CanBind, DrawsRandomizer, DrawsTree, Extends, Fulfils};
+ghost use Rattle.sign_core.specs.inner.Signing.{IsReady, Stands};
+ghost use Rattle.sign_core.specs.Signing.{KeepsCapacity, UnderKey, answered_with};
 
 use super::{Signer, draw_field};
 use crate::fault::SignFault;
-use crate::key_trees::{KeyTrees, SecretTrees};
-use crate::ledger::Ledger;
-use crate::links::{Link, SigningTree};
+use crate::key_trees::SecretTrees;
+use crate::ledger::{Binding, Ledger};
+use crate::links::key_digest;
 use crate::progress::TreeProgress;
 use crate::source::{Source, draw};
-use crate::writing::{make_room, write_chain};
-use arrayvec::ArrayVec;
+use crate::writing::make_room;
+use lms::LmsPublic;
 use state_file::{Bound, Extend, Record, Store};
-use typecodes::{LmsSecret, Message, Name, XmssSecret};
+use typecodes::{LmsSecret, Message, Name};
 
 /// What a new tree draws: I and SEED, and C for the leaf that signs it.
 #[derive(Clone, Copy)]
@@ -67,7 +66,10 @@ impl SecretTrees {
 }
 
 impl<S: Store, R: Source> Signer<S, R> {
-    // Makes room for a new name's records and signature, and the caches. `level` is the deepest with a free leaf.
+    ghost use Rattle.sign_core.specs.inner.Links.{MakesTrees};
+
+    // Makes room for a new name's records and signature, and the missing caches; `level` is the deepest with a free
+    // leaf. A signer makes each cache once, as long as its tree is current.
     #[inline(never)]
     pub(super) fn prepare<P: TreeProgress>(
         &mut self,
@@ -90,79 +92,69 @@ impl<S: Store, R: Source> Signer<S, R> {
         self.ledger
             .reserve(usize::from(wanted))
             .map_err(|_| SignFault::OutOfMemory)?;
-        self.cache(level, progress)
-    }
-
-    // Makes the missing caches for a new name; `level` is the deepest with a free leaf. A signer makes each once, as
-    // long as its tree is current.
-    fn cache<P: TreeProgress>(&mut self, level: u8, progress: &P) -> Result<(), SignFault>
-        requires level { UnderKey self.old.records (λ key. level < levels_of key.secret) }
-        ensures keeps { KeepsAll self.old self.new }
-        ensures spare { self.new.spare ≡ self.old.spare }
-        ensures fault { IfErr result (λ fault. fault ≡ SignFault.OutOfMemory) }
-        ensures lacking { OnErr result (UnderKey self.old.records (λ key.
-            LacksCache key self.old.records (Some level) (length self.old.records) self.old.cached)) }
-    {
         let count = self.ledger.len();
         let trees = SecretTrees::of(&self.ledger.key().secret);
         self.caches
             .keep_trees(&trees, &self.ledger, level, count, None, progress)
     }
 
-    // Begins and records a tree below a standing chain; the next leaf of the chain's last tree signs it. Answers the
-    // new tree, ready to sign by its first leaf.
+    // Begins and records a tree below the current tree of a level, whose next leaf signs it.
     #[inline(never)]
     fn extend<P: TreeProgress>(
         &mut self,
-        trees: &KeyTrees,
-        above: &mut ArrayVec<Link, 8>,
-        last: SigningTree,
+        trees: &SecretTrees,
+        level: u8,
         progress: &P,
-    ) -> Result<SigningTree, SignFault>
+    ) -> Result<(), SignFault>
         requires ready { IsReady (S.most self.old.store) 1 self.old }
-        requires stands { ChainStands self.old.records (trees_in trees.now) above.old.items last }
-        requires below { UnderKey self.old.records (λ key. length above.old.items + 1 < levels_of key.secret) }
+        requires trees { UnderKey self.old.records (λ key. MakesTrees key.secret trees.now) }
+        requires below { UnderKey self.old.records (λ key. level + 1 < levels_of key.secret) }
+        requires stands { UnderKey self.old.records (Stands self.old.records level) }
         ensures step { UnderKey self.old.records
-            (Extends S.Store R.Source (length above.old.items + 1) self.old self.new (answered_with result [])) }
-        ensures stands { IfOk result (ChainStands self.new.records (trees_in trees.now) above.new.items) }
-        ensures count { OnOk result (length above.new.items ≡ length above.old.items + 1) }
+            (Extends S.Store R.Source (level + 1) self.old self.new (answered_with result [])) }
+        ensures stands { OnOk result (UnderKey self.new.records (Stands self.new.records (level + 1))) }
     {
+        let Some(parent) = self.ledger.current(level) else {
+            unreachable!()
+        };
+        let SecretTrees::Chain(chain) = trees else {
+            unreachable!()
+        };
+        let below = level + 1;
         let TreeSeeds {
             identifier,
             seed,
             randomizer,
         } = draw_tree(&mut self.random, &self.ledger)?;
-        let level = above.len() as u8 + 1;
+        let pair = chain.pair(below);
         let secret = LmsSecret {
-            pair: trees.pair(level),
+            pair,
             identifier,
             seed,
         };
-        let made = self.caches.begin(level, secret, progress)?;
-        let root = made.root;
-        let leaf = last.leaf;
-        let digest = last.digest_of(&randomizer, &made.public());
+        let root = self.caches.begin(below, secret, progress)?;
+        let public = LmsPublic {
+            pair,
+            identifier,
+            root,
+        };
+        let signer = chain.secret_at(&self.ledger, parent.place).identifier;
+        let digest = key_digest(signer, parent.next, &randomizer, &public);
         self.add(Record::Extend(Extend {
-            level,
-            parent_leaf: leaf,
+            level: below,
+            parent_leaf: parent.next,
             identifier,
             seed,
             randomizer,
             digest,
             root,
-        }))?;
-        above.push(last.signing(randomizer, digest));
-        Ok(made)
+        }))
     }
 
     // Binds a name to the next leaf of the bottom tree: draws C, reads the message, and appends the record. Answers
-    // what the leaf signs with, C and the digest.
+    // what is kept of the binding.
     #[inline(never)]
-    fn bind<M: Message>(
-        &mut self,
-        name: &Name,
-        message: &mut M,
-    ) -> Result<([u8; 32], [u8; 32]), SignFault>
+    fn bind<M: Message>(&mut self, name: &Name, message: &mut M) -> Result<Binding, SignFault>
         requires ready { IsReady (S.most self.old.store) 1 self.old }
         requires unbound { binding_in self.old.records name.now ≡ None }
         requires fits { UnderKey self.old.records (λ key. is_long key name.now ≡ false) }
@@ -177,10 +169,10 @@ impl<S: Store, R: Source> Signer<S, R> {
         let Some(tree) = self.ledger.current(bottom) else {
             unreachable!()
         };
-        let (place, leaf) = (tree.place, tree.next);
+        let (place, leaf) = (self.ledger.len(), tree.next);
         // 23, 27
         let randomizer = trees.draw_randomizer(&mut self.random)?;
-        let digest = trees.digest(&self.ledger, place, leaf, &randomizer, message)?;
+        let digest = trees.digest(&self.ledger, tree.place, leaf, &randomizer, message)?;
         // 29, 25
         self.add(Record::Bound(Bound {
             name: *name,
@@ -188,67 +180,45 @@ impl<S: Store, R: Source> Signer<S, R> {
             randomizer,
             digest,
         }))?;
-        Ok((randomizer, digest))
+        Ok(Binding {
+            place,
+            leaf,
+            randomizer,
+            digest,
+            tree: tree.place,
+        })
     }
 
-    // Makes a new name's records below a standing chain, one after the other: an Extend for each level without a tree,
-    // and the Bound. Then it writes the signature.
+    // Makes a new name's records below a level with a free leaf, one after the other: an Extend for each of the levels
+    // there, and the Bound. Then it writes the signature.
     #[inline(never)]
     pub(super) fn fulfil<M: Message, P: TreeProgress>(
         &mut self,
-        trees: &KeyTrees,
+        trees: &SecretTrees,
+        level: u8,
         name: &Name,
         message: &mut M,
-        above: &mut ArrayVec<Link, 8>,
-        last: SigningTree,
         out: &mut [u8],
         progress: &P,
     ) -> Result<(), SignFault>
-        requires can { UnderKey self.old.records (λ key. CanBind (S.most self.old.store)
-            (levels_of key.secret - length above.old.items) name.now (length out.old) self.old) }
-        requires stands { ChainStands self.old.records (trees_in trees.now) above.old.items last }
+        requires can { UnderKey self.old.records (λ key. CanBind (S.most self.old.store) (levels_of key.secret - level)
+            name.now (length out.old) self.old) }
+        requires trees { UnderKey self.old.records (λ key. MakesTrees key.secret trees.now) }
+        requires stands { UnderKey self.old.records (Stands self.old.records level) }
         ensures { UnderKey self.old.records (λ key. Fulfils S.Store R.Source M.Message name.now
-            (bottom_of key.secret - length above.old.items) self.old self.new message.old message.new
+            (bottom_of key.secret - level) self.old self.new message.old message.new
             (answered_with result out.new) key) }
     {
-        if above.len() + 1 < usize::from(self.ledger.key().secret.levels()) {
-            let made = self.extend(trees, above, last, progress)?;
+        let levels = self.ledger.key().secret.levels();
+        if level + 1 < levels {
+            self.extend(trees, level, progress)?;
             // For the prover: a signer that recorded an Extend is open, and so its store runs.
             prove!(self.is_open);
-            return self.fulfil(trees, name, message, above, made, out, progress);
+            return self.fulfil(trees, level + 1, name, message, out, progress);
         }
-        let (randomizer, digest) = self.bind(name, message)?;
-        above.push(last.signing(randomizer, digest));
-        write_chain(&self.ledger.key().secret, above, out);
-        Ok(())
-    }
-
-    // Binds a name to the next leaf of an XMSS key, whose root is checked first, and writes the signature.
-    #[inline(never)]
-    pub(super) fn bind_xmss<M: Message, P: TreeProgress>(
-        &mut self,
-        secret: &XmssSecret,
-        name: &Name,
-        message: &mut M,
-        out: &mut [u8],
-        progress: &P,
-    ) -> Result<(), SignFault>
-        requires can { CanBind (S.most self.old.store) 1 name.now (length out.old) self.old }
-        requires key { UnderKey self.old.records (IsXmssKey secret.now) }
-        requires free { UnderKey self.old.records (λ key. 0 < free_at key.secret self.old.records 0) }
-        ensures { UnderKey self.old.records (Binds S.Store R.Source M.Message name.now 0 self.old self.new
-            message.old message.new (answered_with result out.new)) }
-    {
-        let root = self.ledger.key().root;
-        let (leaf, _) = self.bottom();
-        let mut nodes = [[0; 32]; 20];
-        let path = &mut nodes[..usize::from(secret.tree.height())];
-        self.caches
-            .xmss_link(*secret, &root, leaf, path, progress)
-            .map_err(SignFault::Damaged)?;
-        let (_, digest) = self.bind(name, message)?;
-        let randomizer = xmss::randomizer(secret, leaf);
-        xmss::write_signature(secret, leaf, &randomizer, &digest, path, out);
-        Ok(())
+        let binding = self.bind(name, message)?;
+        trees
+            .write_bound(&self.ledger, &mut self.caches, &binding, out, progress)
+            .map_err(SignFault::Damaged)
     }
 }

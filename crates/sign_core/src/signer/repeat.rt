@@ -28,7 +28,7 @@ impl SecretTrees {
     // Writes the signature of a binding over the whole of `out`. Or answers the place of the first record of its trees
     // that isn't sound.
     #[inline(never)]
-    fn write_bound<P: TreeProgress>(
+    pub(super) fn write_bound<P: TreeProgress>(
         &self,
         ledger: &Ledger,
         caches: &mut Caches,
@@ -46,6 +46,7 @@ impl SecretTrees {
         ensures signature { OnOk result ((k : ℕ) (bound : Bound)
             → kept_of ledger.now.key.secret ledger.now.records (k, bound) ≡ binding.now
             → out.new ≡ signature_at ledger.now.key ledger.now.records k bound) }
+        ensures caches { caches.new ≡ caches.old }
     {
         let key = ledger.key();
         let (tree, leaf, digest) = (binding.tree, binding.leaf, binding.digest);

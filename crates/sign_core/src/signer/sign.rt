@@ -169,17 +169,13 @@ impl<S: Store, R: Source> Signer<S, R> {
         let level = self.ledger.deepest().ok_or(SignFault::Exhausted)?;
         // 30, 29
         self.prepare(level, out, progress)?;
-        match SecretTrees::of(&self.ledger.key().secret) {
-            SecretTrees::Chain(trees) => {
-                let (mut above, last) = trees
-                    .standing(&self.ledger, &mut self.caches, level, progress)
-                    .map_err(SignFault::Damaged)?;
-                // 23, 24, 29 and 25 for each tree; 23, 27, 25
-                self.fulfil(&trees, name, message, &mut above, last, out, progress)
-            }
-            // 28, 27, 25
-            SecretTrees::Xmss(secret) => self.bind_xmss(&secret, name, message, out, progress),
-        }
+        // 28
+        let trees = SecretTrees::of(&self.ledger.key().secret);
+        trees
+            .check_current(&self.ledger, &mut self.caches, level, progress)
+            .map_err(SignFault::Damaged)?;
+        // 23, 24, 29 and 25 for each tree; 23, 27, 25
+        self.fulfil(&trees, level, name, message, out, progress)
     }
 
     // Whether a name is longer than a file of the key's version can hold.

@@ -1,4 +1,4 @@
-use Rattle.std.proofs.Common.{rules, ◌∙◌, Some, ap, sym, subst}
+use Rattle.std.proofs.Common.{rules, ◌∙◌, Some, ap, subst}
 use Rattle.typecodes.specs.Message.{Digests}
 use Rattle.sign_core.specs.Textbook.{digest_at}
 use Rattle.sign_core.specs.inner.Links.{MakesTrees}

@@ -1,4 +1,4 @@
-use Rattle.std.proofs.Common.{rules, ◌≡◌, ◌∙◌, ℕ, ◌-◌, [], ◌∷◌, ◌++◌, None, Some, sym, ap, subst, arith}
+use Rattle.std.proofs.Common.{rules, ◌≡◌, ◌∙◌, ◌-◌, [], ◌∷◌, ◌++◌, None, Some, sym, ap, subst, arith}
 use Rattle.std.specs.Prelude.{length}
 use Rattle.state_file.specs.Laws.{bottom_of}
 use Rattle.state_file.specs.declared.record.Key.{Key}
@@ -6,7 +6,7 @@ use Rattle.sign_core.specs.declared.links.SigningTree.{SigningTree}
 use Rattle.sign_core.specs.Signer.{signature_size}
 use Rattle.sign_core.specs.inner.Links.{AreMade, IsMade, IsTreeAt, MakesTrees, trees_in}
 use Rattle.sign_core.specs.inner.Signing.{WritesChain}
-use Rattle.sign_core.specs.Textbook.{damaged_in, secret_at, signings_above, trees_of}
+use Rattle.sign_core.specs.Textbook.{damaged_in, signings_above, trees_of}
 use Rattle.sign_core.proofs.ChainParts.{links_pairs}
 use Rattle.sign_core.proofs.LedgerReading.{key_levels}
 use Rattle.sign_core.proofs.LinkParts.{link_signs, more_made}

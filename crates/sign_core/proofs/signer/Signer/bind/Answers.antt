@@ -1,23 +1,24 @@
-use Rattle.std.proofs.Common.{rules, ◌≡◌, ◌∙◌, ◌-◌, ◌<◌, ◌^◌, ◌∷◌, [], ◌++◌, length, Some, Ok, Err, refl, sym, ap, subst, arith, true}
+use Rattle.std.proofs.Common.{rules, ◌≡◌, ◌∙◌, ◌-◌, ◌<◌, ◌^◌, ◌∷◌, [], ◌++◌, length, None, Some, Ok, Err, refl, sym, ap, subst, arith, true}
 use Rattle.state_file.specs.Laws.{bottom_of}
 use Rattle.state_file.specs.declared.record.Bound.{Bound}
 use Rattle.state_file.specs.declared.record.Key.{Key}
 use Rattle.state_file.specs.declared.record.Record.TheVariants.{Bound as BoundRecord}
 use Rattle.sign_core.specs.declared.fault.SignFault.TheVariants.{MessageRead}
+use Rattle.sign_core.specs.declared.ledger.Binding.{Binding}
 use Rattle.sign_core.specs.Records.{binding_in, free_at, has_moved, key_in, next_at}
 use Rattle.sign_core.specs.Signer.{view_of}
 use Rattle.sign_core.specs.Signing.{answered_with}
 use Rattle.sign_core.specs.Textbook.{digest_at, signature_at}
 use Rattle.sign_core.specs.Trees.{tree_at}
 use Rattle.sign_core.specs.inner.Links.{MakesTrees}
-use Rattle.sign_core.specs.inner.Signing.{BindsNext, Fulfils, IsRandomizer, bound_to_next}
+use Rattle.sign_core.specs.inner.Signing.{BindsNext, Fulfils, IsRandomizer}
 use Rattle.sign_core.proofs.Adding.{levels_range}
 use Rattle.sign_core.proofs.Appended.{added_records}
-use Rattle.sign_core.proofs.Binding.{bound_added, bound_follows, bound_next, tree_at_end, undrawn, unread_bound}
+use Rattle.sign_core.proofs.Binding.{bound_added, bound_follows, bound_next, kept_last, tree_at_end, undrawn, unread_bound}
+use Rattle.sign_core.proofs.Bindings.{binding_new}
 use Rattle.sign_core.proofs.ChainParts.{same_key}
 use Rattle.sign_core.proofs.CurrentChain.{has_free, not_free}
 use Rattle.sign_core.proofs.Signs.{is_none}
-use Rattle.sign_core.proofs.Stays.{key_stays}
 use Rattle.sign_core.proofs.signer.Signer.bind.Goals as goal
 
 pub overflow_sub-bottom : goal.overflow_sub-bottom
@@ -202,18 +203,25 @@ returns g c key keyed =
     let drawn = subst (λ (k : Key). IsRandomizer k.secret (g.R.Source.failures i.random) (g.R.Source.failures c.draw_randomizer.new.random)
     (g.R.Source.upcoming i.random) (g.R.Source.upcoming c.draw_randomizer.new.random) c.in_ok-randomizer.randomizer) own
     (c.in_ok-randomizer.ensures K.secret trees) in
-    let first : key_in records ≡ Some key = ap (λ w. key_in w.records) c.self.view_is ∙ keyed in
     let grown = added_records g.S.Store (view_of i.store c.draw_randomizer.new.random i.ledger i.caches i.is_open) c.add.new.self (BoundRecord bound) c.add.result
     c.in_ok-add.field-0 c.add.ensures.adds c.in_ok-add.was in
     let fulfils = bound_added g.S.Store g.R.Source g.M.Message c.args.name.now i.store i.random c.draw_randomizer.new.random i.ledger i.is_open
     c.args.message.now c.digest.new.message key c.add.new.self bound text c.add.result (Ok sig) opened drawn whole is c.add.ensures.adds
     (ap (λ a. answered_with a sig) (sym c.in_ok-add.was)) in
-    let next : Bound = bound_to_next key records c.args.name.now c.in_ok-randomizer.randomizer c.in_ok-digest.digest in
-    let same : bound ≡ next =
-    λ j. record { name = c.args.name.now; leaf = leaf j; randomizer = c.in_ok-randomizer.randomizer; digest = c.in_ok-digest.digest } in
-    subst (λ w. BindsNext g.S.Store g.R.Source g.M.Message c.args.name.now w c.add.new.self c.args.message.now c.digest.new.message
-    (Ok (c.in_ok-randomizer.randomizer, c.in_ok-digest.digest)) key) c.self.view_is (
-      subst (λ (b : Bound). Fulfils g.S.Store g.R.Source g.M.Message c.args.name.now 0 (view_of i.store i.random i.ledger i.caches i.is_open) c.add.new.self
-          c.args.message.now c.digest.new.message (Ok (signature_at key (records ++ BoundRecord b ∷ []) (length records) b)) key) same fulfils,
-      ap key_in grown ∙ key_stays records (BoundRecord bound ∷ []) key first,
+    let unbound : binding_in records c.args.name.now ≡ None = ap (λ w. binding_in w.records c.args.name.now) c.self.view_is ∙ c.requires.unbound in
+    let binding : Binding = record {
+      place = c.len-place.result;
+      leaf = c.in-Some.tree.next;
+      randomizer = c.in_ok-randomizer.randomizer;
+      digest = c.in_ok-digest.digest;
+      tree = c.in-Some.tree.place;
+    } in
+    subst (λ w. BindsNext g.S.Store g.R.Source g.M.Message c.args.name.now w c.add.new.self c.args.message.now c.digest.new.message (Ok binding) key) c.self.view_is (
+      bound,
+      fulfils,
+      record {
+        grown = grown;
+        named = ap (λ l. binding_in l c.args.name.now) grown ∙ binding_new records bound unbound;
+        kept = kept_last K key records c.add.new.self.records c.in-Some.tree.place c.len-place.result bound has.current_is c.len-place.ensures grown own;
+      },
     )

@@ -1,4 +1,4 @@
-use Rattle.std.proofs.Common.{rules, ◌≡◌, ◌∙◌, Err, false, ap, sym, subst, ◌<◌, ◌-◌, None, Some, length, arith, IfOk}
+use Rattle.std.proofs.Common.{rules, ◌≡◌, ◌∙◌, Err, false, ap, sym, subst, ◌<◌, ◌-◌, None, Some, length, arith}
 use Rattle.std.specs.Prelude.{vec_capacity}
 use Rattle.std.proofs.lemmas.List.{take_at}
 use Rattle.state_file.specs.Laws.{bottom_of, levels_of}
@@ -7,16 +7,16 @@ use Rattle.sign_core.specs.Ledger.{binding_kept, kept_of}
 use Rattle.sign_core.specs.Records.{binding_in, deepest, is_long, key_in}
 use Rattle.sign_core.specs.Signer.{IsSigner, KeepsForRepeat, Signs, is_before_repeat, view_of}
 use Rattle.sign_core.specs.Signing.{UnderKey, answered_with}
-use Rattle.sign_core.specs.Textbook.{damaged_in, tree_before, trees_of}
+use Rattle.sign_core.specs.Textbook.{damaged_in, tree_before}
 use Rattle.sign_core.specs.declared.fault.SignFault.TheVariants.{Damaged}
 use Rattle.sign_core.specs.inner.Links.{MakesTrees}
-use Rattle.sign_core.specs.inner.Signing.{Binds, CanBind, Fulfils, IsBindingOf}
+use Rattle.sign_core.specs.inner.Signing.{CanBind, Fulfils, IsBindingOf, Stands}
 use Rattle.sign_core.proofs.ChainParts.{same_key}
 use Rattle.sign_core.proofs.Leaves.{deepest_is}
 use Rattle.sign_core.proofs.LedgerReading.{key_levels}
 use Rattle.sign_core.proofs.Refusals.{same_kind}
 use Rattle.sign_core.proofs.Repeats.{fault_of, linked_ok}
-use Rattle.sign_core.proofs.Signs.{binds_signs, can_bind, damaged_binds, deepest_after, exhausted_signs, fulfils_binds, linked_value, none_fault, some_level, hindered_signs, long_signs, none_mapped, repeats_signs, unprepared_signs, is_none}
+use Rattle.sign_core.proofs.Signs.{binds_signs, can_bind, damaged_binds, deepest_after, exhausted_signs, fulfils_binds, none_fault, some_level, hindered_signs, long_signs, none_mapped, repeats_signs, unprepared_signs, is_none}
 use Rattle.sign_core.proofs.signer.Signer.sign_into.Goals as goal
 
 pub returns-in_err-check_open-clause-step : goal.returns-in_err-check_open-clause-step
@@ -105,12 +105,11 @@ returns-in_err-prepare-clause-step g c =
     (ap (λ w. deepest key.secret w.records) (sym c.self.view_is) ∙ sym c.deepest.ensures ∙ some) made.keeps
     made.caches made.spare made.does)
 
-pub standing-requires-clause-trees : goal.standing-requires-clause-trees
-standing-requires-clause-trees g c =
-    ap (λ (k : Key). trees_of k.secret) (sym c.key.ensures.key) ∙ subst (MakesTrees c.key.result.now.secret) c.in-Chain.is c.of.ensures
+pub check_current-requires-clause-trees : goal.check_current-requires-clause-trees
+check_current-requires-clause-trees g c = subst (λ (k : Key). MakesTrees k.secret c.of-trees.result) c.key.ensures.key c.of-trees.ensures
 
-pub standing-requires-clause-level : goal.standing-requires-clause-level
-standing-requires-clause-level g c =
+pub check_current-requires-clause-level : goal.check_current-requires-clause-level
+check_current-requires-clause-level g c =
     let first = c.self.inside.ledger in
     let i = c.self-2.inside.ledger in
     let keyed = ap (λ w. key_in w.records) (sym c.self.view_is) ∙ c.self.invariant.1 in
@@ -120,8 +119,8 @@ standing-requires-clause-level g c =
     (deepest_is i.key.secret i.records c.in_ok-level.level
     (deepest_after first.records i.records first.key i.key c.in_ok-level.level records c.self.invariant.1 c.self-2.invariant.1 (sym c.deepest.ensures ∙ some))).0
 
-pub standing-requires-clause-few : goal.standing-requires-clause-few
-standing-requires-clause-few g c =
+pub check_current-requires-clause-few : goal.check_current-requires-clause-few
+check_current-requires-clause-few g c =
     let first = c.self.inside.ledger in
     let i = c.self-2.inside.ledger in
     let keyed = ap (λ w. key_in w.records) (sym c.self.view_is) ∙ c.self.invariant.1 in
@@ -130,8 +129,8 @@ standing-requires-clause-few g c =
     let few = (key_levels first.records first.key c.self.invariant.0.sizes c.self.invariant.1).1 in
     omega (arith, within, few)
 
-pub standing-requires-clause-free : goal.standing-requires-clause-free
-standing-requires-clause-free g c =
+pub check_current-requires-clause-free : goal.check_current-requires-clause-free
+check_current-requires-clause-free g c =
     let first = c.self.inside.ledger in
     let i = c.self-2.inside.ledger in
     let keyed = ap (λ w. key_in w.records) (sym c.self.view_is) ∙ c.self.invariant.1 in
@@ -140,6 +139,39 @@ standing-requires-clause-free g c =
     let records : i.records ≡ first.records = ap (λ w. w.records) c.self-2.view_is ∙ made.keeps.records ∙ ap (λ w. w.records) (sym c.self.view_is) in
     (deepest_is i.key.secret i.records c.in_ok-level.level
     (deepest_after first.records i.records first.key i.key c.in_ok-level.level records c.self.invariant.1 c.self-2.invariant.1 (sym c.deepest.ensures ∙ some))).1
+
+pub returns-in_err-map_err-clause-step : goal.returns-in_err-map_err-clause-step
+returns-in_err-map_err-clause-step g c =
+    let unbound = none_mapped (kept_of c.self.inside.ledger.key.secret c.args.self.now.records) (binding_in c.args.self.now.records c.args.name.now)
+    (ap (λ w. binding_kept c.self.inside.ledger.key.secret w.records c.args.name.now) (sym c.self.view_is) ∙ sym c.find.ensures ∙ is_none c.find.result c.in_default.not-Some) in
+    let short : UnderKey c.args.self.now.records (λ key. is_long key c.args.name.now ≡ false) = λ key keyed. sym (c.is_long.ensures key keyed) ∙ c.if-is_long.false in
+    let v = c.args.self.now in
+    let key = c.self.inside.ledger.key in
+    let keyed = ap (λ w. key_in w.records) (sym c.self.view_is) ∙ c.self.invariant.1 in
+    let some = some_level c.deepest.result c.in_ok-level.level (sym c.ok_or.ensures.value ∙ c.in_ok-level.was) in
+    let made = c.in_ok-prepare.ensures.room key keyed in
+    let mid = c.prepare.new.self in
+    let still = ap key_in made.keeps.records ∙ keyed in
+    let whole = c.self-2.inside in
+    let i = whole.ledger in
+    let same = ap (λ x. view_of whole.store whole.random whole.ledger x whole.is_open) c.check_current.ensures.caches ∙ c.self-2.view_is in
+    let own : i.key ≡ key = same_key mid.records i.key key (ap (λ w. key_in w.records) (sym c.self-2.view_is) ∙ c.self-2.invariant.1) still in
+    let answer : c.from_residual-in_err-map_err.result ≡ Err c.in_err-map_err.field-0.0 = search rules in
+    let (slot, is, damaged) = fault_of c.check_current.result c.map_err.result c.in_err-map_err.field-0.0
+    (λ k. damaged_in i.key c.in_ok-level.level i.records (tree_before c.in_ok-level.level i.records (length i.records)) ≡ Some k)
+    c.map_err.ensures.cases c.in_err-map_err.was c.check_current.ensures.damaged in
+    let here = subst (λ k. damaged_in k c.in_ok-level.level mid.records (tree_before c.in_ok-level.level mid.records (length mid.records)) ≡ Some slot) own
+    (subst (λ w. damaged_in i.key c.in_ok-level.level w.records (tree_before c.in_ok-level.level w.records (length w.records)) ≡ Some slot) c.self-2.view_is damaged) in
+    subst (λ w. Signs g.S.Store g.R.Source g.M.Message v w c.args.name.now c.args.message.now c.args.message.now (vec_capacity c.args.out.now)
+    (answered_with c.from_residual-in_err-map_err.result c.prepare.new.out.items)) (sym same)
+    (subst (λ a. Signs g.S.Store g.R.Source g.M.Message v mid c.args.name.now c.args.message.now c.args.message.now (vec_capacity c.args.out.now)
+    (answered_with a c.prepare.new.out.items)) (sym (answer ∙ ap Err is))
+    (binds_signs g.S.Store g.R.Source g.M.Message v mid mid c.args.name.now c.args.message.now c.args.message.now (vec_capacity c.args.out.now)
+    c.in_ok-level.level key (Err (Damaged slot)) keyed c.in_ok-check_open.ensures.open c.in_ok-check_open.ensures.stays unbound (short key keyed)
+    (ap (λ w. deepest key.secret w.records) (sym c.self.view_is) ∙ sym c.deepest.ensures ∙ some) made.keeps made.spare made.does.0
+    (damaged_binds g.S.Store g.R.Source g.M.Message mid c.args.name.now c.args.message.now c.in_ok-level.level key slot
+    (subst (IsSigner g.S.Store) c.self-2.view_is c.self-2.invariant.0)
+    (λ left honest running since. g.met.S.Store.leaves_nothing_else mid.store left honest running since) here)))
 
 pub fulfil-requires-clause-can : goal.fulfil-requires-clause-can
 fulfil-requires-clause-can g c =
@@ -151,19 +183,33 @@ fulfil-requires-clause-can g c =
     let whole = c.self-2.inside in
     let keyed = ap (λ w. key_in w.records) (sym c.self.view_is) ∙ c.self.invariant.1 in
     let made = c.in_ok-prepare.ensures.room c.self.inside.ledger.key keyed in
-    let same = ap (λ x. view_of whole.store whole.random whole.ledger x whole.is_open) c.standing.ensures.caches ∙ c.self-2.view_is in
-    let value = linked_value c.standing.result c.map_err.result _ c.map_err.ensures.cases c.in_ok-above-in-Chain.was in
-    let count : length c.in_ok-above-in-Chain.above.items ≡ c.in_ok-level.level =
-    subst (λ s. IfOk s (λ chain. length chain.0.items ≡ c.in_ok-level.level)) value c.standing.ensures.count in
+    let same = ap (λ x. view_of whole.store whole.random whole.ledger x whole.is_open) c.check_current.ensures.caches ∙ c.self-2.view_is in
     let can = can_bind g.S.Store.most v mid c.args.name.now c.in_ok-level.level (length c.deref_mut.result.now) (vec_capacity c.args.out.now)
     (length c.prepare.new.out.items) _ made.keeps unbound short c.in_ok-prepare.ensures.room (ap length c.deref_mut.ensures.value) in
-    subst (λ w. UnderKey w.records (λ key. CanBind (g.S.Store.most w.store) (levels_of key.secret - length c.in_ok-above-in-Chain.above.items) c.args.name.now
-    (length c.deref_mut.result.now) w)) (sym same)
-    (λ key is. subst (λ n. CanBind (g.S.Store.most mid.store) (levels_of key.secret - n) c.args.name.now (length c.deref_mut.result.now) mid)
-    (sym count) (can key is))
+    subst (λ w. UnderKey w.records (λ key. CanBind (g.S.Store.most w.store) (levels_of key.secret - c.in_ok-level.level) c.args.name.now
+    (length c.deref_mut.result.now) w)) (sym same) can
 
-pub returns-in_err-above-in-Chain-clause-step : goal.returns-in_err-above-in-Chain-clause-step
-returns-in_err-above-in-Chain-clause-step g c =
+pub fulfil-requires-clause-trees : goal.fulfil-requires-clause-trees
+fulfil-requires-clause-trees g c key keyed =
+    let i = c.self-2.inside.ledger in
+    subst (λ (k : Key). MakesTrees k.secret c.of-trees.result) (c.key.ensures.key ∙ same_key i.records i.key key c.self-2.invariant.1 keyed) c.of-trees.ensures
+
+pub fulfil-requires-clause-stands : goal.fulfil-requires-clause-stands
+fulfil-requires-clause-stands g c key keyed =
+    let first = c.self.inside.ledger in
+    let i = c.self-2.inside.ledger in
+    let start = ap (λ w. key_in w.records) (sym c.self.view_is) ∙ c.self.invariant.1 in
+    let some = some_level c.deepest.result c.in_ok-level.level (sym c.ok_or.ensures.value ∙ c.in_ok-level.was) in
+    let made = c.in_ok-prepare.ensures.room first.key start in
+    let records : i.records ≡ first.records = ap (λ w. w.records) c.self-2.view_is ∙ made.keeps.records ∙ ap (λ w. w.records) (sym c.self.view_is) in
+    let deepest = deepest_is i.key.secret i.records c.in_ok-level.level
+    (deepest_after first.records i.records first.key i.key c.in_ok-level.level records c.self.invariant.1 c.self-2.invariant.1 (sym c.deepest.ensures ∙ some)) in
+    let sound = linked_ok c.check_current.result c.map_err.result _ _ c.map_err.ensures.cases c.in_ok-map_err.was c.check_current.ensures.sound in
+    subst (Stands i.records c.in_ok-level.level) (same_key i.records i.key key c.self-2.invariant.1 keyed)
+    (record { inside = deepest.0; free = deepest.1; sound = sound })
+
+pub returns-clause-step : goal.returns-clause-step
+returns-clause-step g c =
     let unbound = none_mapped (kept_of c.self.inside.ledger.key.secret c.args.self.now.records) (binding_in c.args.self.now.records c.args.name.now)
     (ap (λ w. binding_kept c.self.inside.ledger.key.secret w.records c.args.name.now) (sym c.self.view_is) ∙ sym c.find.ensures ∙ is_none c.find.result c.in_default.not-Some) in
     let short : UnderKey c.args.self.now.records (λ key. is_long key c.args.name.now ≡ false) = λ key keyed. sym (c.is_long.ensures key keyed) ∙ c.if-is_long.false in
@@ -176,55 +222,17 @@ returns-in_err-above-in-Chain-clause-step g c =
     let still = ap key_in made.keeps.records ∙ keyed in
     let whole = c.self-2.inside in
     let i = whole.ledger in
-    let same = ap (λ x. view_of whole.store whole.random whole.ledger x whole.is_open) c.standing.ensures.caches ∙ c.self-2.view_is in
+    let same = ap (λ x. view_of whole.store whole.random whole.ledger x whole.is_open) c.check_current.ensures.caches ∙ c.self-2.view_is in
     let own : i.key ≡ key = same_key mid.records i.key key (ap (λ w. key_in w.records) (sym c.self-2.view_is) ∙ c.self-2.invariant.1) still in
-    let answer : c.from_residual-in_err-above-in-Chain.result ≡ Err c.in_err-above-in-Chain.field-0.0 = search rules in
-    let (slot, is, damaged) = fault_of c.standing.result c.map_err.result c.in_err-above-in-Chain.field-0.0
-    (λ k. damaged_in i.key c.in_ok-level.level i.records (tree_before c.in_ok-level.level i.records (length i.records)) ≡ Some k)
-    c.map_err.ensures.cases c.in_err-above-in-Chain.was c.standing.ensures.damaged in
-    let here = subst (λ k. damaged_in k c.in_ok-level.level mid.records (tree_before c.in_ok-level.level mid.records (length mid.records)) ≡ Some slot) own
-    (subst (λ w. damaged_in i.key c.in_ok-level.level w.records (tree_before c.in_ok-level.level w.records (length w.records)) ≡ Some slot) c.self-2.view_is damaged) in
-    subst (λ w. Signs g.S.Store g.R.Source g.M.Message v w c.args.name.now c.args.message.now c.args.message.now (vec_capacity c.args.out.now)
-    (answered_with c.from_residual-in_err-above-in-Chain.result c.prepare.new.out.items)) (sym same)
-    (subst (λ a. Signs g.S.Store g.R.Source g.M.Message v mid c.args.name.now c.args.message.now c.args.message.now (vec_capacity c.args.out.now)
-    (answered_with a c.prepare.new.out.items)) (sym (answer ∙ ap Err is))
-    (binds_signs g.S.Store g.R.Source g.M.Message v mid mid c.args.name.now c.args.message.now c.args.message.now (vec_capacity c.args.out.now)
-    c.in_ok-level.level key (Err (Damaged slot)) keyed c.in_ok-check_open.ensures.open c.in_ok-check_open.ensures.stays unbound (short key keyed)
-    (ap (λ w. deepest key.secret w.records) (sym c.self.view_is) ∙ sym c.deepest.ensures ∙ some) made.keeps made.spare made.does.0
-    (damaged_binds g.S.Store g.R.Source g.M.Message mid c.args.name.now c.args.message.now c.in_ok-level.level key slot
-    (subst (IsSigner g.S.Store) c.self-2.view_is c.self-2.invariant.0)
-    (λ left honest running since. g.met.S.Store.leaves_nothing_else mid.store left honest running since) here)))
-
-pub returns-in_ok-above-in-Chain-clause-step : goal.returns-in_ok-above-in-Chain-clause-step
-returns-in_ok-above-in-Chain-clause-step g c =
-    let unbound = none_mapped (kept_of c.self.inside.ledger.key.secret c.args.self.now.records) (binding_in c.args.self.now.records c.args.name.now)
-    (ap (λ w. binding_kept c.self.inside.ledger.key.secret w.records c.args.name.now) (sym c.self.view_is) ∙ sym c.find.ensures ∙ is_none c.find.result c.in_default.not-Some) in
-    let short : UnderKey c.args.self.now.records (λ key. is_long key c.args.name.now ≡ false) = λ key keyed. sym (c.is_long.ensures key keyed) ∙ c.if-is_long.false in
-    let v = c.args.self.now in
-    let key = c.self.inside.ledger.key in
-    let keyed = ap (λ w. key_in w.records) (sym c.self.view_is) ∙ c.self.invariant.1 in
-    let some = some_level c.deepest.result c.in_ok-level.level (sym c.ok_or.ensures.value ∙ c.in_ok-level.was) in
-    let made = c.in_ok-prepare.ensures.room key keyed in
-    let mid = c.prepare.new.self in
-    let still = ap key_in made.keeps.records ∙ keyed in
-    let whole = c.self-2.inside in
-    let i = whole.ledger in
-    let same = ap (λ x. view_of whole.store whole.random whole.ledger x whole.is_open) c.standing.ensures.caches ∙ c.self-2.view_is in
-    let own : i.key ≡ key = same_key mid.records i.key key (ap (λ w. key_in w.records) (sym c.self-2.view_is) ∙ c.self-2.invariant.1) still in
-    let value = linked_value c.standing.result c.map_err.result _ c.map_err.ensures.cases c.in_ok-above-in-Chain.was in
-    let count : length c.in_ok-above-in-Chain.above.items ≡ c.in_ok-level.level =
-    subst (λ s. IfOk s (λ chain. length chain.0.items ≡ c.in_ok-level.level)) value c.standing.ensures.count in
-    let sound = linked_ok c.standing.result c.map_err.result _ _ c.map_err.ensures.cases c.in_ok-above-in-Chain.was c.standing.ensures.sound in
+    let sound = linked_ok c.check_current.result c.map_err.result _ _ c.map_err.ensures.cases c.in_ok-map_err.was c.check_current.ensures.sound in
     let here = subst (λ k. damaged_in k c.in_ok-level.level mid.records (tree_before c.in_ok-level.level mid.records (length mid.records)) ≡ None) own
     (subst (λ w. damaged_in i.key c.in_ok-level.level w.records (tree_before c.in_ok-level.level w.records (length w.records)) ≡ None) c.self-2.view_is sound) in
     let at = ap (λ w. deepest key.secret w.records) (sym c.self.view_is) ∙ sym c.deepest.ensures ∙ some in
     let binds = fulfils_binds g.S.Store g.R.Source g.M.Message mid c.fulfil.new.self c.args.name.now c.args.message.now c.fulfil.new.message c.in_ok-level.level key
     (answered_with c.fulfil.result c.fulfil.new.out) here
-    (subst (λ n. Fulfils g.S.Store g.R.Source g.M.Message c.args.name.now (bottom_of key.secret - n) mid c.fulfil.new.self c.args.message.now
-    c.fulfil.new.message (answered_with c.fulfil.result c.fulfil.new.out) key) count
     (subst (λ w. UnderKey w.records (λ key. Fulfils g.S.Store g.R.Source g.M.Message c.args.name.now
-    (bottom_of key.secret - length c.in_ok-above-in-Chain.above.items) w c.fulfil.new.self c.args.message.now c.fulfil.new.message
-    (answered_with c.fulfil.result c.fulfil.new.out) key)) same c.fulfil.ensures key still))
+    (bottom_of key.secret - c.in_ok-level.level) w c.fulfil.new.self c.args.message.now c.fulfil.new.message
+    (answered_with c.fulfil.result c.fulfil.new.out) key)) same c.fulfil.ensures key still)
     made.does.0.is_open (deepest_is key.secret v.records c.in_ok-level.level at).0 in
     let fits : length c.fulfil.new.out ≡ c.prepare.new.out.len = search rules in
     subst (λ xs. Signs g.S.Store g.R.Source g.M.Message v c.fulfil.new.self c.args.name.now c.args.message.now c.fulfil.new.message
@@ -232,30 +240,3 @@ returns-in_ok-above-in-Chain-clause-step g c =
     (binds_signs g.S.Store g.R.Source g.M.Message v mid c.fulfil.new.self c.args.name.now c.args.message.now c.fulfil.new.message
     (vec_capacity c.args.out.now) c.in_ok-level.level key (answered_with c.fulfil.result c.fulfil.new.out) keyed c.in_ok-check_open.ensures.open c.in_ok-check_open.ensures.stays
     unbound (short key keyed) at made.keeps made.spare made.does.0 binds)
-
-pub returns-in-Xmss-clause-step : goal.returns-in-Xmss-clause-step
-returns-in-Xmss-clause-step g c =
-    let unbound = none_mapped (kept_of c.self.inside.ledger.key.secret c.args.self.now.records) (binding_in c.args.self.now.records c.args.name.now)
-    (ap (λ w. binding_kept c.self.inside.ledger.key.secret w.records c.args.name.now) (sym c.self.view_is) ∙ sym c.find.ensures ∙ is_none c.find.result c.in_default.not-Some) in
-    let short : UnderKey c.args.self.now.records (λ key. is_long key c.args.name.now ≡ false) = λ key keyed. sym (c.is_long.ensures key keyed) ∙ c.if-is_long.false in
-    let v = c.args.self.now in
-    let i = c.self.inside.ledger in
-    let key = i.key in
-    let keyed = ap (λ w. key_in w.records) (sym c.self.view_is) ∙ c.self.invariant.1 in
-    let some = some_level c.deepest.result c.in_ok-level.level (sym c.ok_or.ensures.value ∙ c.in_ok-level.was) in
-    let made = c.in_ok-prepare.ensures.room key keyed in
-    let mid = c.prepare.new.self in
-    let still = ap key_in made.keeps.records ∙ keyed in
-    let own : c.key.result.now ≡ key =
-    same_key mid.records c.key.result.now key (ap (λ w. key_in w.records) (sym c.self-2.view_is) ∙ c.key.ensures.first) still in
-    let one : levels_of key.secret ≡ 1 = ap (λ k. levels_of k.secret) (sym own) ∙ ap levels_of (subst (MakesTrees c.key.result.now.secret) c.in-Xmss.is c.of.ensures) in
-    let within = (deepest_is key.secret i.records c.in_ok-level.level (sym c.deepest.ensures ∙ some)).0 in
-    let top : 0 ≡ c.in_ok-level.level = omega (arith, one, within) in
-    let fits : length c.bind_xmss.new.out ≡ c.prepare.new.out.len = search rules in
-    subst (λ xs. Signs g.S.Store g.R.Source g.M.Message v c.bind_xmss.new.self c.args.name.now c.args.message.now c.bind_xmss.new.message
-    (vec_capacity c.args.out.now) (answered_with c.bind_xmss.result xs)) (sym (take_at c.bind_xmss.new.out _ c.prepare.new.out.len fits))
-    (binds_signs g.S.Store g.R.Source g.M.Message v mid c.bind_xmss.new.self c.args.name.now c.args.message.now c.bind_xmss.new.message
-    (vec_capacity c.args.out.now) c.in_ok-level.level key (answered_with c.bind_xmss.result c.bind_xmss.new.out) keyed c.in_ok-check_open.ensures.open c.in_ok-check_open.ensures.stays
-    unbound (short key keyed) (ap (λ w. deepest key.secret w.records) (sym c.self.view_is) ∙ sym c.deepest.ensures ∙ some) made.keeps made.spare made.does.0
-    (subst (λ n. Binds g.S.Store g.R.Source g.M.Message c.args.name.now n mid c.bind_xmss.new.self c.args.message.now c.bind_xmss.new.message
-    (answered_with c.bind_xmss.result c.bind_xmss.new.out) key) top (c.bind_xmss.ensures key still)))
