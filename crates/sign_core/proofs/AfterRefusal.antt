@@ -28,14 +28,14 @@ use Rattle.sign_core.specs.World.{Chance, Creation, Draw, Fate, Opening, Outcome
 use Rattle.sign_core.specs.World.{cut_new, cut_old, drawing}
 use Rattle.sign_core.specs.inner.Cases.{begun, bound_with, created_after, extended, extended_by}
 use Rattle.sign_core.specs.World.{first_draw, new_bound, new_key, no_memory, open_on}
-use Rattle.sign_core.specs.inner.Cases.{extended_with, fulfilled}
+use Rattle.sign_core.specs.inner.Cases.{extended_with, bound_below}
 use Rattle.sign_core.specs.inner.Cases.{opened_by, opened_on}
 use Rattle.sign_core.specs.World.{randomizer_from, reading, refused, requested, secret_from}
 use Rattle.sign_core.specs.inner.Cases.{published, retired_under}
 use Rattle.sign_core.proofs.Bindings.{binding_other}
 use Rattle.sign_core.proofs.DrawnAgain.{IsSettled, settled_repeated, settled_under}
 use Rattle.sign_core.proofs.Fresh.{begins_along, extend_in}
-use Rattle.sign_core.proofs.Fulfilled.{next_extend}
+use Rattle.sign_core.proofs.BoundBelow.{next_extend}
 use Rattle.sign_core.proofs.Leaves.{deepest_is}
 use Rattle.sign_core.proofs.OnceKept.{kept_choice}
 use Rattle.sign_core.proofs.RefusedDraws.{DrawsWanted, chance_with, draws_wanted}
@@ -304,19 +304,19 @@ module _ (key : Key) (name : List ℕ) where
   quiet_undrawn level this records chance None next = λ refusal. kept level chance (open_on records) _
   quiet_undrawn level this records chance (Some trees) next = λ refusal. kept level chance (open_on records) _
 
-  quiet_fulfilled : (chance : Chance) (below level : ℕ) (draws : List Draw) (records : List Record)
+  quiet_bound_below : (chance : Chance) (below level : ℕ) (draws : List Draw) (records : List Record)
       → level + below ≡ bottom_of key.secret
-      → Quiet level records (chance_with chance draws) (fulfilled key name chance below draws records)
-  quiet_fulfilled chance zero level draws records here = λ refusal.
+      → Quiet level records (chance_with chance draws) (bound_below key name chance below draws records)
+  quiet_bound_below chance zero level draws records here = λ refusal.
       draws_more level records (chance_with chance draws) (concat chance.bound.fields) _
       (quiet_bound level records (chance_with chance draws) (randomizer_from key.secret chance.bound.fields)
       chance.given chance.bound.fate (omega (arith, here)) refl refl refusal)
-  quiet_fulfilled chance (suc below) level [] records here =
+  quiet_bound_below chance (suc below) level [] records here =
       quiet_undrawn level (bottom_of key.secret - below) records (chance_with chance []) (trees_of key.secret)
-      (fulfilled key name chance below [])
-  quiet_fulfilled chance (suc below) level (draw ∷ draws) records here =
-      quiet_extended level below records chance (trees_of key.secret) draw draws (fulfilled key name chance below draws)
-      here (λ all. quiet_fulfilled chance below (level + 1) draws all (omega (arith, here)))
+      (bound_below key name chance below [])
+  quiet_bound_below chance (suc below) level (draw ∷ draws) records here =
+      quiet_extended level below records chance (trees_of key.secret) draw draws (bound_below key name chance below draws)
+      here (λ all. quiet_bound_below chance below (level + 1) draws all (omega (arith, here)))
 
 -- ---- any request
 
@@ -358,7 +358,7 @@ has_left limit state name chance =
       key,
       level,
       wants,
-      quiet_fulfilled key name chance (bottom_of key.secret - level) level chance.trees state.records
+      quiet_bound_below key name chance (bottom_of key.secret - level) level chance.trees state.records
           (omega (arith, inside)) refusal,
       draws_wanted key name chance level state.records refusal,
     ))

@@ -11,7 +11,7 @@ use Rattle.sign_core.specs.Textbook.{Trees, trees_of}
 use Rattle.sign_core.specs.World.{Chance, Draw, Fate, Outcome, State, acked, answered, appended, cut_new, cut_old}
 use Rattle.sign_core.specs.inner.Cases.{bound_with}
 use Rattle.sign_core.specs.World.{first_draw, no_memory, open_on, randomizer_from, requested}
-use Rattle.sign_core.specs.inner.Cases.{extended, extended_by, extended_with, fulfilled}
+use Rattle.sign_core.specs.inner.Cases.{extended, extended_by, extended_with, bound_below}
 use Rattle.sign_core.proofs.DrawnAgain.{IsSettled, settled_repeated, settled_under}
 use Rattle.sign_core.proofs.OnceKept.{kept_choice}
 use Rattle.sign_core.proofs.OnceParts.{closed_under}
@@ -55,13 +55,13 @@ open_extended records key level None draw next later = λ signature is. refl
 open_extended records key level (Some trees) draw next later =
     open_by records trees level (next_at key.secret records (level - 1)) draw.fields draw.fate next later
 
-open_fulfilled : (key : Key) (name : List ℕ) (chance : Chance) (below : ℕ) (draws : List Draw) (records : List Record)
-    → StaysOpen (fulfilled key name chance below draws records)
-open_fulfilled key name chance zero draws records =
+open_bound_below : (key : Key) (name : List ℕ) (chance : Chance) (below : ℕ) (draws : List Draw) (records : List Record)
+    → StaysOpen (bound_below key name chance below draws records)
+open_bound_below key name chance zero draws records =
     open_bound records key name (randomizer_from key.secret chance.bound.fields) chance.given chance.bound.fate
-open_fulfilled key name chance (suc below) draws records =
+open_bound_below key name chance (suc below) draws records =
     open_extended records key (bottom_of key.secret - below) (trees_of key.secret) (first_draw draws)
-    (fulfilled key name chance below (drop 1 draws)) (open_fulfilled key name chance below (drop 1 draws))
+    (bound_below key name chance below (drop 1 draws)) (open_bound_below key name chance below (drop 1 draws))
 
 pub signed_open : (limit : ℕ) (state : State) (name signature : List ℕ) (chance : Chance)
     → (requested limit state name chance).answer ≡ Ok signature → (requested limit state name chance).state.is_open ≡ true
@@ -71,7 +71,7 @@ signed_open limit state name signature chance is = elim (cases_Bool state.is_ope
       record { refused_for = λ fault other signature is. absurd (cc); gives = λ own signature is. open_now; read = λ outcome opens. opens } in
       settled_under StaysOpen limit state name chance settled.refused_for (key_in state.records) refl
       (λ key k bound. settled_repeated StaysOpen state chance settled key k bound chance.given)
-      (λ key level wants. open_fulfilled key name chance (bottom_of key.secret - level) chance.trees state.records) signature is
+      (λ key level wants. open_bound_below key name chance (bottom_of key.secret - level) chance.trees state.records) signature is
   | inr closed ↦
       let same = ap (λ (o : Outcome (List ℕ)). o.answer) (closed_under limit state name chance (key_in state.records) closed) in
       let apart : Ok signature ≡ Err Stopped = sym is ∙ same in

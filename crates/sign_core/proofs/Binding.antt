@@ -30,7 +30,7 @@ use Rattle.sign_core.specs.Records.{binding_in, can_follow, current, has_moved, 
 use Rattle.sign_core.specs.Caches.{Cached}
 use Rattle.sign_core.specs.inner.Signer.{Adds, added}
 use Rattle.sign_core.specs.Signer.{Ends, IsRead, IsTied, View, is_before_draws, is_of_append, is_out_of_memory, is_random_failed, is_store_failed, state_of, view_of}
-use Rattle.sign_core.specs.inner.Signing.{Does, DrawsRandomizer, Fulfils, IsBindingOf, IsBoundLast, IsRandomizer, Stands}
+use Rattle.sign_core.specs.inner.Signing.{Does, DrawsRandomizer, BindsBelow, IsBindingOf, IsBoundLast, IsRandomizer, Stands}
 use Rattle.sign_core.specs.declared.ledger.Binding.{Binding}
 use Rattle.sign_core.specs.Ledger.{Table, binding_kept, kept_of}
 use Rattle.sign_core.specs.World.{Fate, Outcome, acked, answered, appended, cut_new, cut_old, drawing, new_bound, no_memory}
@@ -344,9 +344,9 @@ module _ {S R M : Type 0} (g : store.Ghosts S) (r : source.Ghosts R) (m : messag
   pub undrawn : {caches : Cached} (fault : SignFault) → is_open ≡ true → IsTied g kept_in ledger.records → after ≡ before
       → LeavesItsList g kept_in
       → DrawsRandomizer key.secret (r.failures random) (r.failures mid) (r.upcoming random) (r.upcoming mid) (Err fault)
-      → Fulfils g r m name 0 (view_of kept_in random ledger caches is_open) (view_of kept_in mid ledger caches is_open) before after (Err fault) key
+      → BindsBelow g r m name 0 (view_of kept_in random ledger caches is_open) (view_of kept_in mid ledger caches is_open) before after (Err fault) key
   undrawn {caches = caches} fault opened tied unread only (none, of_source, once, nothing) =
-      subst (λ (f : SignFault). Fulfils g r m name 0 (view_of kept_in random ledger caches is_open) (view_of kept_in mid ledger caches is_open) before after (Err f) key)
+      subst (λ (f : SignFault). BindsBelow g r m name 0 (view_of kept_in random ledger caches is_open) (view_of kept_in mid ledger caches is_open) before after (Err f) key)
       (sym of_source) (record {
         trees = [];
         bound = record { fields = []; fate = acked };
@@ -365,7 +365,7 @@ module _ {S R M : Type 0} (g : store.Ghosts S) (r : source.Ghosts R) (m : messag
       → LeavesItsList g kept_in
       → IsRandomizer key.secret (r.failures random) (r.failures mid) (r.upcoming random) (r.upcoming mid) randomizer
       → CantBeRead m.transition before after
-      → Fulfils g r m name 0 (view_of kept_in random ledger caches is_open) (view_of kept_in mid ledger caches is_open) before after (Err MessageRead) key
+      → BindsBelow g r m name 0 (view_of kept_in random ledger caches is_open) (view_of kept_in mid ledger caches is_open) before after (Err MessageRead) key
   unread_bound randomizer opened tied only drawn fails = record {
     trees = [];
     bound = record { fields = drawn.fields; fate = acked };
@@ -387,10 +387,10 @@ module _ {S R M : Type 0} (g : store.Ghosts S) (r : source.Ghosts R) (m : messag
       → bound ≡ new_bound key ledger.records name (next_at key.secret ledger.records (bottom_of key.secret)) bound.randomizer text
       → Adds g (view_of kept_in mid ledger caches is_open) new (BoundRecord bound) a
       → answer ≡ answered_with a (signature_at key (ledger.records ++ BoundRecord bound ∷ []) (length ledger.records) bound)
-      → Fulfils g r m name 0 (view_of kept_in random ledger caches is_open) new before after answer key
+      → BindsBelow g r m name 0 (view_of kept_in random ledger caches is_open) new before after answer key
   bound_added {caches = caches} new bound text a answer opened drawn whole is adds answers =
       let sign : Bound → List Record → List ℕ = λ b records. signature_at key records (length ledger.records) b in
-      subst (λ (x : Result (List ℕ) SignFault). Fulfils g r m name 0 (view_of kept_in random ledger caches is_open) new before after x key) (sym answers) (record {
+      subst (λ (x : Result (List ℕ) SignFault). BindsBelow g r m name 0 (view_of kept_in random ledger caches is_open) new before after x key) (sym answers) (record {
         trees = [];
         bound = record { fields = drawn.fields; fate = adds.fate };
         given = Some text;

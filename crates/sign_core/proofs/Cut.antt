@@ -17,7 +17,7 @@ use Rattle.sign_core.specs.inner.Cases.{begun, bound_anew, bound_sound}
 use Rattle.sign_core.specs.World.{created, drawing, reading}
 use Rattle.sign_core.specs.inner.Cases.{bound_with, created_after}
 use Rattle.sign_core.specs.World.{cut_new, cut_old, first_draw, new_key, no_memory, open_on}
-use Rattle.sign_core.specs.inner.Cases.{extended, extended_by, extended_with, fulfilled}
+use Rattle.sign_core.specs.inner.Cases.{extended, extended_by, extended_with, bound_below}
 use Rattle.sign_core.specs.World.{randomizer_from}
 use Rattle.sign_core.specs.inner.Cases.{published}
 use Rattle.sign_core.specs.World.{refused, secret_from}
@@ -146,20 +146,20 @@ other_extended state key level None draw next other later = same_outcome (refuse
 other_extended state key level (Some trees) draw next other later =
     other_by state trees level (next_at key.secret state.records (level - 1)) draw.fields draw.fate next other later
 
-other_fulfilled : (key : Key) (name : List ℕ) (chance : Chance) (below : ℕ) (draws : List Draw) (records : List Record)
-    → IsOther (fulfilled key name chance below draws records) (fulfilled key name (turned_chance chance) below (map turned_draw draws) records)
-other_fulfilled key name chance zero draws records =
+other_bound_below : (key : Key) (name : List ℕ) (chance : Chance) (below : ℕ) (draws : List Draw) (records : List Record)
+    → IsOther (bound_below key name chance below draws records) (bound_below key name (turned_chance chance) below (map turned_draw draws) records)
+other_bound_below key name chance zero draws records =
     other_drawing (concat chance.bound.fields) _ _
     (other_bound_with (open_on records) key name (randomizer_from key.secret chance.bound.fields) chance.given chance.bound.fate)
-other_fulfilled key name chance (suc below) [] records =
-    other_extended (open_on records) key (bottom_of key.secret - below) (trees_of key.secret) (first_draw []) _ _ (other_fulfilled key name chance below [])
-other_fulfilled key name chance (suc below) (draw ∷ draws) records =
-    other_extended (open_on records) key (bottom_of key.secret - below) (trees_of key.secret) draw _ _ (other_fulfilled key name chance below draws)
+other_bound_below key name chance (suc below) [] records =
+    other_extended (open_on records) key (bottom_of key.secret - below) (trees_of key.secret) (first_draw []) _ _ (other_bound_below key name chance below [])
+other_bound_below key name chance (suc below) (draw ∷ draws) records =
+    other_extended (open_on records) key (bottom_of key.secret - below) (trees_of key.secret) draw _ _ (other_bound_below key name chance below draws)
 
 other_sound : (state : State) (key : Key) (name : List ℕ) (chance : Chance) (level : ℕ) (damaged : Option ℕ)
     → IsOther (bound_sound state key name chance level damaged) (bound_sound state key name (turned_chance chance) level damaged)
 other_sound state key name chance level (Some slot) = same_outcome (refused state _) refl
-other_sound state key name chance level None = other_fulfilled key name chance (bottom_of key.secret - level) chance.trees state.records
+other_sound state key name chance level None = other_bound_below key name chance (bottom_of key.secret - level) chance.trees state.records
 
 other_anew : (limit : ℕ) (state : State) (key : Key) (name : List ℕ) (chance : Chance) (level : Option ℕ)
     → IsOther (bound_anew limit state key name chance level) (bound_anew limit state key name (turned_chance chance) level)

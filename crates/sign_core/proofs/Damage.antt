@@ -13,7 +13,7 @@ use Rattle.sign_core.specs.Records.{are_same, binding_in, deepest, has_moved, ke
 use Rattle.sign_core.specs.Textbook.{chain, damaged_in, digest_at, is_sound_at, tree_before}
 use Rattle.sign_core.specs.World.{Chance, Outcome, State, requested}
 use Rattle.sign_core.specs.inner.Cases.{bound_anew, bound_sound, repeated, repeated_sound, requested_of, requested_under}
-use Rattle.sign_core.proofs.Ends.{ended_fulfilled, not_damaged}
+use Rattle.sign_core.proofs.Ends.{ended_bound_below, not_damaged}
 use Rattle.sign_core.proofs.OnceKept.{kept_choice}
 
 -- ---- the first of a list that passes a test
@@ -104,7 +104,7 @@ module _ (limit : ℕ) (state : State) (key : Key) (name : List ℕ) (chance : C
       let same : slot ≡ other = cc (answer) in
       ((level, free, first_damaged key state.records level _ other (is ∙ ap Some same)), refl)
   names_sound level None free is other answer =
-      absurd (ended_fulfilled (λ outcome. outcome.answer ≢ Err (Damaged other)) (not_damaged other) key name chance (bottom_of key.secret - level) chance.trees
+      absurd (ended_bound_below (λ outcome. outcome.answer ≢ Err (Damaged other)) (not_damaged other) key name chance (bottom_of key.secret - level) chance.trees
       state.records answer)
 
   names_anew : (level : Option ℕ) → deepest key.secret state.records ≡ level → Names None (bound_anew limit state key name chance level)

@@ -25,11 +25,11 @@ use Rattle.sign_core.specs.inner.Cases.{bound_anew, bound_sound, bound_with}
 use Rattle.sign_core.specs.World.{cut_new, cut_old, drawing, extend_record}
 use Rattle.sign_core.specs.inner.Cases.{extended, extended_by, extended_with}
 use Rattle.sign_core.specs.World.{first_draw, no_memory, open_on}
-use Rattle.sign_core.specs.inner.Cases.{fulfilled}
+use Rattle.sign_core.specs.inner.Cases.{bound_below}
 use Rattle.sign_core.specs.World.{randomizer_from, reading, refused, requested}
 use Rattle.sign_core.specs.inner.Cases.{repeated, repeated_sound, requested_of, requested_under}
 use Rattle.sign_core.specs.Textbook.{Trees, damaged_in, digest_at, lms_secret, tree_before, trees_of}
-use Rattle.sign_core.proofs.Fulfilled.{fields_drawn_before}
+use Rattle.sign_core.proofs.BoundBelow.{fields_drawn_before}
 use Rattle.sign_core.proofs.OnceKept.{kept_choice}
 use Rattle.sign_core.proofs.Requests.{first_drawn, later_drawn}
 
@@ -59,14 +59,14 @@ module _ (Q : Outcome (List ℕ) → Type 0) (state : State) (chance : Chance) (
       (λ room. settled_repeated_sound key k bound _)))
 
 module _ (Q : Outcome (List ℕ) → Type 0) (limit : ℕ) (state : State) (name : List ℕ) (chance : Chance) (refuses : IsOfRefusals Q state) where
-  settled_sound : (key : Key) (level : ℕ) (damaged : Option ℕ) → Q (fulfilled key name chance (bottom_of key.secret - level) chance.trees state.records)
+  settled_sound : (key : Key) (level : ℕ) (damaged : Option ℕ) → Q (bound_below key name chance (bottom_of key.secret - level) chance.trees state.records)
       → Q (bound_sound state key name chance level damaged)
   settled_sound key level (Some slot) rest = refuses (Damaged slot) (λ e. cc)
   settled_sound key level None rest = rest
 
   settled_anew : (key : Key) (found : Option ℕ) → deepest key.secret state.records ≡ found
       → ((level : ℕ) → deepest key.secret state.records ≡ Some level
-      → Q (fulfilled key name chance (bottom_of key.secret - level) chance.trees state.records))
+      → Q (bound_below key name chance (bottom_of key.secret - level) chance.trees state.records))
       → Q (bound_anew limit state key name chance found)
   settled_anew key None is rest = refuses Exhausted (λ e. cc)
   settled_anew key (Some level) is rest =
@@ -78,7 +78,7 @@ module _ (Q : Outcome (List ℕ) → Type 0) (limit : ℕ) (state : State) (name
   settled_of : (key : Key) (found : Option (ℕ × Bound)) → binding_in state.records name ≡ found
       → ((k : ℕ) (bound : Bound) → Q (repeated state key k bound chance chance.given))
       → (binding_in state.records name ≡ None → (level : ℕ) → deepest key.secret state.records ≡ Some level
-      → Q (fulfilled key name chance (bottom_of key.secret - level) chance.trees state.records))
+      → Q (bound_below key name chance (bottom_of key.secret - level) chance.trees state.records))
       → Q (requested_of limit state key name chance found)
   settled_of key (Some (k, bound)) is again rest = again k bound
   settled_of key None is again rest = kept_choice Q (is_long key name) _ _ (λ long. refuses LongName (λ e. cc))
@@ -87,7 +87,7 @@ module _ (Q : Outcome (List ℕ) → Type 0) (limit : ℕ) (state : State) (name
   pub settled_under : (found : Option Key) → key_in state.records ≡ found
       → ((key : Key) (k : ℕ) (bound : Bound) → Q (repeated state key k bound chance chance.given))
       → ((key : Key) (level : ℕ) → WantsRecords state name key level
-      → Q (fulfilled key name chance (bottom_of key.secret - level) chance.trees state.records))
+      → Q (bound_below key name chance (bottom_of key.secret - level) chance.trees state.records))
       → Q (requested_under limit state name chance found)
   settled_under None keyed again rest = refuses Stopped (λ e. cc)
   settled_under (Some key) keyed again rest =
@@ -198,15 +198,15 @@ undrawn : (records : List Record) (key : Key) (level : ℕ) (trees : Option Tree
 undrawn records key level None next is = cc
 undrawn records key level (Some trees) next is = cc
 
-repeats_fulfilled : (key : Key) (name : List ℕ) (chance : Chance) (below : ℕ) (draws : List Draw) (records : List Record)
-    → Repeats records draws (fulfilled key name chance below draws records)
-repeats_fulfilled key name chance zero draws records = λ is.
+repeats_bound_below : (key : Key) (name : List ℕ) (chance : Chance) (below : ℕ) (draws : List Draw) (records : List Record)
+    → Repeats records draws (bound_below key name chance below draws records)
+repeats_bound_below key name chance zero draws records = λ is.
     absurd (repeats_bound (open_on records) key name (randomizer_from key.secret chance.bound.fields) chance.given chance.bound.fate is)
-repeats_fulfilled key name chance (suc below) [] records = λ is.
-    absurd (undrawn records key (bottom_of key.secret - below) (trees_of key.secret) (fulfilled key name chance below []) is)
-repeats_fulfilled key name chance (suc below) (draw ∷ draws) records =
-    repeats_extended records key (bottom_of key.secret - below) (trees_of key.secret) draw draws (fulfilled key name chance below draws)
-    (repeats_fulfilled key name chance below draws)
+repeats_bound_below key name chance (suc below) [] records = λ is.
+    absurd (undrawn records key (bottom_of key.secret - below) (trees_of key.secret) (bound_below key name chance below []) is)
+repeats_bound_below key name chance (suc below) (draw ∷ draws) records =
+    repeats_extended records key (bottom_of key.secret - below) (trees_of key.secret) draw draws (bound_below key name chance below draws)
+    (repeats_bound_below key name chance below draws)
 
 pub drawn_again : (limit : ℕ) (state : State) (name : List ℕ) (chance : Chance) → (requested limit state name chance).answer ≡ Err RandomRepeated
     → DrewAgain state.records chance.trees (requested limit state name chance).state.records
@@ -217,7 +217,7 @@ drawn_again limit state name chance =
     record { refused_for = λ fault other is. absurd (other (cc)); gives = λ signature is. absurd (cc); read = λ outcome again. again } in
     settled_under all limit state name chance settled.refused_for (key_in state.records) refl
     (λ key k bound. settled_repeated all state chance settled key k bound chance.given)
-    (λ key level wants. repeats_fulfilled key name chance (bottom_of key.secret - level) chance.trees state.records)
+    (λ key level wants. repeats_bound_below key name chance (bottom_of key.secret - level) chance.trees state.records)
 
 -- ---- how much is drawn
 
@@ -277,18 +277,18 @@ most_extended most state key level None draw next are later = omega arith
 most_extended most state key level (Some trees) draw next are later =
     most_by most state trees level (next_at key.secret state.records (level - 1)) draw.fields draw.fate next are later
 
-most_fulfilled : (key : Key) (name : List ℕ) (chance : Chance) (below : ℕ) (draws : List Draw) (records : List Record) → AllByRecursion IsTreeDraw draws
+most_bound_below : (key : Key) (name : List ℕ) (chance : Chance) (below : ℕ) (draws : List Draw) (records : List Record) → AllByRecursion IsTreeDraw draws
     → AreFields (randomizer_sizes key.secret) chance.bound.fields
-    → DrawsMost (80 * below + sum (randomizer_sizes key.secret)) (fulfilled key name chance below draws records)
-most_fulfilled key name chance zero draws records trees bound =
+    → DrawsMost (80 * below + sum (randomizer_sizes key.secret)) (bound_below key name chance below draws records)
+most_bound_below key name chance zero draws records trees bound =
     let rest = bound_with (open_on records) key name (randomizer_from key.secret chance.bound.fields) chance.given chance.bound.fate in
     let none = most_bound (open_on records) key name (randomizer_from key.secret chance.bound.fields) chance.given chance.bound.fate in
     omega (arith, none, fields_size (randomizer_sizes key.secret) chance.bound.fields bound, length-append (concat chance.bound.fields) rest.drawn)
-most_fulfilled key name chance (suc below) draws records trees bound =
+most_bound_below key name chance (suc below) draws records trees bound =
     let most = 80 * below + sum (randomizer_sizes key.secret) in
     let whole = most_extended most (open_on records) key (bottom_of key.secret - below) (trees_of key.secret) (first_draw draws)
-    (fulfilled key name chance below (drop 1 draws)) (first_drawn draws trees)
-    (λ all. most_fulfilled key name chance below (drop 1 draws) all (later_drawn draws trees) bound) in
+    (bound_below key name chance below (drop 1 draws)) (first_drawn draws trees)
+    (λ all. most_bound_below key name chance below (drop 1 draws) all (later_drawn draws trees) bound) in
     omega (arith, whole)
 
 pub drawn_most : (limit : ℕ) (state : State) (key : Key) (name : List ℕ) (chance : Chance) → key_in state.records ≡ Some key
@@ -302,8 +302,8 @@ drawn_most limit state key name chance keyed drawn =
     (λ own k bound. settled_repeated (DrawsMost most) state chance settled own k bound chance.given)
     (λ own level wants.
     let same : key ≡ own = cc (keyed, wants.active.keyed) in
-    let inner = most_fulfilled key name chance (bottom_of key.secret - level) chance.trees state.records drawn.trees drawn.bound in
-    subst (λ k. DrawsMost most (fulfilled k name chance (bottom_of k.secret - level) chance.trees state.records)) same (omega (arith, inner)))
+    let inner = most_bound_below key name chance (bottom_of key.secret - level) chance.trees state.records drawn.trees drawn.bound in
+    subst (λ k. DrawsMost most (bound_below k name chance (bottom_of k.secret - level) chance.trees state.records)) same (omega (arith, inner)))
 
 -- ---- what is signed was read
 
@@ -345,13 +345,13 @@ read_extended given state key level None draw next later = λ signature is. absu
 read_extended given state key level (Some trees) draw next later =
     read_by given state trees level (next_at key.secret state.records (level - 1)) draw.fields draw.fate next later
 
-read_fulfilled : (key : Key) (name : List ℕ) (chance : Chance) (below : ℕ) (draws : List Draw) (records : List Record)
-    → IsRead chance.given (fulfilled key name chance below draws records)
-read_fulfilled key name chance zero draws records =
+read_bound_below : (key : Key) (name : List ℕ) (chance : Chance) (below : ℕ) (draws : List Draw) (records : List Record)
+    → IsRead chance.given (bound_below key name chance below draws records)
+read_bound_below key name chance zero draws records =
     read_bound (open_on records) key name (randomizer_from key.secret chance.bound.fields) chance.given chance.bound.fate
-read_fulfilled key name chance (suc below) draws records =
+read_bound_below key name chance (suc below) draws records =
     read_extended chance.given (open_on records) key (bottom_of key.secret - below) (trees_of key.secret) (first_draw draws)
-    (fulfilled key name chance below (drop 1 draws)) (read_fulfilled key name chance below (drop 1 draws))
+    (bound_below key name chance below (drop 1 draws)) (read_bound_below key name chance below (drop 1 draws))
 
 read_repeated : (state : State) (key : Key) (k : ℕ) (bound : Bound) (chance : Chance) (given : Option (List ℕ))
     → IsRead given (repeated state key k bound chance given)
@@ -364,4 +364,4 @@ signed_read limit state name signature chance =
     settled_under (IsRead chance.given) limit state name chance (λ fault other given is. absurd (cc))
     (key_in state.records) refl (λ key k bound. read_repeated state key k bound chance chance.given)
     (λ key level wants.
-    read_fulfilled key name chance (bottom_of key.secret - level) chance.trees state.records) signature
+    read_bound_below key name chance (bottom_of key.secret - level) chance.trees state.records) signature

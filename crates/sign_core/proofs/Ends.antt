@@ -16,7 +16,7 @@ use Rattle.sign_core.specs.inner.Cases.{bound_anew, bound_sound, bound_with}
 use Rattle.sign_core.specs.World.{cut_new, cut_old, drawing}
 use Rattle.sign_core.specs.inner.Cases.{extended}
 use Rattle.sign_core.specs.World.{first_draw, no_memory, open_on, randomizer_from, reading}
-use Rattle.sign_core.specs.inner.Cases.{extended_by, extended_with, fulfilled}
+use Rattle.sign_core.specs.inner.Cases.{extended_by, extended_with, bound_below}
 use Rattle.sign_core.specs.World.{refused}
 use Rattle.sign_core.specs.inner.Cases.{repeated, repeated_sound}
 use Rattle.sign_core.specs.World.{requested}
@@ -78,14 +78,14 @@ ended_extended Q ends state key level None draw next later = ends.refused_for st
 ended_extended Q ends state key level (Some trees) draw next later =
     ended_by Q ends state trees level (next_at key.secret state.records (level - 1)) draw.fields draw.fate next later
 
-pub ended_fulfilled : (Q : Outcome (List ℕ) → Type 0) → Ends Q
+pub ended_bound_below : (Q : Outcome (List ℕ) → Type 0) → Ends Q
     → (key : Key) (name : List ℕ) (chance : Chance) (below : ℕ) (draws : List Draw) (records : List Record)
-    → Q (fulfilled key name chance below draws records)
-ended_fulfilled Q ends key name chance zero draws records = ends.drawn (concat chance.bound.fields) _
+    → Q (bound_below key name chance below draws records)
+ended_bound_below Q ends key name chance zero draws records = ends.drawn (concat chance.bound.fields) _
     (ended_bound Q ends (open_on records) key name (randomizer_from key.secret chance.bound.fields) chance.given chance.bound.fate)
-ended_fulfilled Q ends key name chance (suc below) draws records =
+ended_bound_below Q ends key name chance (suc below) draws records =
     ended_extended Q ends (open_on records) key (bottom_of key.secret - below) (trees_of key.secret) (first_draw draws) _
-    (ended_fulfilled Q ends key name chance below (drop 1 draws))
+    (ended_bound_below Q ends key name chance below (drop 1 draws))
 
 abbrev pub IsDamaged : (Outcome (List ℕ) → Type 0) → State → Key → Type 0
 IsDamaged Q state key = (level tree slot : ℕ) → damaged_in key level state.records tree ≡ Some slot → Q (refused state (Damaged slot))
@@ -93,7 +93,7 @@ IsDamaged Q state key = (level tree slot : ℕ) → damaged_in key level state.r
 ended_sound : (Q : Outcome (List ℕ) → Type 0) → Ends Q → (state : State) (key : Key) (name : List ℕ) (chance : Chance) (level tree : ℕ) (damaged : Option ℕ)
     → IsDamaged Q state key → damaged_in key level state.records tree ≡ damaged → Q (bound_sound state key name chance level damaged)
 ended_sound Q ends state key name chance level tree (Some slot) bad is = bad level tree slot is
-ended_sound Q ends state key name chance level tree None bad is = ended_fulfilled Q ends key name chance
+ended_sound Q ends state key name chance level tree None bad is = ended_bound_below Q ends key name chance
     (bottom_of key.secret - level) chance.trees state.records
 
 -- a new name, where a leaf is free

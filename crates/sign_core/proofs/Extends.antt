@@ -30,7 +30,7 @@ use Rattle.sign_core.specs.inner.Cases.{extended}
 use Rattle.sign_core.specs.World.{open_on, refused}
 use Rattle.sign_core.specs.Textbook.{Trees, trees_of}
 use Rattle.sign_core.proofs.Appended.{after_draw, counts_answered, ends_alike, comes_after_draws, is_tried, no_draw_fails, same_fault}
-use Rattle.sign_core.proofs.Fulfilled.{drawing_twice, extends_by, next_extend, whole_draw}
+use Rattle.sign_core.proofs.BoundBelow.{drawing_twice, extends_by, next_extend, whole_draw}
 
 all_left : (records left : List Record) → left ≡ records → IsBeginning (length records) (records ++ []) left
 all_left records left is = record {

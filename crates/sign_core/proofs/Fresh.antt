@@ -17,9 +17,9 @@ use Rattle.sign_core.specs.Events.{randomizer_sizes, tree_sizes}
 use Rattle.sign_core.specs.World.{Chance, Draw, Fate, Outcome, acked, drawing}
 use Rattle.sign_core.specs.inner.Cases.{bound_with, extended, extended_with}
 use Rattle.sign_core.specs.World.{new_bound, open_on, randomizer_from, refused}
-use Rattle.sign_core.specs.inner.Cases.{fulfilled}
+use Rattle.sign_core.specs.inner.Cases.{bound_below}
 use Rattle.sign_core.specs.Textbook.{Trees, digest_at, signature_at, trees_of}
-use Rattle.sign_core.proofs.Fulfilled.{extends_by, fields_drawn_before, next_extend, whole_draw}
+use Rattle.sign_core.proofs.BoundBelow.{extends_by, fields_drawn_before, next_extend, whole_draw}
 
 -- ---- what is drawn
 
@@ -75,10 +75,10 @@ IsFine key name message chance below draws records outcome =
 
 bound_done : (key : Key) (name message drawn : List ℕ) (chance : Chance) (records : List Record) → chance.given ≡ Some message
     → randomizer_from key.secret chance.bound.fields ≡ Some drawn → chance.bound.fate ≡ acked
-    → IsDone key name message chance 0 [] records (fulfilled key name chance 0 [] records)
+    → IsDone key name message chance 0 [] records (bound_below key name chance 0 [] records)
 bound_done key name message drawn chance records given is acknowledged =
     let bound = new_bound key records name (next_at key.secret records (bottom_of key.secret)) drawn message in
-    let outcome = fulfilled key name chance 0 [] records in
+    let outcome = bound_below key name chance 0 [] records in
     let none : records ++ [] ≡ records = append-nil records in
     let came : outcome ≡ drawing (concat chance.bound.fields) (bound_with (open_on records) key name (Some drawn) (Some message) acked) =
     ap (λ (t : Option (List ℕ) × Option (List ℕ) × Fate). drawing (concat chance.bound.fields) (bound_with (open_on records) key name t.0 t.1 t.2))
@@ -158,21 +158,21 @@ tree_done key trees name message chance below draws records identifier seed rand
     }
 
 -- all records of the name
-pub fine_fulfilled : (key : Key) (name message drawn : List ℕ) (chance : Chance) (below : ℕ) (draws : List Draw) (records : List Record)
+pub fine_bound_below : (key : Key) (name message drawn : List ℕ) (chance : Chance) (below : ℕ) (draws : List Draw) (records : List Record)
     → chance.given ≡ Some message → randomizer_from key.secret chance.bound.fields ≡ Some drawn → chance.bound.fate ≡ acked
     → below ≤ bottom_of key.secret → (0 < below → (trees : Trees) × (trees_of key.secret ≡ Some trees))
     → length draws ≡ below → ((i : ℕ) (draw : Draw) → slice_get draws i ≡ Some draw → IsComplete tree_sizes draw)
-    → IsFine key name message chance below draws records (fulfilled key name chance below draws records)
-fine_fulfilled key name message drawn chance zero [] records given is acknowledged inside trees count each =
+    → IsFine key name message chance below draws records (bound_below key name chance below draws records)
+fine_bound_below key name message drawn chance zero [] records given is acknowledged inside trees count each =
     inr (bound_done key name message drawn chance records given is acknowledged)
-fine_fulfilled key name message drawn chance zero (draw ∷ draws) records given is acknowledged inside trees count each = absurd (omega (arith, count))
-fine_fulfilled key name message drawn chance (suc below) [] records given is acknowledged inside trees count each = absurd (omega (arith, count))
-fine_fulfilled key name message drawn chance (suc below) (draw ∷ draws) records given is acknowledged inside trees count each =
+fine_bound_below key name message drawn chance zero (draw ∷ draws) records given is acknowledged inside trees count each = absurd (omega (arith, count))
+fine_bound_below key name message drawn chance (suc below) [] records given is acknowledged inside trees count each = absurd (omega (arith, count))
+fine_bound_below key name message drawn chance (suc below) (draw ∷ draws) records given is acknowledged inside trees count each =
     let (made, are) = trees (omega arith) in
     let (identifier, seed, randomizer, same) = whole draw (each 0 draw refl) in
     let level = bottom_of key.secret - below in
     let first = whole_draw identifier seed randomizer acked in
-    let next = fulfilled key name chance below draws in
+    let next = bound_below key name chance below draws in
     let entry = next_extend key made records level identifier seed randomizer in
     let done : (d : Draw) → Outcome (List ℕ) = λ d. extended (open_on records) key level (trees_of key.secret) d next in
     subst (λ d. IsFine key name message chance (suc below) (d ∷ draws) records (done d)) (sym same)
@@ -180,7 +180,7 @@ fine_fulfilled key name message drawn chance (suc below) (draw ∷ draws) record
       | inl there ↦ inl (again_extended key level (trees_of key.secret) made are records identifier seed randomizer there next)
       | inr new ↦
           let came = extends_by key level (trees_of key.secret) made are records identifier seed randomizer acked new next in
-          let rest = fine_fulfilled key name message drawn chance below draws (records ++ entry ∷ []) given is acknowledged (omega (arith, inside))
+          let rest = fine_bound_below key name message drawn chance below draws (records ++ entry ∷ []) given is acknowledged (omega (arith, inside))
           (λ some. (made, are)) (omega (arith, count)) (λ i x at. each (suc i) x at) in
           subst (IsFine key name message chance (suc below) (first ∷ draws) records) (sym came)
           (elim rest as (λ u. IsFine key name message chance (suc below) (first ∷ draws) records

@@ -18,7 +18,7 @@ use Rattle.sign_core.specs.World.{Chance, Creation, Draw, Event, Fate, Opening, 
 use Rattle.sign_core.specs.inner.Cases.{begun, bound_anew}
 use Rattle.sign_core.specs.inner.Cases.{bound_sound, bound_with}
 use Rattle.sign_core.specs.World.{create, created, cut_new, cut_old, first_draw}
-use Rattle.sign_core.specs.inner.Cases.{created_after, extended, extended_by, extended_with, fulfilled}
+use Rattle.sign_core.specs.inner.Cases.{created_after, extended, extended_by, extended_with, bound_below}
 use Rattle.sign_core.specs.World.{new_key, no_memory, open_on, opened, randomizer_from, reopen}
 use Rattle.sign_core.specs.inner.Cases.{opened_by, opened_on, published, repeated}
 use Rattle.sign_core.specs.World.{request}
@@ -109,18 +109,18 @@ grown_extended state key level None draw next later = unchanged state.records
 grown_extended state key level (Some trees) draw next later =
     grown_by state trees level (next_at key.secret state.records (level - 1)) draw.fields draw.fate next later
 
-grown_fulfilled : (key : Key) (name : List ℕ) (chance : Chance) (below : ℕ) (draws : List Draw) (records : List Record)
-    → Grown records (fulfilled key name chance below draws records)
-grown_fulfilled key name chance zero draws records =
+grown_bound_below : (key : Key) (name : List ℕ) (chance : Chance) (below : ℕ) (draws : List Draw) (records : List Record)
+    → Grown records (bound_below key name chance below draws records)
+grown_bound_below key name chance zero draws records =
     grown_bound (open_on records) key name (randomizer_from key.secret chance.bound.fields) chance.given chance.bound.fate
-grown_fulfilled key name chance (suc below) draws records =
+grown_bound_below key name chance (suc below) draws records =
     grown_extended (open_on records) key (bottom_of key.secret - below) (trees_of key.secret) (first_draw draws) _
-    (grown_fulfilled key name chance below (drop 1 draws))
+    (grown_bound_below key name chance below (drop 1 draws))
 
 grown_sound : (state : State) (key : Key) (name : List ℕ) (chance : Chance) (level : ℕ) (damaged : Option ℕ)
     → Grown state.records (bound_sound state key name chance level damaged)
 grown_sound state key name chance level (Some slot) = unchanged state.records
-grown_sound state key name chance level None = grown_fulfilled key name chance (bottom_of key.secret - level) chance.trees state.records
+grown_sound state key name chance level None = grown_bound_below key name chance (bottom_of key.secret - level) chance.trees state.records
 
 grown_anew : (limit : ℕ) (state : State) (key : Key) (name : List ℕ) (chance : Chance) (level : Option ℕ)
     → Grown state.records (bound_anew limit state key name chance level)

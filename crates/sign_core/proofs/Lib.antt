@@ -30,7 +30,7 @@ pub mod Migrating
 pub mod Next
 pub mod Uses
 pub mod Kept
-pub mod Fulfilled
+pub mod BoundBelow
 pub mod TreeParts
 pub mod Stops
 pub mod SoundChains
@@ -51,7 +51,7 @@ pub mod Signs
 pub mod CurrentChain
 pub mod WritingParts
 pub mod Draws
-pub mod Fulfils
+pub mod BindsBelow
 pub mod ChainParts
 pub mod Refusals
 pub mod Repeats

@@ -28,7 +28,7 @@ use Rattle.sign_core.specs.inner.Cases.{bound_anew, bound_sound}
 use Rattle.sign_core.specs.World.{retired}
 use Rattle.sign_core.specs.inner.Cases.{retired_under}
 use Rattle.sign_core.specs.World.{handed_with, new_key, open_on, opened}
-use Rattle.sign_core.specs.inner.Cases.{fulfilled}
+use Rattle.sign_core.specs.inner.Cases.{bound_below}
 use Rattle.sign_core.specs.World.{reading, refused, request, requested}
 use Rattle.sign_core.specs.inner.Cases.{opened_by, opened_on, published, repeated, repeated_sound, requested_of}
 use Rattle.sign_core.specs.World.{secret_from}
@@ -38,7 +38,7 @@ use Rattle.sign_core.proofs.Illegal.{none_from_legal}
 use Rattle.sign_core.proofs.Opened.{reopens}
 use Rattle.sign_core.proofs.Valid.{undamaged}
 use Rattle.sign_core.proofs.Ends.{Ends, IsDamaged, ended_anew, ended_request, not_damaged}
-use Rattle.sign_core.proofs.Fresh.{IsDone, fine_fulfilled, randomizer_drawn}
+use Rattle.sign_core.proofs.Fresh.{IsDone, fine_bound_below, randomizer_drawn}
 use Rattle.sign_core.proofs.DrawnAgain.{drawn_again, drawn_most, signed_read}
 use Rattle.sign_core.proofs.Leaves.{deepest_is}
 use Rattle.sign_core.proofs.OnceKept.{IsKept, sound_with}
@@ -174,7 +174,7 @@ fresh_fine limit state handed key level name message chance kept open_now stays 
     let fits : nat_lt limit (length records + wanted_count key.secret level) ≡ false = le-ltb limit (length records + wanted_count key.secret level) short in
     let sound : damaged_in key level records tree ≡ None = undamaged records key level tree (sound_with records handed key kept keyed) keyed in
     let (drawn, is_drawn) = randomizer_drawn key.secret chance.bound.fields whole.bound.fields in
-    let fine = fine_fulfilled key name message drawn chance (bottom - level) chance.trees records given is_drawn whole.bound.acknowledged (omega arith)
+    let fine = fine_bound_below key name message drawn chance (bottom - level) chance.trees records given is_drawn whole.bound.acknowledged (omega arith)
     (λ more. trees_made key.secret sizes (omega (arith, more))) whole.enough whole.each in
     let room_then : Bool → Outcome (List ℕ) = λ room. if not room then refused state OutOfMemory else bound_sound state key name chance level
     (damaged_in key level records tree) in
@@ -184,7 +184,7 @@ fresh_fine limit state handed key level name message chance kept open_now stays 
     ∙ ap room_then whole.room
     ∙ ap (bound_sound state key name chance level) sound in
     subst (λ outcome. (outcome.answer ≡ Err RandomRepeated) ⊎ IsSigned key records level name message chance outcome) (sym way)
-    (elim fine as (λ u. let came = fulfilled key name chance (bottom - level) chance.trees records in
+    (elim fine as (λ u. let came = bound_below key name chance (bottom - level) chance.trees records in
     (came.answer ≡ Err RandomRepeated) ⊎ IsSigned key records level name message chance came) [
       | inl again ↦ inl again
       | inr done ↦ inr (signed_by key records level name message chance _ inside done)

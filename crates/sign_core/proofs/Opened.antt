@@ -27,7 +27,7 @@ use Rattle.sign_core.specs.World.{Chance, Creation, Draw, Event, Fate, Handed, O
 use Rattle.sign_core.specs.World.{create, cut_new, cut_old, drawing}
 use Rattle.sign_core.specs.inner.Cases.{begun, bound_anew, bound_sound, bound_with, created_after, extended, extended_by, extended_with}
 use Rattle.sign_core.specs.World.{first_draw, handed_with, new_bound, no_memory, open_on}
-use Rattle.sign_core.specs.inner.Cases.{fulfilled, opened_by, opened_on, published}
+use Rattle.sign_core.specs.inner.Cases.{bound_below, opened_by, opened_on, published}
 use Rattle.sign_core.specs.World.{randomizer_from, refused, reopen, request, requested, retire}
 use Rattle.sign_core.specs.inner.Cases.{repeated, repeated_sound, requested_of, requested_under}
 use Rattle.sign_core.specs.World.{run, secret_from, stop, migrate}
@@ -131,22 +131,22 @@ module _ (key : Key) (public : AnyPublic) (is_public : public_in key ≡ Some pu
       fits_append (Some message) (open_on records) (BoundRecord bound) fate _ ready.are stands.are
       (stands.are, λ other signature read is. same_valid public message other (signature_at key all (length records) bound) signature read is valid)
 
-  fits_fulfilled : (name : List ℕ) (chance : Chance) (below : ℕ) (draws : List Draw) (records : List Record) → AllByRecursion IsTreeDraw draws
+  fits_bound_below : (name : List ℕ) (chance : Chance) (below : ℕ) (draws : List Draw) (records : List Record) → AllByRecursion IsTreeDraw draws
       → AreFields (32 ∷ []) chance.bound.fields → IsStanding key name below records
-      → Fits chance.given (fulfilled key name chance below draws records)
-  fits_fulfilled name chance zero draws records trees bound ready =
+      → Fits chance.given (bound_below key name chance below draws records)
+  fits_bound_below name chance zero draws records trees bound ready =
       fits_bound chance.given name records (randomizer_from key.secret chance.bound.fields) chance.bound.fate ready
       (λ drawn is. randomizer_size key.secret chance.bound.fields drawn bound is)
-  fits_fulfilled name chance (suc below) draws records trees bound ready =
+  fits_bound_below name chance (suc below) draws records trees bound ready =
       fits_extended chance.given name below records (trees_of key.secret) (first_draw draws) _ ready refl (first_drawn draws trees)
-      (λ all more. fits_fulfilled name chance below (drop 1 draws) all (later_drawn draws trees) bound more)
+      (λ all more. fits_bound_below name chance below (drop 1 draws) all (later_drawn draws trees) bound more)
 
   fits_sound : (state : State) (name : List ℕ) (chance : Chance) (level : ℕ) (damaged : Option ℕ) → AreDraws chance → AreOf key state.records
       → (damaged ≡ None → IsStanding key name (bottom_of key.secret - level) state.records)
       → Fits chance.given (bound_sound state key name chance level damaged)
   fits_sound state name chance level (Some slot) drawn are ready = fits_refused chance.given state (Damaged slot) are
   fits_sound state name chance level None drawn are ready =
-      fits_fulfilled name chance (bottom_of key.secret - level) chance.trees state.records drawn.trees drawn.bound (ready refl)
+      fits_bound_below name chance (bottom_of key.secret - level) chance.trees state.records drawn.trees drawn.bound (ready refl)
 
   fits_anew : (limit : ℕ) (state : State) (name : List ℕ) (chance : Chance) (level : Option ℕ) → AreDraws chance → AreOf key state.records
       → has_moved state.records ≡ false → binding_in state.records name ≡ None → deepest key.secret state.records ≡ level

@@ -28,7 +28,7 @@ use Rattle.sign_core.specs.World.{Chance, Creation, Draw, Fate, Opening, Outcome
 use Rattle.sign_core.specs.inner.Cases.{begun, bound_anew, bound_sound, bound_with}
 use Rattle.sign_core.specs.World.{new_bound}
 use Rattle.sign_core.specs.World.{cut_new, cut_old, extend_record, first_draw}
-use Rattle.sign_core.specs.inner.Cases.{created_after, extended, extended_by, extended_with, fulfilled}
+use Rattle.sign_core.specs.inner.Cases.{created_after, extended, extended_by, extended_with, bound_below}
 use Rattle.sign_core.specs.World.{no_memory, open_on, randomizer_from, refused}
 use Rattle.sign_core.specs.inner.Cases.{opened_by, opened_on, published, repeated, repeated_sound}
 use Rattle.sign_core.specs.World.{requested, retired, secret_from, new_key}
@@ -243,7 +243,7 @@ by_randomizer state key name (Xmss secret) (c ∷ rest) given fate are = absurd 
 
 by_wanted : (key : Key) (name : List ℕ) (chance : Chance) (below : ℕ) → below ≤ bottom_of key.secret → AreDrawsOf key.secret chance
     → (draws : List Draw) (records : List Record) (IsKnown : List ℕ → Type 0) → AllByRecursion IsTreeDraw draws → Knows records IsKnown
-    → RefusesWanted key chance below draws IsKnown (fulfilled key name chance below draws records).answer
+    → RefusesWanted key chance below draws IsKnown (bound_below key name chance below draws records).answer
 by_wanted key name chance zero low possible draws records IsKnown are knows =
     by_randomizer (open_on records) key name key.secret chance.bound.fields chance.given chance.bound.fate possible.bound
 by_wanted key name chance (suc below) low possible draws records IsKnown are knows =
@@ -251,7 +251,7 @@ by_wanted key name chance (suc below) low possible draws records IsKnown are kno
     let IsKnownNext = λ (i : List ℕ). IsKnown i ⊎ BeginsWith fields i in
     let (these, is) = trees_there key.secret (omega (arith, low)) in
     by_tree (open_on records) key (trees_of key.secret) (bottom_of key.secret - below) (first_draw draws) IsKnown
-    (RefusesWanted key chance below (drop 1 draws) IsKnownNext) (fulfilled key name chance below (drop 1 draws)) these is
+    (RefusesWanted key chance below (drop 1 draws) IsKnownNext) (bound_below key name chance below (drop 1 draws)) these is
     (first_drawn draws are) knows
     (λ entry identifier first own.
     by_wanted key name chance below (omega (arith, low)) possible (drop 1 draws) (records ++ entry ∷ []) IsKnownNext (later_drawn draws are)

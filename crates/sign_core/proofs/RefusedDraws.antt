@@ -17,9 +17,9 @@ use Rattle.sign_core.specs.Textbook.{Trees, lms_secret, trees_of}
 use Rattle.sign_core.specs.World.{Chance, Draw, Fate, Outcome, acked, appended, cut_new, cut_old, drawing}
 use Rattle.sign_core.specs.inner.Cases.{bound_with}
 use Rattle.sign_core.specs.World.{extend_record, first_draw, no_memory}
-use Rattle.sign_core.specs.inner.Cases.{extended, extended_by, extended_with, fulfilled}
+use Rattle.sign_core.specs.inner.Cases.{extended, extended_by, extended_with, bound_below}
 use Rattle.sign_core.specs.World.{open_on, randomizer_from, refused}
-use Rattle.sign_core.proofs.Fulfilled.{fields_drawn, fields_drawn_before}
+use Rattle.sign_core.proofs.BoundBelow.{fields_drawn, fields_drawn_before}
 use Rattle.sign_core.proofs.OnceKept.{kept_choice}
 
 -- a chance with these draws for its trees
@@ -51,7 +51,7 @@ drawn_bound records key name (Some randomizer) (Some message) cut_new refusal = 
 drawn_bound records key name (Some randomizer) (Some message) no_memory refusal = (refl, refl)
 
 bound_refuses : (key : Key) (name : List ℕ) (chance : Chance) (draws : List Draw) (records : List Record)
-    → Refuses records 0 (chance_with chance draws) (fulfilled key name chance 0 draws records)
+    → Refuses records 0 (chance_with chance draws) (bound_below key name chance 0 draws records)
 bound_refuses key name chance draws records refusal other =
     let fields = chance.bound.fields in
     let (all, none) = drawn_bound records key name (randomizer_from key.secret fields) chance.given chance.bound.fate
@@ -180,21 +180,21 @@ has_trees (Hss [] identifier seed) some none = absurd (omega (arith, some))
 has_trees (Hss (pair ∷ rest) identifier seed) some none = absurd (cc)
 has_trees (Xmss secret) some none = absurd (omega (arith, some))
 
-fulfilled_refuses : (key : Key) (name : List ℕ) (chance : Chance) (below : ℕ) (draws : List Draw)
+bound_below_refuses : (key : Key) (name : List ℕ) (chance : Chance) (below : ℕ) (draws : List Draw)
     (records : List Record) → (0 < below → trees_of key.secret ≡ None → ⊥)
-    → Refuses records below (chance_with chance draws) (fulfilled key name chance below draws records)
-fulfilled_refuses key name chance zero draws records has = bound_refuses key name chance draws records
-fulfilled_refuses key name chance (suc below) [] records has =
+    → Refuses records below (chance_with chance draws) (bound_below key name chance below draws records)
+bound_below_refuses key name chance zero draws records has = bound_refuses key name chance draws records
+bound_below_refuses key name chance (suc below) [] records has =
     undrawn_refuses below records chance key (bottom_of key.secret - below) (trees_of key.secret)
-    (fulfilled key name chance below [])
-fulfilled_refuses key name chance (suc below) (draw ∷ draws) records has =
-    extended_refuses below records chance draw draws (fulfilled key name chance below draws)
-    (λ all. fulfilled_refuses key name chance below draws all (λ some. has (omega arith)))
+    (bound_below key name chance below [])
+bound_below_refuses key name chance (suc below) (draw ∷ draws) records has =
+    extended_refuses below records chance draw draws (bound_below key name chance below draws)
+    (λ all. bound_below_refuses key name chance below draws all (λ some. has (omega arith)))
     key (bottom_of key.secret - below) (trees_of key.secret) (has (omega arith))
 
 pub draws_wanted : (key : Key) (name : List ℕ) (chance : Chance) (level : ℕ) (records : List Record)
     → Refuses records (bottom_of key.secret - level) chance
-    (fulfilled key name chance (bottom_of key.secret - level) chance.trees records)
+    (bound_below key name chance (bottom_of key.secret - level) chance.trees records)
 draws_wanted key name chance level records =
-    fulfilled_refuses key name chance (bottom_of key.secret - level) chance.trees records
+    bound_below_refuses key name chance (bottom_of key.secret - level) chance.trees records
     (λ some. has_trees key.secret (omega (arith, some)))

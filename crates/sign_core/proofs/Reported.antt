@@ -13,7 +13,7 @@ use Rattle.sign_core.specs.Textbook.{Trees, damaged_in, digest_at, tree_before, 
 use Rattle.sign_core.specs.World.{Chance, Draw, Fate, Outcome, State, acked, answered, appended, cut_new, cut_old}
 use Rattle.sign_core.specs.inner.Cases.{bound_anew, bound_sound, bound_with}
 use Rattle.sign_core.specs.World.{first_draw, no_memory, open_on, randomizer_from, reading}
-use Rattle.sign_core.specs.inner.Cases.{extended, extended_by, extended_with, fulfilled}
+use Rattle.sign_core.specs.inner.Cases.{extended, extended_by, extended_with, bound_below}
 use Rattle.sign_core.specs.World.{refused, requested}
 use Rattle.sign_core.specs.inner.Cases.{repeated, repeated_sound, requested_of, requested_under}
 use Rattle.sign_core.proofs.OnceKept.{kept_choice}
@@ -101,21 +101,21 @@ reported_extended given state key level None draw next later = reported_refused 
 reported_extended given state key level (Some trees) draw next later =
     reported_by given state trees level (next_at key.secret state.records (level - 1)) draw.fields draw.fate next later
 
-reported_fulfilled : (key : Key) (name : List ℕ) (chance : Chance) (below : ℕ) (draws : List Draw) (records : List Record)
-    → IsReported chance.given (fulfilled key name chance below draws records)
-reported_fulfilled key name chance zero draws records =
+reported_bound_below : (key : Key) (name : List ℕ) (chance : Chance) (below : ℕ) (draws : List Draw) (records : List Record)
+    → IsReported chance.given (bound_below key name chance below draws records)
+reported_bound_below key name chance zero draws records =
     let rest = reported_bound (open_on records) key name (randomizer_from key.secret chance.bound.fields) chance.given chance.bound.fate in
     record { unread = rest.unread; reported = rest.reported }
-reported_fulfilled key name chance (suc below) draws records =
+reported_bound_below key name chance (suc below) draws records =
     reported_extended chance.given (open_on records) key (bottom_of key.secret - below) (trees_of key.secret) (first_draw draws)
-    (fulfilled key name chance below (drop 1 draws)) (reported_fulfilled key name chance below (drop 1 draws))
+    (bound_below key name chance below (drop 1 draws)) (reported_bound_below key name chance below (drop 1 draws))
 
 -- ---- requests
 
 reported_sound : (state : State) (key : Key) (name : List ℕ) (chance : Chance) (level : ℕ) (damaged : Option ℕ)
     → IsReported chance.given (bound_sound state key name chance level damaged)
 reported_sound state key name chance level (Some slot) = reported_refused chance.given state (Damaged slot) (λ is. cc)
-reported_sound state key name chance level None = reported_fulfilled key name chance (bottom_of key.secret - level) chance.trees state.records
+reported_sound state key name chance level None = reported_bound_below key name chance (bottom_of key.secret - level) chance.trees state.records
 
 reported_anew : (limit : ℕ) (state : State) (key : Key) (name : List ℕ) (chance : Chance) (level : Option ℕ)
     → IsReported chance.given (bound_anew limit state key name chance level)

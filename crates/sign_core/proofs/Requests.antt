@@ -28,7 +28,7 @@ use Rattle.sign_core.specs.Headline.{IsBoundTo, IsRecorded}
 use Rattle.sign_core.specs.World.{Chance, Draw, Fate, Handed, Outcome, State, extend_record}
 use Rattle.sign_core.specs.inner.Cases.{bound_anew, bound_sound, bound_with, extended}
 use Rattle.sign_core.specs.World.{first_draw}
-use Rattle.sign_core.specs.inner.Cases.{extended_by, extended_with, fulfilled}
+use Rattle.sign_core.specs.inner.Cases.{extended_by, extended_with, bound_below}
 use Rattle.sign_core.specs.World.{new_bound, open_on, randomizer_from, requested}
 use Rattle.sign_core.specs.inner.Cases.{repeated, repeated_sound, requested_of, requested_under}
 use Rattle.sign_core.specs.Textbook.{HasSizes, Trees, damaged_in, digest_at, is_sound_extend, lms_secret, secret_at, signature_at, tree_before, trees_of}
@@ -243,22 +243,22 @@ pub later_drawn : (draws : List Draw) → AllByRecursion IsTreeDraw draws → Al
 later_drawn [] all = all
 later_drawn (draw ∷ draws) all = all.1
 
-kept_fulfilled : (key : Key) (name : List ℕ) (chance : Chance) (handed : List Handed) (below : ℕ) (draws : List Draw) (records : List Record)
+kept_bound_below : (key : Key) (name : List ℕ) (chance : Chance) (handed : List Handed) (below : ℕ) (draws : List Draw) (records : List Record)
     → AllByRecursion IsTreeDraw draws
     → AreFields (32 ∷ []) chance.bound.fields → IsReady key name below records handed
-    → Keeps handed name chance.given (fulfilled key name chance below draws records)
-kept_fulfilled key name chance handed zero draws records trees bound ready =
+    → Keeps handed name chance.given (bound_below key name chance below draws records)
+kept_bound_below key name chance handed zero draws records trees bound ready =
     kept_bound key name chance.given records handed (randomizer_from key.secret chance.bound.fields) chance.bound.fate ready
     (λ drawn is. randomizer_size key.secret chance.bound.fields drawn bound is)
-kept_fulfilled key name chance handed (suc below) draws records trees bound ready =
+kept_bound_below key name chance handed (suc below) draws records trees bound ready =
     kept_extended key name chance.given below records handed (trees_of key.secret) (first_draw draws) _ ready refl (first_drawn draws trees)
-    (λ all more. kept_fulfilled key name chance handed below (drop 1 draws) all (later_drawn draws trees) bound more)
+    (λ all more. kept_bound_below key name chance handed below (drop 1 draws) all (later_drawn draws trees) bound more)
 
 kept_sound : (state : State) (handed : List Handed) (key : Key) (name : List ℕ) (chance : Chance) (level : ℕ) (damaged : Option ℕ) → AreDraws chance
     → IsReady key name (bottom_of key.secret - level) state.records handed → Keeps handed name chance.given (bound_sound state key name chance level damaged)
 kept_sound state handed key name chance level (Some slot) drawn ready = kept_refused state handed name chance.given (Damaged slot) ready.kept
 kept_sound state handed key name chance level None drawn ready =
-    kept_fulfilled key name chance handed (bottom_of key.secret - level) chance.trees state.records drawn.trees drawn.bound ready
+    kept_bound_below key name chance handed (bottom_of key.secret - level) chance.trees state.records drawn.trees drawn.bound ready
 
 kept_anew : (limit : ℕ) (state : State) (handed : List Handed) (key : Key) (name : List ℕ) (chance : Chance) (level : Option ℕ) → AreDraws chance
     → IsKept state.records handed

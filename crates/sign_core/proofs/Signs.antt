@@ -28,7 +28,7 @@ use Rattle.sign_core.specs.Caches.{Cached}
 use Rattle.sign_core.specs.inner.Signer.{Hinders}
 use Rattle.sign_core.specs.Signer.{IsRead, IsSigner, IsTied, KeepsAll, KeepsForRepeat, KeepsStore, LacksMemory, LacksTree, RefusesMemory, wanted_by, Signs, View, is_out_of_memory}
 use Rattle.sign_core.specs.Signer.{is_before_caches, is_before_repeat, is_fault, is_random_failed, is_store_failed, signature_size, state_of}
-use Rattle.sign_core.specs.inner.Signing.{Binds, CanBind, Fulfils, IsBindingOf, IsReady, Repeats, repeat_chance}
+use Rattle.sign_core.specs.inner.Signing.{Binds, CanBind, BindsBelow, IsBindingOf, IsReady, Repeats, repeat_chance}
 use Rattle.sign_core.specs.Signing.{UnderKey}
 use Rattle.sign_core.specs.Ledger.{kept_of}
 use Rattle.sign_core.specs.World.{Chance, Outcome, State, reading, refused, requested}
@@ -422,21 +422,21 @@ module _ {S R M : Type 0} (g : store.Ghosts S) (r : source.Ghosts R) (m : messag
   }
 
   -- the standing chain is sound, and the records below it are made
-  pub fulfils_binds : (old new : View S R) (name : List ℕ) (before after : M) (level : ℕ) (key : Key) (answer : Result (List ℕ) SignFault)
+  pub binds_below_binds : (old new : View S R) (name : List ℕ) (before after : M) (level : ℕ) (key : Key) (answer : Result (List ℕ) SignFault)
       → damaged_in key level old.records (tree_before level old.records (length old.records)) ≡ None
-      → Fulfils g r m name (bottom_of key.secret - level) old new before after answer key → old.is_open ≡ true → level < levels_of key.secret
+      → BindsBelow g r m name (bottom_of key.secret - level) old new before after answer key → old.is_open ≡ true → level < levels_of key.secret
       → Binds g r m name level old new before after answer key
-  fulfils_binds old new name before after level key answer sound fulfils opened within = record {
-    chance = record { has_room = true; trees = fulfils.trees; bound = fulfils.bound; given = fulfils.given };
-    outcome = fulfils.outcome;
-    step = ap (bound_sound (state_of old) key name (record { has_room = true; trees = fulfils.trees; bound = fulfils.bound; given = fulfils.given }) level)
-        sound ∙ fulfils.step fulfils.trees;
-    possible = record { trees = fulfils.trees_possible; bound = fulfils.bound_possible };
+  binds_below_binds old new name before after level key answer sound binds_below opened within = record {
+    chance = record { has_room = true; trees = binds_below.trees; bound = binds_below.bound; given = binds_below.given };
+    outcome = binds_below.outcome;
+    step = ap (bound_sound (state_of old) key name (record { has_room = true; trees = binds_below.trees; bound = binds_below.bound; given = binds_below.given }) level)
+        sound ∙ binds_below.step binds_below.trees;
+    possible = record { trees = binds_below.trees_possible; bound = binds_below.bound_possible };
     room = refl;
-    does = fulfils.does;
-    keeps = keeps_after_draws g r m (levels_of key.secret - level) old new before after _ _ _ fulfils.not_before_draws
-        (λ is same. let few = fulfils.lacks_tree is same in omega (arith, few, within)) fulfils.does;
-    not_before_caches = after_caches answer fulfils.not_before_draws;
+    does = binds_below.does;
+    keeps = keeps_after_draws g r m (levels_of key.secret - level) old new before after _ _ _ binds_below.not_before_draws
+        (λ is same. let few = binds_below.lacks_tree is same in omega (arith, few, within)) binds_below.does;
+    not_before_caches = after_caches answer binds_below.not_before_draws;
   }
 
 -- ---- what a call answered

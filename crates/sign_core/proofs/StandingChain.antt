@@ -23,7 +23,7 @@ use Rattle.sign_core.specs.inner.Signing.{Stands}
 use Rattle.sign_core.specs.Textbook.{Trees, damaged_in, is_sound_extend, lms_secret, secret_at, tree_before, trees_of}
 use Rattle.sign_core.proofs.Append.{current_new, next_new}
 use Rattle.sign_core.proofs.CurrentChain.{HasFree}
-use Rattle.sign_core.proofs.Fulfilled.{next_extend}
+use Rattle.sign_core.proofs.BoundBelow.{next_extend}
 use Rattle.sign_core.proofs.Requests.{extend_can, extend_of, extend_sound, free_anew, free_current, free_named}
 use Rattle.sign_core.proofs.SoundChains.{new_chain}
 use Rattle.sign_core.proofs.Stays.{some_keyed}

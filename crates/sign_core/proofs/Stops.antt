@@ -20,7 +20,7 @@ use Rattle.sign_core.specs.inner.Cases.{begun, bound_anew, bound_sound}
 use Rattle.sign_core.specs.World.{closed_on, created, drawing, reading}
 use Rattle.sign_core.specs.inner.Cases.{bound_with, created_after}
 use Rattle.sign_core.specs.World.{cut_new, cut_old, first_draw, new_key, no_memory, open_on}
-use Rattle.sign_core.specs.inner.Cases.{extended, extended_by, extended_with, fulfilled}
+use Rattle.sign_core.specs.inner.Cases.{extended, extended_by, extended_with, bound_below}
 use Rattle.sign_core.specs.World.{randomizer_from}
 use Rattle.sign_core.specs.inner.Cases.{published}
 use Rattle.sign_core.specs.World.{refused, secret_from}
@@ -237,13 +237,13 @@ all_later : (draws : List Draw) → AllByRecursion IsTreeDraw draws → AllByRec
 all_later [] all = tt
 all_later (draw ∷ draws) all = all.1
 
-stops_fulfilled : (key : Key) (name : List ℕ) (chance : Chance) (below : ℕ) (draws : List Draw) (all : AllByRecursion IsTreeDraw draws) (records : List Record)
-    → Stops records (fulfilled key name chance below draws records)
-    (OneCut {I = Others} (λ o unused. fulfilled key name (other_chance chance o.fate unused) below o.trees records))
-stops_fulfilled key name chance zero draws all records =
+stops_bound_below : (key : Key) (name : List ℕ) (chance : Chance) (below : ℕ) (draws : List Draw) (all : AllByRecursion IsTreeDraw draws) (records : List Record)
+    → Stops records (bound_below key name chance below draws records)
+    (OneCut {I = Others} (λ o unused. bound_below key name (other_chance chance o.fate unused) below o.trees records))
+stops_bound_below key name chance zero draws all records =
     drawn_stops (concat chance.bound.fields) _ (stops_by records _ _ _ (λ left way. (record { trees = []; all = tt; fate = way.0.0 }, way.1))
     (stops_bound (open_on records) key name (randomizer_from key.secret chance.bound.fields) chance.given chance.bound.fate))
-stops_fulfilled key name chance (suc below) draws all records =
+stops_bound_below key name chance (suc below) draws all records =
     stops_by records _ _ _
     (λ left way. (
       record {
@@ -254,8 +254,8 @@ stops_fulfilled key name chance (suc below) draws all records =
       way.1,
     ))
     (stops_extended {I = Others} no_others (open_on records) key (bottom_of key.secret - below) (trees_of key.secret) (first_draw draws)
-    (fulfilled key name chance below (drop 1 draws)) (λ o unused. fulfilled key name (other_chance chance o.fate unused) below o.trees)
-    (stops_fulfilled key name chance below (drop 1 draws) (all_later draws all)))
+    (bound_below key name chance below (drop 1 draws)) (λ o unused. bound_below key name (other_chance chance o.fate unused) below o.trees)
+    (stops_bound_below key name chance below (drop 1 draws) (all_later draws all)))
 
 stops_sound : (state : State) (key : Key) (name : List ℕ) (chance : Chance) → AllByRecursion IsTreeDraw chance.trees → (level : ℕ) (damaged : Option ℕ)
     → Stops state.records (bound_sound state key name chance level damaged)
@@ -263,7 +263,7 @@ stops_sound : (state : State) (key : Key) (name : List ℕ) (chance : Chance) �
 stops_sound state key name chance all level (Some slot) = refuses state _ _
 stops_sound state key name chance all level None =
     stops_by state.records _ _ _ (λ left way. (way.0, λ unused. way.1 way.0.trees))
-    (stops_fulfilled key name chance (bottom_of key.secret - level) chance.trees all state.records)
+    (stops_bound_below key name chance (bottom_of key.secret - level) chance.trees all state.records)
 
 stops_anew : (limit : ℕ) (state : State) (key : Key) (name : List ℕ) (chance : Chance) → AllByRecursion IsTreeDraw chance.trees → (level : Option ℕ)
     → Stops state.records (bound_anew limit state key name chance level)

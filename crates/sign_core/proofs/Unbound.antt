@@ -16,7 +16,7 @@ use Rattle.sign_core.specs.Textbook.{Trees, lms_secret, trees_of}
 use Rattle.sign_core.specs.World.{Chance, Draw, Fate, Outcome, State, acked, answered, appended, cut_new, cut_old, extend_record}
 use Rattle.sign_core.specs.inner.Cases.{bound_with}
 use Rattle.sign_core.specs.World.{first_draw, no_memory, open_on, randomizer_from, refused}
-use Rattle.sign_core.specs.inner.Cases.{extended, extended_by, extended_with, fulfilled}
+use Rattle.sign_core.specs.inner.Cases.{extended, extended_by, extended_with, bound_below}
 use Rattle.sign_core.specs.World.{requested, retired}
 use Rattle.sign_core.specs.inner.Cases.{retired_under}
 use Rattle.sign_core.proofs.Bindings.{binding_other}
@@ -74,13 +74,13 @@ quiet_extended records key level None draw next later = λ fault other is not. r
 quiet_extended records key level (Some trees) draw next later =
     quiet_by records trees level (next_at key.secret records (level - 1)) draw.fields draw.fate next later
 
-quiet_fulfilled : (key : Key) (name : List ℕ) (chance : Chance) (below : ℕ) (draws : List Draw) (records : List Record)
-    → IsQuiet records (fulfilled key name chance below draws records)
-quiet_fulfilled key name chance zero draws records =
+quiet_bound_below : (key : Key) (name : List ℕ) (chance : Chance) (below : ℕ) (draws : List Draw) (records : List Record)
+    → IsQuiet records (bound_below key name chance below draws records)
+quiet_bound_below key name chance zero draws records =
     quiet_bound records key name (randomizer_from key.secret chance.bound.fields) chance.given chance.bound.fate
-quiet_fulfilled key name chance (suc below) draws records =
+quiet_bound_below key name chance (suc below) draws records =
     quiet_extended records key (bottom_of key.secret - below) (trees_of key.secret) (first_draw draws)
-    (fulfilled key name chance below (drop 1 draws)) (quiet_fulfilled key name chance below (drop 1 draws))
+    (bound_below key name chance below (drop 1 draws)) (quiet_bound_below key name chance below (drop 1 draws))
 
 pub binds_none : (limit : ℕ) (state : State) (name other : List ℕ) (chance : Chance) (fault : SignFault)
     → (requested limit state name chance).answer ≡ Err fault → fault ≢ StoreFailed
@@ -91,7 +91,7 @@ binds_none limit state name other chance fault is not =
     record { refused_for = λ fault other name named is not. refl; gives = λ signature fault name is not. refl; read = λ outcome quiet. quiet } in
     settled_under quiet limit state name chance settled.refused_for (key_in state.records) refl
     (λ key k bound. settled_repeated quiet state chance settled key k bound chance.given)
-    (λ key level wants. quiet_fulfilled key name chance (bottom_of key.secret - level) chance.trees state.records) fault other is not
+    (λ key level wants. quiet_bound_below key name chance (bottom_of key.secret - level) chance.trees state.records) fault other is not
 
 -- ---- retirings
 

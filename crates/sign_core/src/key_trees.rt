@@ -195,8 +195,8 @@ impl KeyTrees {
 impl SecretTrees {
     ghost use Rattle.sign_core.specs.inner.Links.{MakesTrees};
 
-    /// Checks the current trees down to a level with a free leaf: or answers the place of the first record that isn't
-    /// sound.
+    /// Checks that the records of the current trees are sound, down to a level with a free leaf. Or answers the place
+    /// of the first one that isn't.
     #[inline(never)]
     pub(crate) fn check_current<P: TreeProgress>(
         &self,

@@ -131,8 +131,8 @@ bound_with state key name made given fate = event (do
   give (signature_at key records (length state.records) bound)) state
 
 -- this many new trees, and then the binding
-abbrev pub fulfilled : Key → (name : List ℕ) → Chance → (below : ℕ) → List Draw → List Record → Outcome (List ℕ)
-fulfilled key name chance below draws records = event (do
+abbrev pub bound_below : Key → (name : List ℕ) → Chance → (below : ℕ) → List Draw → List Record → Outcome (List ℕ)
+bound_below key name chance below draws records = event (do
   begin_trees key below draws
   bind key name chance) (open_on records)
 

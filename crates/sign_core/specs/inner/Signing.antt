@@ -24,7 +24,7 @@ use Rattle.sign_core.specs.Signer.{Ends, IsRead, KeepsAtRefusal, LacksTree, Refu
 use Rattle.sign_core.specs.Signer.{UsesMemory, View, is_before_caches, is_before_draws, is_before_repeat, is_fault}
 use Rattle.sign_core.specs.Signer.{is_random_failed, signature_size, state_of}
 use Rattle.sign_core.specs.World.{Chance, Draw, Outcome, State, acked, answered}
-use Rattle.sign_core.specs.inner.Cases.{bound_sound, extended, fulfilled}
+use Rattle.sign_core.specs.inner.Cases.{bound_sound, extended, bound_below}
 use Rattle.sign_core.specs.World.{open_on, randomizer_from}
 use Rattle.sign_core.specs.inner.Cases.{requested_of}
 use Rattle.sign_core.specs.Textbook.{Trees, damaged_in, signature_at, signature_by, signing_of_bound}
@@ -128,14 +128,14 @@ pub record Extends {S R : Type 0} (g : store.Ghosts S) (r : source.Ghosts R) (le
   pub not_before_draws : is_fault is_before_draws answer ≡ false
 
 -- All records of a new name, where the lowest `below` levels have no tree: the Extends, and the Bound.
-pub record Fulfils {S R M : Type 0} (g : store.Ghosts S) (r : source.Ghosts R) (m : message.Ghosts M) (name : List ℕ)
+pub record BindsBelow {S R M : Type 0} (g : store.Ghosts S) (r : source.Ghosts R) (m : message.Ghosts M) (name : List ℕ)
     (below : ℕ) (old new : View S R) (before after : M) (answer : Result (List ℕ) SignFault) (key : Key) : Type 0 where
   pub trees : List Draw
   pub bound : Draw
   pub given : Option (List ℕ)
   pub outcome : Outcome (List ℕ)
   pub step : (all : List Draw)
-      → fulfilled key name (record { has_room = true; trees = all; bound = bound; given = given }) below trees
+      → bound_below key name (record { has_room = true; trees = all; bound = bound; given = given }) below trees
       old.records ≡ outcome
   pub trees_possible : AllByRecursion IsTreeDraw trees
   pub bound_possible : AreFields (randomizer_sizes key.secret) bound.fields
@@ -155,10 +155,10 @@ pub record IsBoundLast (key : Key) (old new : List Record) (name : List ℕ) (bo
 abbrev pub BindsNext : {S R M : Type 0} (g : store.Ghosts S) (r : source.Ghosts R) (m : message.Ghosts M)
     (name : List ℕ) (old new : View S R) (before after : M) (answer : Result Binding SignFault) (key : Key) → Type 0
 BindsNext g r m name old new before after (Ok binding) key = (bound : Bound)
-    × Fulfils g r m name 0 old new before after
+    × BindsBelow g r m name 0 old new before after
     (Ok (signature_at key (old.records ++ BoundRecord bound ∷ []) (length old.records) bound)) key
     × IsBoundLast key old.records new.records name bound binding
-BindsNext g r m name old new before after (Err fault) key = Fulfils g r m name 0 old new before after (Err fault) key
+BindsNext g r m name old new before after (Err fault) key = BindsBelow g r m name 0 old new before after (Err fault) key
 
 -- A new name, where there is room, and this level is the deepest with a free leaf.
 pub record Binds {S R M : Type 0} (g : store.Ghosts S) (r : source.Ghosts R) (m : message.Ghosts M) (name : List ℕ)

@@ -7,7 +7,7 @@ ghost use Rattle.state_file.specs.Laws.{levels_of, bottom_of};
 ghost use Rattle.sign_core.specs.Records.{binding_in, free_at, has_moved, is_long};
 ghost use Rattle.sign_core.specs.inner.Request.{Prepares};
 ghost use Rattle.sign_core.specs.Signer.{KeepsAll};
-ghost use Rattle.sign_core.specs.inner.Signing.{BindsNext, CanBind, DrawsRandomizer, DrawsTree, Extends, Fulfils};
+ghost use Rattle.sign_core.specs.inner.Signing.{BindsBelow, BindsNext, CanBind, DrawsRandomizer, DrawsTree, Extends};
 ghost use Rattle.sign_core.specs.inner.Signing.{IsReady, Stands};
 ghost use Rattle.sign_core.specs.Signing.{KeepsCapacity, UnderKey, answered_with};
 
@@ -192,7 +192,7 @@ impl<S: Store, R: Source> Signer<S, R> {
     // Makes a new name's records below a level with a free leaf, one after the other: an Extend for each of the levels
     // there, and the Bound. Then it writes the signature.
     #[inline(never)]
-    pub(super) fn fulfil<M: Message, P: TreeProgress>(
+    pub(super) fn bind_below<M: Message, P: TreeProgress>(
         &mut self,
         trees: &SecretTrees,
         level: u8,
@@ -205,7 +205,7 @@ impl<S: Store, R: Source> Signer<S, R> {
             name.now (length out.old) self.old) }
         requires trees { UnderKey self.old.records (λ key. MakesTrees key.secret trees.now) }
         requires stands { UnderKey self.old.records (Stands self.old.records level) }
-        ensures { UnderKey self.old.records (λ key. Fulfils S.Store R.Source M.Message name.now
+        ensures { UnderKey self.old.records (λ key. BindsBelow S.Store R.Source M.Message name.now
             (bottom_of key.secret - level) self.old self.new message.old message.new
             (answered_with result out.new) key) }
     {
@@ -214,9 +214,10 @@ impl<S: Store, R: Source> Signer<S, R> {
             self.extend(trees, level, progress)?;
             // For the prover: a signer that recorded an Extend is open, and so its store runs.
             prove!(self.is_open);
-            return self.fulfil(trees, level + 1, name, message, out, progress);
+            return self.bind_below(trees, level + 1, name, message, out, progress);
         }
         let binding = self.bind(name, message)?;
+        // Never refuses: the records of all trees down to the bottom are sound.
         trees
             .write_bound(&self.ledger, &mut self.caches, &binding, out, progress)
             .map_err(SignFault::Damaged)

@@ -142,7 +142,7 @@ impl<S: Store, R: Source> Signer<S, R> {
     // As `sign_telling`, without clearing `out` on error.
     //
     // Neither this nor a step that makes trees or holds a chain is inlined. They never run together, and in one
-    // function their frames would add up. Nor is `extend`, since `fulfil` calls itself.
+    // function their frames would add up. Nor is `extend`, since `bind_below` calls itself.
     #[inline(never)]
     fn sign_into<M: Message, P: TreeProgress>(
         &mut self,
@@ -175,7 +175,7 @@ impl<S: Store, R: Source> Signer<S, R> {
             .check_current(&self.ledger, &mut self.caches, level, progress)
             .map_err(SignFault::Damaged)?;
         // 23, 24, 29 and 25 for each tree; 23, 27, 25
-        self.fulfil(&trees, level, name, message, out, progress)
+        self.bind_below(&trees, level, name, message, out, progress)
     }
 
     // Whether a name is longer than a file of the key's version can hold.

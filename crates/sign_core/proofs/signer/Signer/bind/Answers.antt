@@ -11,7 +11,7 @@ use Rattle.sign_core.specs.Signing.{answered_with}
 use Rattle.sign_core.specs.Textbook.{digest_at, signature_at}
 use Rattle.sign_core.specs.Trees.{tree_at}
 use Rattle.sign_core.specs.inner.Links.{MakesTrees}
-use Rattle.sign_core.specs.inner.Signing.{BindsNext, Fulfils, IsRandomizer}
+use Rattle.sign_core.specs.inner.Signing.{BindsNext, BindsBelow, IsRandomizer}
 use Rattle.sign_core.proofs.Adding.{levels_range}
 use Rattle.sign_core.proofs.Appended.{added_records}
 use Rattle.sign_core.proofs.Binding.{bound_added, bound_follows, bound_next, kept_last, tree_at_end, undrawn, unread_bound}
@@ -64,7 +64,7 @@ returns-in_err-randomizer g c key keyed =
     let answer : c.from_residual.result ≡ Err c.in_err-randomizer.field-0.0 = search rules in
     subst (λ a. BindsNext g.S.Store g.R.Source g.M.Message c.args.name.now v (view_of i.store c.draw_randomizer.new.random i.ledger i.caches i.is_open)
     c.args.message.now c.args.message.now a key) (sym answer)
-    (subst (λ w. Fulfils g.S.Store g.R.Source g.M.Message c.args.name.now 0 w (view_of i.store c.draw_randomizer.new.random i.ledger i.caches i.is_open)
+    (subst (λ w. BindsBelow g.S.Store g.R.Source g.M.Message c.args.name.now 0 w (view_of i.store c.draw_randomizer.new.random i.ledger i.caches i.is_open)
     c.args.message.now c.args.message.now (Err c.in_err-randomizer.field-0.0) key) c.self.view_is
     (undrawn g.S.Store g.R.Source g.M.Message c.args.name.now i.store i.random c.draw_randomizer.new.random i.ledger i.is_open c.args.message.now
     c.args.message.now key c.in_err-randomizer.field-0.0 opened (c.self.invariant.0.tied opened) refl
@@ -94,7 +94,7 @@ returns-in_err-digest g c key keyed =
     let answer : c.from_residual-in_err-digest.result ≡ Err c.in_err-digest.field-0.0 = search rules in
     subst (λ a. BindsNext g.S.Store g.R.Source g.M.Message c.args.name.now v (view_of i.store c.draw_randomizer.new.random i.ledger i.caches i.is_open)
     c.args.message.now c.digest.new.message a key) (sym (answer ∙ ap Err c.in_err-digest.ensures.fault))
-    (subst (λ w. Fulfils g.S.Store g.R.Source g.M.Message c.args.name.now 0 w (view_of i.store c.draw_randomizer.new.random i.ledger i.caches i.is_open)
+    (subst (λ w. BindsBelow g.S.Store g.R.Source g.M.Message c.args.name.now 0 w (view_of i.store c.draw_randomizer.new.random i.ledger i.caches i.is_open)
     c.args.message.now c.digest.new.message (Err MessageRead) key) c.self.view_is
     (unread_bound g.S.Store g.R.Source g.M.Message c.args.name.now i.store i.random c.draw_randomizer.new.random i.ledger i.is_open c.args.message.now
     c.digest.new.message key c.in_ok-randomizer.randomizer opened (c.self.invariant.0.tied opened)
@@ -165,7 +165,7 @@ returns-in_err-add g c key keyed =
     (c.in_ok-randomizer.ensures K.secret trees) in
     let answer : c.from_residual-in_err-add.result ≡ Err c.in_err-add.field-0.0 = search rules in
     subst (λ a. BindsNext g.S.Store g.R.Source g.M.Message c.args.name.now v c.add.new.self c.args.message.now c.digest.new.message a key) (sym answer)
-    (subst (λ w. Fulfils g.S.Store g.R.Source g.M.Message c.args.name.now 0 w c.add.new.self c.args.message.now c.digest.new.message
+    (subst (λ w. BindsBelow g.S.Store g.R.Source g.M.Message c.args.name.now 0 w c.add.new.self c.args.message.now c.digest.new.message
     (Err c.in_err-add.field-0.0) key) c.self.view_is
     (bound_added g.S.Store g.R.Source g.M.Message c.args.name.now i.store i.random c.draw_randomizer.new.random i.ledger i.is_open c.args.message.now
     c.digest.new.message key c.add.new.self bound text c.add.result _ opened drawn whole is c.add.ensures.adds
@@ -205,7 +205,7 @@ returns g c key keyed =
     (c.in_ok-randomizer.ensures K.secret trees) in
     let grown = added_records g.S.Store (view_of i.store c.draw_randomizer.new.random i.ledger i.caches i.is_open) c.add.new.self (BoundRecord bound) c.add.result
     c.in_ok-add.field-0 c.add.ensures.adds c.in_ok-add.was in
-    let fulfils = bound_added g.S.Store g.R.Source g.M.Message c.args.name.now i.store i.random c.draw_randomizer.new.random i.ledger i.is_open
+    let binds_below = bound_added g.S.Store g.R.Source g.M.Message c.args.name.now i.store i.random c.draw_randomizer.new.random i.ledger i.is_open
     c.args.message.now c.digest.new.message key c.add.new.self bound text c.add.result (Ok sig) opened drawn whole is c.add.ensures.adds
     (ap (λ a. answered_with a sig) (sym c.in_ok-add.was)) in
     let unbound : binding_in records c.args.name.now ≡ None = ap (λ w. binding_in w.records c.args.name.now) c.self.view_is ∙ c.requires.unbound in
@@ -218,7 +218,7 @@ returns g c key keyed =
     } in
     subst (λ w. BindsNext g.S.Store g.R.Source g.M.Message c.args.name.now w c.add.new.self c.args.message.now c.digest.new.message (Ok binding) key) c.self.view_is (
       bound,
-      fulfils,
+      binds_below,
       record {
         grown = grown;
         named = ap (λ l. binding_in l c.args.name.now) grown ∙ binding_new records bound unbound;

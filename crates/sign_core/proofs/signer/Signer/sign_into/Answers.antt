@@ -10,13 +10,13 @@ use Rattle.sign_core.specs.Signing.{UnderKey, answered_with}
 use Rattle.sign_core.specs.Textbook.{damaged_in, tree_before}
 use Rattle.sign_core.specs.declared.fault.SignFault.TheVariants.{Damaged}
 use Rattle.sign_core.specs.inner.Links.{MakesTrees}
-use Rattle.sign_core.specs.inner.Signing.{CanBind, Fulfils, IsBindingOf, Stands}
+use Rattle.sign_core.specs.inner.Signing.{CanBind, BindsBelow, IsBindingOf, Stands}
 use Rattle.sign_core.proofs.ChainParts.{same_key}
 use Rattle.sign_core.proofs.Leaves.{deepest_is}
 use Rattle.sign_core.proofs.LedgerReading.{key_levels}
 use Rattle.sign_core.proofs.Refusals.{same_kind}
 use Rattle.sign_core.proofs.Repeats.{fault_of, linked_ok}
-use Rattle.sign_core.proofs.Signs.{binds_signs, can_bind, damaged_binds, deepest_after, exhausted_signs, fulfils_binds, none_fault, some_level, hindered_signs, long_signs, none_mapped, repeats_signs, unprepared_signs, is_none}
+use Rattle.sign_core.proofs.Signs.{binds_signs, can_bind, damaged_binds, deepest_after, exhausted_signs, binds_below_binds, none_fault, some_level, hindered_signs, long_signs, none_mapped, repeats_signs, unprepared_signs, is_none}
 use Rattle.sign_core.proofs.signer.Signer.sign_into.Goals as goal
 
 pub returns-in_err-check_open-clause-step : goal.returns-in_err-check_open-clause-step
@@ -173,8 +173,8 @@ returns-in_err-map_err-clause-step g c =
     (subst (IsSigner g.S.Store) c.self-2.view_is c.self-2.invariant.0)
     (λ left honest running since. g.met.S.Store.leaves_nothing_else mid.store left honest running since) here)))
 
-pub fulfil-requires-clause-can : goal.fulfil-requires-clause-can
-fulfil-requires-clause-can g c =
+pub bind_below-requires-clause-can : goal.bind_below-requires-clause-can
+bind_below-requires-clause-can g c =
     let unbound = none_mapped (kept_of c.self.inside.ledger.key.secret c.args.self.now.records) (binding_in c.args.self.now.records c.args.name.now)
     (ap (λ w. binding_kept c.self.inside.ledger.key.secret w.records c.args.name.now) (sym c.self.view_is) ∙ sym c.find.ensures ∙ is_none c.find.result c.in_default.not-Some) in
     let short : UnderKey c.args.self.now.records (λ key. is_long key c.args.name.now ≡ false) = λ key keyed. sym (c.is_long.ensures key keyed) ∙ c.if-is_long.false in
@@ -189,13 +189,13 @@ fulfil-requires-clause-can g c =
     subst (λ w. UnderKey w.records (λ key. CanBind (g.S.Store.most w.store) (levels_of key.secret - c.in_ok-level.level) c.args.name.now
     (length c.deref_mut.result.now) w)) (sym same) can
 
-pub fulfil-requires-clause-trees : goal.fulfil-requires-clause-trees
-fulfil-requires-clause-trees g c key keyed =
+pub bind_below-requires-clause-trees : goal.bind_below-requires-clause-trees
+bind_below-requires-clause-trees g c key keyed =
     let i = c.self-2.inside.ledger in
     subst (λ (k : Key). MakesTrees k.secret c.of-trees.result) (c.key.ensures.key ∙ same_key i.records i.key key c.self-2.invariant.1 keyed) c.of-trees.ensures
 
-pub fulfil-requires-clause-stands : goal.fulfil-requires-clause-stands
-fulfil-requires-clause-stands g c key keyed =
+pub bind_below-requires-clause-stands : goal.bind_below-requires-clause-stands
+bind_below-requires-clause-stands g c key keyed =
     let first = c.self.inside.ledger in
     let i = c.self-2.inside.ledger in
     let start = ap (λ w. key_in w.records) (sym c.self.view_is) ∙ c.self.invariant.1 in
@@ -228,15 +228,15 @@ returns-clause-step g c =
     let here = subst (λ k. damaged_in k c.in_ok-level.level mid.records (tree_before c.in_ok-level.level mid.records (length mid.records)) ≡ None) own
     (subst (λ w. damaged_in i.key c.in_ok-level.level w.records (tree_before c.in_ok-level.level w.records (length w.records)) ≡ None) c.self-2.view_is sound) in
     let at = ap (λ w. deepest key.secret w.records) (sym c.self.view_is) ∙ sym c.deepest.ensures ∙ some in
-    let binds = fulfils_binds g.S.Store g.R.Source g.M.Message mid c.fulfil.new.self c.args.name.now c.args.message.now c.fulfil.new.message c.in_ok-level.level key
-    (answered_with c.fulfil.result c.fulfil.new.out) here
-    (subst (λ w. UnderKey w.records (λ key. Fulfils g.S.Store g.R.Source g.M.Message c.args.name.now
-    (bottom_of key.secret - c.in_ok-level.level) w c.fulfil.new.self c.args.message.now c.fulfil.new.message
-    (answered_with c.fulfil.result c.fulfil.new.out) key)) same c.fulfil.ensures key still)
+    let binds = binds_below_binds g.S.Store g.R.Source g.M.Message mid c.bind_below.new.self c.args.name.now c.args.message.now c.bind_below.new.message c.in_ok-level.level key
+    (answered_with c.bind_below.result c.bind_below.new.out) here
+    (subst (λ w. UnderKey w.records (λ key. BindsBelow g.S.Store g.R.Source g.M.Message c.args.name.now
+    (bottom_of key.secret - c.in_ok-level.level) w c.bind_below.new.self c.args.message.now c.bind_below.new.message
+    (answered_with c.bind_below.result c.bind_below.new.out) key)) same c.bind_below.ensures key still)
     made.does.0.is_open (deepest_is key.secret v.records c.in_ok-level.level at).0 in
-    let fits : length c.fulfil.new.out ≡ c.prepare.new.out.len = search rules in
-    subst (λ xs. Signs g.S.Store g.R.Source g.M.Message v c.fulfil.new.self c.args.name.now c.args.message.now c.fulfil.new.message
-    (vec_capacity c.args.out.now) (answered_with c.fulfil.result xs)) (sym (take_at c.fulfil.new.out _ c.prepare.new.out.len fits))
-    (binds_signs g.S.Store g.R.Source g.M.Message v mid c.fulfil.new.self c.args.name.now c.args.message.now c.fulfil.new.message
-    (vec_capacity c.args.out.now) c.in_ok-level.level key (answered_with c.fulfil.result c.fulfil.new.out) keyed c.in_ok-check_open.ensures.open c.in_ok-check_open.ensures.stays
+    let fits : length c.bind_below.new.out ≡ c.prepare.new.out.len = search rules in
+    subst (λ xs. Signs g.S.Store g.R.Source g.M.Message v c.bind_below.new.self c.args.name.now c.args.message.now c.bind_below.new.message
+    (vec_capacity c.args.out.now) (answered_with c.bind_below.result xs)) (sym (take_at c.bind_below.new.out _ c.prepare.new.out.len fits))
+    (binds_signs g.S.Store g.R.Source g.M.Message v mid c.bind_below.new.self c.args.name.now c.args.message.now c.bind_below.new.message
+    (vec_capacity c.args.out.now) c.in_ok-level.level key (answered_with c.bind_below.result c.bind_below.new.out) keyed c.in_ok-check_open.ensures.open c.in_ok-check_open.ensures.stays
     unbound (short key keyed) at made.keeps made.spare made.does.0 binds)

@@ -20,14 +20,14 @@ use Rattle.sign_core.specs.Source.{Provides}
 use Rattle.sign_core.specs.Records.{binding_in, has_identifier, has_moved, key_in, next_at}
 use Rattle.sign_core.specs.Cuts.{IsBeginning, reached}
 use Rattle.sign_core.specs.Signer.{Ends, GrowsAlike, IsRead, KeepsStore, RefusesAfterDraws, UsesMemory, View, is_out_of_memory, is_random_failed, is_store_failed}
-use Rattle.sign_core.specs.inner.Signing.{Does, Extends, Fulfils, IsReady}
+use Rattle.sign_core.specs.inner.Signing.{Does, Extends, BindsBelow, IsReady}
 use Rattle.sign_core.specs.Textbook.{Trees, trees_of}
 use Rattle.sign_core.specs.World.{Chance, Draw, Fate, Outcome, acked, answered, appended, cut_new, cut_old, drawing, no_memory}
 use Rattle.sign_core.specs.World.{open_on, refused}
-use Rattle.sign_core.specs.inner.Cases.{extended, extended_by, extended_with, fulfilled}
+use Rattle.sign_core.specs.inner.Cases.{extended, extended_by, extended_with, bound_below}
 use Rattle.sign_core.proofs.Draws.{gives_both}
 use Rattle.sign_core.proofs.Bindings.{binding_other}
-use Rattle.sign_core.proofs.Fulfilled.{drawing_twice}
+use Rattle.sign_core.proofs.BoundBelow.{drawing_twice}
 use Rattle.sign_core.proofs.Stays.{key_stays, last_is}
 
 -- ---- a draw of a new tree
@@ -209,23 +209,23 @@ step_after : (key : Key) (name : List ℕ) (chance : Chance) (below level : ℕ)
     → mid_records ≡ records ++ ExtendRecord extend ∷ []
     → ((next : List Record → Outcome (List ℕ)) → extended (open_on records) key level (trees_of key.secret) draw next
     ≡ drawing bytes (next (records ++ ExtendRecord extend ∷ [])))
-    → fulfilled key name chance below draws mid_records ≡ outcome
-    → fulfilled key name chance (suc below) (draw ∷ draws) records ≡ drawing bytes outcome
+    → bound_below key name chance below draws mid_records ≡ outcome
+    → bound_below key name chance (suc below) (draw ∷ draws) records ≡ drawing bytes outcome
 step_after key name chance below level draw draws records mid_records extend bytes outcome at is comes step =
-    ap (λ l. extended (open_on records) key l (trees_of key.secret) draw (fulfilled key name chance below draws)) (sym at)
-    ∙ comes (fulfilled key name chance below draws)
-    ∙ ap (λ l. drawing bytes (fulfilled key name chance below draws l)) (sym is)
+    ap (λ l. extended (open_on records) key l (trees_of key.secret) draw (bound_below key name chance below draws)) (sym at)
+    ∙ comes (bound_below key name chance below draws)
+    ∙ ap (λ l. drawing bytes (bound_below key name chance below draws l)) (sym is)
     ∙ ap (drawing bytes) step
 
-pub fulfils_after : {S R M : Type 0} (g : store.Ghosts S) (r : source.Ghosts R) (m : message.Ghosts M) (name : List ℕ) (key : Key) (below level : ℕ)
+pub binds_below_after : {S R M : Type 0} (g : store.Ghosts S) (r : source.Ghosts R) (m : message.Ghosts M) (name : List ℕ) (key : Key) (below level : ℕ)
     (old mid new : View S R) (before after : M) (answer : Result (List ℕ) SignFault) → level ≡ bottom_of key.secret - below
-    → g.stopped mid.store ≡ false → Extends g r level old mid (Ok []) key → Fulfils g r m name below mid new before after answer key
-    → Fulfils g r m name (suc below) old new before after answer key
-fulfils_after {S = S} {R = R} {M = M} g r m name key below level old mid new before after answer at running first second =
+    → g.stopped mid.store ≡ false → Extends g r level old mid (Ok []) key → BindsBelow g r m name below mid new before after answer key
+    → BindsBelow g r m name (suc below) old new before after answer key
+binds_below_after {S = S} {R = R} {M = M} g r m name key below level old mid new before after answer at running first second =
     by_draw (by_trees old.records key level (trees_of key.secret) first.draw)
   where
     by_draw : Draws old.records (extended (open_on old.records) key level (trees_of key.secret) first.draw)
-        → Fulfils g r m name (suc below) old new before after answer key
+        → BindsBelow g r m name (suc below) old new before after answer key
     by_draw (ended fault outcome fails kept unread same) =
         absurd (ok≢err [] fault (sym first.ends.answer_is ∙ ap (λ o. o.answer) (sym first.step ∙ same _) ∙ fails))
     by_draw (recorded extend bytes comes) =
@@ -294,14 +294,14 @@ pub unbound_after : {S R : Type 0} (g : store.Ghosts S) (old mid : View S R) (na
 unbound_after g old mid name after free =
     ap (λ l. binding_in l name) after.records ∙ binding_other old.records (ExtendRecord after.extend) name refl ∙ free
 
-pub fulfils_refused : {S R M : Type 0} (g : store.Ghosts S) (r : source.Ghosts R) (m : message.Ghosts M) (name : List ℕ) (key : Key) (below level : ℕ)
+pub binds_below_refused : {S R M : Type 0} (g : store.Ghosts S) (r : source.Ghosts R) (m : message.Ghosts M) (name : List ℕ) (key : Key) (below level : ℕ)
     (old new : View S R) (unread : M) (fault : SignFault) → level ≡ bottom_of key.secret - below
-    → Extends g r level old new (Err fault) key → Fulfils g r m name (suc below) old new unread unread (Err fault) key
-fulfils_refused {S = S} {R = R} {M = M} g r m name key below level old new unread fault at first =
+    → Extends g r level old new (Err fault) key → BindsBelow g r m name (suc below) old new unread unread (Err fault) key
+binds_below_refused {S = S} {R = R} {M = M} g r m name key below level old new unread fault at first =
     by_draw (by_trees old.records key level (trees_of key.secret) first.draw)
   where
     by_draw : Draws old.records (extended (open_on old.records) key level (trees_of key.secret) first.draw)
-        → Fulfils g r m name (suc below) old new unread unread (Err fault) key
+        → BindsBelow g r m name (suc below) old new unread unread (Err fault) key
     by_draw (recorded extend bytes comes) =
         absurd (ok≢err [] fault (ap (λ o. o.answer) (sym (comes _) ∙ first.step) ∙ first.ends.answer_is))
     by_draw (ended cause outcome fails kept is_unread same) =
@@ -311,7 +311,7 @@ fulfils_refused {S = S} {R = R} {M = M} g r m name key below level old new unrea
           given = None;
           outcome = first.outcome;
           step = λ all. ap (λ l. extended (open_on old.records) key l (trees_of key.secret) first.draw
-              (fulfilled key name (record { has_room = true; trees = all; bound = record { fields = []; fate = acked }; given = None }) below []))
+              (bound_below key name (record { has_room = true; trees = all; bound = record { fields = []; fate = acked }; given = None }) below []))
               (sym at) ∙ same _ ∙ is;
           trees_possible = (first.possible, tt);
           bound_possible = tt;
@@ -334,8 +334,8 @@ fulfils_refused {S = S} {R = R} {M = M} g r m name key below level old new unrea
 
 -- at the bottom level no tree is needed
 pub at_end : {S R M : Type 0} (g : store.Ghosts S) (r : source.Ghosts R) (m : message.Ghosts M) (name : List ℕ) (old new : View S R) (before after : M)
-    (answer : Result (List ℕ) SignFault) (key : Key) (n k : ℕ) → n ≡ k → Fulfils g r m name 0 old new before after answer key
-    → Fulfils g r m name (k - n) old new before after answer key
-at_end g r m name old new before after answer key n k same fulfils =
+    (answer : Result (List ℕ) SignFault) (key : Key) (n k : ℕ) → n ≡ k → BindsBelow g r m name 0 old new before after answer key
+    → BindsBelow g r m name (k - n) old new before after answer key
+at_end g r m name old new before after answer key n k same binds_below =
     let none : 0 ≡ k - n = omega (arith, same) in
-    subst (λ (b : ℕ). Fulfils g r m name b old new before after answer key) none fulfils
+    subst (λ (b : ℕ). BindsBelow g r m name b old new before after answer key) none binds_below

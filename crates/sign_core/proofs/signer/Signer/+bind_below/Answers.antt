@@ -8,13 +8,13 @@ use Rattle.sign_core.specs.Signing.{answered_with}
 use Rattle.sign_core.specs.Records.{is_long, key_in}
 use Rattle.sign_core.specs.inner.Links.{MakesTrees}
 use Rattle.sign_core.specs.Signer.{signature_size, view_of}
-use Rattle.sign_core.specs.inner.Signing.{CanBind, Extends, Fulfils}
+use Rattle.sign_core.specs.inner.Signing.{CanBind, Extends, BindsBelow}
 use Rattle.sign_core.proofs.Adding.{levels_range}
 use Rattle.sign_core.proofs.Binding.{bound_last, never_damaged, sound_last, written_last}
 use Rattle.sign_core.proofs.ChainParts.{same_key}
-use Rattle.sign_core.proofs.Fulfils.{Recorded, at_end, fulfils_after, fulfils_refused, is_recorded, key_after, ready_after, unbound_after}
+use Rattle.sign_core.proofs.BindsBelow.{Recorded, at_end, binds_below_after, binds_below_refused, is_recorded, key_after, ready_after, unbound_after}
 use Rattle.sign_core.proofs.Stays.{key_stays, some_keyed}
-use Rattle.sign_core.proofs.signer.Signer.+fulfil.Goals as goal
+use Rattle.sign_core.proofs.signer.Signer.+bind_below.Goals as goal
 
 pub overflow_add-level : goal.overflow_add-level
 overflow_add-level g t c =
@@ -36,9 +36,9 @@ returns-in_err-extend g t c key keyed =
     let at : a.level + 1 ≡ bottom_of key.secret - below = omega (arith, low) in
     let wanted : suc below ≡ bottom_of key.secret - a.level = omega (arith, low) in
     subst (λ (x : ℕ × Result (List ℕ) SignFault).
-    Fulfils g.S.Store g.R.Source g.M.Message a.name.now x.0 a.self.now c.extend.new.self a.message.now a.message.now x.1 key)
+    BindsBelow g.S.Store g.R.Source g.M.Message a.name.now x.0 a.self.now c.extend.new.self a.message.now a.message.now x.1 key)
     (λ i. (wanted i, answer i))
-    (fulfils_refused g.S.Store g.R.Source g.M.Message a.name.now key below (a.level + 1) a.self.now c.extend.new.self a.message.now fault at
+    (binds_below_refused g.S.Store g.R.Source g.M.Message a.name.now key below (a.level + 1) a.self.now c.extend.new.self a.message.now fault at
     (c.in_err-extend.ensures.step key keyed))
 
 pub prove-unreachable-requires : goal.prove-unreachable-requires
@@ -50,8 +50,8 @@ prove-unreachable-requires g t c =
     (c.in_ok-extend.ensures.step c.key.result.now own) in
     true≢false (sym after.is_open ∙ ap (λ w. w.is_open) (sym c.self-then-level-levels.view_is) ∙ c.if-prove.true)
 
-pub fulfil-requires : goal.fulfil-requires
-fulfil-requires g t c κs within =
+pub bind_below-requires : goal.bind_below-requires
+bind_below-requires g t c κs within =
     let a = c.args in
     let own : key_in a.self.now.records ≡ Some c.key.result.now = ap (λ w. key_in w.records) (sym c.self.view_is) ∙ c.key.ensures.first in
     let after : Recorded g.S.Store a.self.now c.extend.new.self =
@@ -112,10 +112,10 @@ returns-then-level-levels g t c key keyed =
     let below : ℕ = bottom_of key.secret - (a.level + 1) in
     let at : a.level + 1 ≡ bottom_of key.secret - below = omega (arith, low) in
     let wanted : suc below ≡ bottom_of key.secret - a.level = omega (arith, low) in
-    subst (λ (n : ℕ). Fulfils g.S.Store g.R.Source g.M.Message a.name.now n a.self.now c.fulfil.new.self a.message.now c.fulfil.new.message
-    (answered_with c.fulfil.result c.fulfil.new.out) key) wanted
-    (fulfils_after g.S.Store g.R.Source g.M.Message a.name.now key below (a.level + 1) a.self.now c.extend.new.self c.fulfil.new.self
-    a.message.now c.fulfil.new.message (answered_with c.fulfil.result c.fulfil.new.out) at running first (c.fulfil.ensures key next))
+    subst (λ (n : ℕ). BindsBelow g.S.Store g.R.Source g.M.Message a.name.now n a.self.now c.bind_below.new.self a.message.now c.bind_below.new.message
+    (answered_with c.bind_below.result c.bind_below.new.out) key) wanted
+    (binds_below_after g.S.Store g.R.Source g.M.Message a.name.now key below (a.level + 1) a.self.now c.extend.new.self c.bind_below.new.self
+    a.message.now c.bind_below.new.message (answered_with c.bind_below.result c.bind_below.new.out) at running first (c.bind_below.ensures key next))
 
 pub returns-in_err-binding : goal.returns-in_err-binding
 returns-in_err-binding g t c key keyed =
@@ -127,7 +127,7 @@ returns-in_err-binding g t c key keyed =
     let fault : SignFault = c.in_err-binding.field-0.0 in
     let failed : c.from_residual-in_err-binding.result ≡ Err fault = search rules in
     at_end g.S.Store g.R.Source g.M.Message a.name.now _ _ _ _ _ key _ _ bottom
-    (subst (λ (x : Result (List ℕ) SignFault). Fulfils g.S.Store g.R.Source g.M.Message a.name.now 0 a.self.now c.bind.new.self a.message.now
+    (subst (λ (x : Result (List ℕ) SignFault). BindsBelow g.S.Store g.R.Source g.M.Message a.name.now 0 a.self.now c.bind.new.self a.message.now
     c.bind.new.message x key) (ap (λ r. answered_with r a.out.now) (sym failed)) (c.in_err-binding.ensures key keyed))
 
 pub write_bound-requires-clause-trees : goal.write_bound-requires-clause-trees
@@ -135,7 +135,7 @@ write_bound-requires-clause-trees g t c =
     let a = c.args in
     let L = c.self-2.inside.ledger in
     let own : key_in a.self.now.records ≡ Some c.key.result.now = ap (λ w. key_in w.records) (sym c.self.view_is) ∙ c.key.ensures.first in
-    let (bound, fulfils, last) = c.in_ok-binding.ensures c.key.result.now own in
+    let (bound, binds_below, last) = c.in_ok-binding.ensures c.key.result.now own in
     let next : key_in c.bind.new.self.records ≡ Some c.key.result.now =
     ap key_in last.grown ∙ key_stays a.self.now.records (BoundRecord bound ∷ []) c.key.result.now own in
     let same : c.key.result.now ≡ L.key = same_key c.bind.new.self.records c.key.result.now L.key next
@@ -147,7 +147,7 @@ write_bound-requires-clause-kept g t c other others =
     let a = c.args in
     let L = c.self-2.inside.ledger in
     let own : key_in a.self.now.records ≡ Some c.key.result.now = ap (λ w. key_in w.records) (sym c.self.view_is) ∙ c.key.ensures.first in
-    let (bound, fulfils, last) = c.in_ok-binding.ensures c.key.result.now own in
+    let (bound, binds_below, last) = c.in_ok-binding.ensures c.key.result.now own in
     let next : key_in c.bind.new.self.records ≡ Some c.key.result.now =
     ap key_in last.grown ∙ key_stays a.self.now.records (BoundRecord bound ∷ []) c.key.result.now own in
     let records = ap (λ w. w.records) c.self-2.view_is in
@@ -161,7 +161,7 @@ write_bound-requires-clause-room g t c =
     let a = c.args in
     let L = c.self-2.inside.ledger in
     let own : key_in a.self.now.records ≡ Some c.key.result.now = ap (λ w. key_in w.records) (sym c.self.view_is) ∙ c.key.ensures.first in
-    let (bound, fulfils, last) = c.in_ok-binding.ensures c.key.result.now own in
+    let (bound, binds_below, last) = c.in_ok-binding.ensures c.key.result.now own in
     let next : key_in c.bind.new.self.records ≡ Some c.key.result.now =
     ap key_in last.grown ∙ key_stays a.self.now.records (BoundRecord bound ∷ []) c.key.result.now own in
     let same : c.key.result.now ≡ L.key = same_key c.bind.new.self.records c.key.result.now L.key next
@@ -178,7 +178,7 @@ returns g t c key keyed =
     let low : levels_of key.secret ≤ a.level + 1 = omega (arith, levels, c.if-level-levels.false, c.levels-levels.ensures) in
     let stands = c.requires.stands key keyed in
     let bottom : a.level ≡ bottom_of key.secret = omega (arith, low, stands.inside) in
-    let (bound, fulfils, last) = c.in_ok-binding.ensures key keyed in
+    let (bound, binds_below, last) = c.in_ok-binding.ensures key keyed in
     let records = ap (λ w. w.records) c.self-2.view_is in
     let next : key_in c.bind.new.self.records ≡ Some key = ap key_in last.grown ∙ key_stays a.self.now.records (BoundRecord bound ∷ []) key keyed in
     let same : key ≡ L.key = same_key c.bind.new.self.records key L.key next (ap (λ w. key_in w.records) (sym c.self-2.view_is) ∙ c.self-2.invariant.1) in
@@ -188,10 +188,10 @@ returns g t c key keyed =
     let signs = written_last key L.key a.self.now.records c.bind.new.self.records L.records a.name.now bound c.in_ok-binding.binding c.write_bound.result x
     c.write_bound.new.out written last records same c.write_bound.ensures.signature in
     let view = ap (λ y. view_of whole.store whole.random L y whole.is_open) c.write_bound.ensures.caches ∙ c.self-2.view_is in
-    subst (λ w. Fulfils g.S.Store g.R.Source g.M.Message a.name.now (bottom_of key.secret - a.level) a.self.now w a.message.now c.bind.new.message
+    subst (λ w. BindsBelow g.S.Store g.R.Source g.M.Message a.name.now (bottom_of key.secret - a.level) a.self.now w a.message.now c.bind.new.message
     (answered_with c.map_err.result c.write_bound.new.out) key) (sym view)
-    (subst (λ r. Fulfils g.S.Store g.R.Source g.M.Message a.name.now (bottom_of key.secret - a.level) a.self.now c.bind.new.self a.message.now
+    (subst (λ r. BindsBelow g.S.Store g.R.Source g.M.Message a.name.now (bottom_of key.secret - a.level) a.self.now c.bind.new.self a.message.now
     c.bind.new.message (answered_with r c.write_bound.new.out) key) (sym mapped)
     (at_end g.S.Store g.R.Source g.M.Message a.name.now _ _ _ _ _ key _ _ bottom
-    (subst (λ b. Fulfils g.S.Store g.R.Source g.M.Message a.name.now 0 a.self.now c.bind.new.self a.message.now c.bind.new.message (Ok b) key) (sym signs)
-    fulfils)))
+    (subst (λ b. BindsBelow g.S.Store g.R.Source g.M.Message a.name.now 0 a.self.now c.bind.new.self a.message.now c.bind.new.message (Ok b) key) (sym signs)
+    binds_below)))
