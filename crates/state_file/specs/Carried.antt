@@ -2,18 +2,14 @@
 use Rattle.std.specs.Prelude.{◌-◌, List, [], ◌∷◌, ◌++◌, length, map, take, if◌then◌else◌}
 use Rattle.state_file.specs.Laws.{has_moved}
 use Rattle.state_file.specs.declared.record.Record.{Record}
-use Rattle.state_file.specs.declared.record.Record.TheVariants.{Key as KeyRecord, Extend as ExtendRecord}
-use Rattle.state_file.specs.declared.record.Record.TheVariants.{Bound as BoundRecord, Retire, Moved}
+use Rattle.state_file.specs.declared.record.Record.TheVariants.{Key as KeyRecord, Moved}
 use Rattle.state_file.specs.declared.record.Version.{Version}
 use Rattle.state_file.specs.declared.record.Version.TheVariants.{Two}
 
 -- the record in a file of this version: only a Key says the version
 abbrev pub in_version : Version → Record → Record
 in_version version (KeyRecord key) = KeyRecord (record { version = version; secret = key.secret; root = key.root })
-in_version version (ExtendRecord extend) = ExtendRecord extend
-in_version version (BoundRecord bound) = BoundRecord bound
-in_version version (Retire upto) = Retire upto
-in_version version Moved = Moved
+in_version version entry = entry
 
 -- the records, ending with a Moved
 abbrev pub with_moved : List Record → List Record

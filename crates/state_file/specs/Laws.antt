@@ -47,9 +47,7 @@ identifier_in (Xmss secret) = None
 abbrev pub identifier_of : Record → Option (List ℕ)
 identifier_of (KeyRecord key) = identifier_in key.secret
 identifier_of (ExtendRecord extend) = Some extend.identifier
-identifier_of (BoundRecord bound) = None
-identifier_of (Retire upto) = None
-identifier_of Moved = None
+identifier_of _ = None
 
 -- Bindings record C; for XMSS these bytes are zero.
 abbrev pub HasRandomizer : Secret → List ℕ → Type 0
