@@ -1,6 +1,6 @@
 -- What records show doesn't depend on their secrets.
-use Rattle.std.proofs.Common.{◌≡◌, ◌∙◌, ℕ, zero, suc, ◌+◌, ◌-◌, Bool, List, [], ◌∷◌, Option, Some, None, refl, ap, ap₂, sym, map, take}
-use Rattle.std.specs.Prelude.{option_map, fold, max, if◌then◌else◌, is_some}
+use Rattle.std.proofs.Common.{◌≡◌, ◌∙◌, ℕ, zero, suc, ◌+◌, ◌-◌, List, [], ◌∷◌, Option, Some, None, refl, ap, ap₂, sym, map, take}
+use Rattle.std.specs.Prelude.{fold, max, if◌then◌else◌, is_some}
 use Rattle.std.specs.List.{range_with_len}
 use Rattle.std.proofs.lemmas.List.{take-map}
 use Rattle.state_file.specs.declared.record.Key.{Key}
@@ -9,8 +9,9 @@ use Rattle.state_file.specs.declared.record.Record.TheVariants as entry
 use Rattle.state_file.specs.declared.record.Secret.{Secret}
 use Rattle.state_file.specs.declared.record.Secret.TheVariants.{Lms, Hss, Xmss}
 use Rattle.state_file.specs.Laws.{bottom_of, leaves_at, levels_of}
-use Rattle.sign_core.specs.Records.{current, free_at, free_counts, in_tree, key_in, last_from, makes, next_at, next_in, next_of, number_in, numbers_from, reaches, same_tree, under}
-use Rattle.key_audit.specs.Listing.{ListingLaw, Shown, entry_of, shown_in, shown_of, types_of, without_secret, without_seeds}
+use Rattle.sign_core.specs.Records.{current, free_at, free_counts, in_tree, last_from, makes, number_in, numbers_from, reaches, same_tree, under}
+use Rattle.sign_core.proofs.Found.{next_of}
+use Rattle.key_audit.specs.Listing.{ListingLaw, entry_of, shown_in, shown_of, types_of, without_secret, without_seeds}
 
 -- ---- a secret
 

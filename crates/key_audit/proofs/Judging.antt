@@ -1,5 +1,5 @@
 -- What verification of a message in memory says of its signature.
-use Rattle.std.proofs.Common.{◌≡◌, ◌⊎◌, inl, inr, ℕ, ◌+◌, ◌^◌, ◌<◌, ◌≤◌, List, [], ◌∷◌, ◌++◌, length, Some, Option, Result, Ok, Err, IsOk, refl, sym, ap, subst, ◌∙◌, arith, true≢false, length-append}
+use Rattle.std.proofs.Common.{◌≡◌, inl, inr, ℕ, ◌+◌, ◌^◌, ◌<◌, ◌≤◌, List, [], ◌∷◌, ◌++◌, length, Some, Option, Result, Ok, Err, IsOk, refl, sym, ap, subst, ◌∙◌, arith, true≢false, length-append}
 use Rattle.std.specs.Prelude.{◌≢◌}
 use Rattle.std.specs.declared.io.ErrorKind.{ErrorKind}
 use Rattle.typecodes.specs.declared.refusal.Refusal.{Refusal}
@@ -12,6 +12,7 @@ use Rattle.sign_core.specs.declared.key.AnyPublic.{AnyPublic}
 use Rattle.sign_core.specs.declared.key.AnyPublic.TheVariants.{Lms, Hss, Xmss}
 use Rattle.sign_core.specs.Key.{KeyLeavesMessage, KeyVerdict}
 use Rattle.sign_core.specs.Once.{IsValidUnder}
+use Rattle.sign_core.proofs.Valid.{accepted}
 use Rattle.key_audit.specs.declared.given.Given.{Given}
 use Rattle.key_audit.specs.declared.in_memory.InMemory.{InMemory}
 use Rattle.key_audit.specs.Given.{IsValidGiven}
@@ -62,11 +63,6 @@ was-short (Lms key) text old new x leaves = leaves.short
 was-short (Hss key) text old new x leaves = leaves.short
 was-short (Xmss key) text old new x leaves = leaves.short
 
-same-answer : (public : AnyPublic) (text bytes : List ℕ) (x : Unit {0}) → KeyVerdict public text bytes (Ok x) → IsValidUnder public text bytes
-same-answer (Lms key) text bytes x verdict = verdict
-same-answer (Hss key) text bytes x verdict = verdict
-same-answer (Xmss key) text bytes x verdict = verdict
-
 -- a valid signature is refused for no other reason
 only-unread : (public : AnyPublic) (text bytes : List ℕ) (result : Result (Unit {0}) Refusal) → KeyVerdict public text bytes result
     → result ≢ Err MessageRead → IsValidUnder public text bytes → IsOk result
@@ -78,7 +74,7 @@ judged : (public : AnyPublic) (text bytes : List ℕ) (old new : InMemory) (resu
     → KeyVerdict public text bytes result → KeyLeavesMessage GivesNext rest_of public text old new result
     → (IsOk result → IsValidUnder public text bytes × (length text < 2 ^ 60)) × (IsValidUnder public text bytes → length text < 2 ^ 60 → IsOk result)
 judged public text bytes old new (Ok x) whole verdict leaves =
-    (λ _. (same-answer public text bytes x verdict, was-short public text old new x leaves), λ verifies short. refl)
+    (λ _. (accepted public text bytes x verdict, was-short public text old new x leaves), λ verifies short. refl)
 judged public text bytes old new (Err refusal) whole verdict leaves = (
   λ is. absurd (true≢false (sym is)),
   λ verifies short. only-unread public text bytes (Err refusal) verdict

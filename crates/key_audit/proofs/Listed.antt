@@ -1,5 +1,5 @@
 -- Records listed, and names counted, one after the other.
-use Rattle.std.proofs.Common.{◌≡◌, ◌∙◌, ◌+◌, ◌<◌, ◌≤◌, ℕ, List, [], ◌∷◌, ◌++◌, length, map, take, get_or, ap, sym, subst, arith, refl}
+use Rattle.std.proofs.Common.{◌≡◌, ◌∙◌, ◌+◌, ◌<◌, ℕ, List, [], ◌∷◌, ◌++◌, length, map, take, get_or, ap, sym, arith}
 use Rattle.std.proofs.lemmas.List.{map_more, take_more}
 use Rattle.state_file.specs.declared.record.Record.{Record}
 use Rattle.key_audit.specs.declared.listing.Entry.{Entry}

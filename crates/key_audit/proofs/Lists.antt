@@ -1,5 +1,5 @@
 -- What a listing answers at each of its ends.
-use Rattle.std.proofs.Common.{◌≡◌, ℕ, Bool, false, List, [], ◌∷◌, length, Some, None, Ok, Err, Option, Result, refl, sym, ap, ◌∙◌, map}
+use Rattle.std.proofs.Common.{◌≡◌, ℕ, Bool, false, List, [], ◌∷◌, Some, None, Ok, Err, Result, refl, ap, ◌∙◌, map}
 use Rattle.std.specs.Prelude.{option_map}
 use Rattle.state_file.specs.declared.disk.Disk as disk
 use Rattle.state_file.specs.declared.record.Key.{Key}

@@ -14,7 +14,8 @@ use Rattle.state_file.specs.declared.record.Record.TheVariants.{Key as KeyRecord
 use Rattle.state_file.specs.declared.record.Secret.{Secret}
 use Rattle.state_file.specs.declared.record.Secret.TheVariants.{Lms, Hss, Xmss}
 use Rattle.state_file.specs.Laws.{bottom_of, leaves_at, leaves_in, levels_of}
-use Rattle.sign_core.specs.Records.{current, deepest, free_at, in_tree, last_from, makes, next_at, next_in, next_of, number_in}
+use Rattle.sign_core.specs.Records.{current, deepest, free_at, in_tree, last_from, makes, next_at, next_in, number_in}
+use Rattle.sign_core.proofs.Found.{next_of}
 use Rattle.sign_core.specs.Records.{numbers_from, reaches, same_tree, under}
 use Rattle.sign_core.proofs.TreeSteps.{current_is, last_is, same_means, tell_same}
 use Rattle.sign_core.proofs.Leaves.{is_deepest, is_next, number_own}
@@ -95,10 +96,6 @@ under_none above records (Some j) none =
     apart : (o : Option ℕ) → cond (same_tree o None) (Some j) None ≡ None
     apart None = refl
     apart (Some tree) = refl
-
-pub tree_within : (records : List Record) (level tree : ℕ) → 0 < length records → current level records ≡ Some tree → tree < length records
-tree_within records zero tree some is = omega (arith, some, same_Some 0 tree is)
-tree_within records (suc level) tree some is = let (last, parent) = current_is (suc level) records tree is in last.before
 
 -- the new tree is the only one that can be current at its level
 new_alone : (level tree : ℕ) (records : List Record) (extend : Extend) → extend.level ≡ suc level

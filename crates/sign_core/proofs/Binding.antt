@@ -26,7 +26,8 @@ use Rattle.sign_core.specs.Events.{AreFields, randomizer_sizes}
 use Rattle.sign_core.specs.Signing.{answered_with}
 use Rattle.sign_core.specs.inner.Source.{DrawsBytes}
 use Rattle.sign_core.specs.Source.{Provides}
-use Rattle.sign_core.specs.Records.{binding_in, can_follow, current, has_moved, has_randomizer, is_free, key_in, next_at, next_in, next_of}
+use Rattle.sign_core.specs.Records.{binding_in, can_follow, current, has_moved, has_randomizer, is_free, key_in, next_at, next_in}
+use Rattle.sign_core.proofs.Found.{next_of}
 use Rattle.sign_core.specs.Caches.{Cached}
 use Rattle.sign_core.specs.inner.Signer.{Adds, added}
 use Rattle.sign_core.specs.Signer.{Ends, IsRead, IsTied, View, is_before_draws, is_of_append, is_out_of_memory, is_random_failed, is_store_failed, state_of, view_of}

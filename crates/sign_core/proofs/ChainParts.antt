@@ -26,7 +26,8 @@ use Rattle.sign_core.specs.Records.{current, key_in}
 use Rattle.sign_core.specs.inner.Links.{IsTreeAt, signings_of}
 use Rattle.sign_core.specs.Signing.{IsXmssKey}
 use Rattle.sign_core.specs.inner.Signing.{pairs_of}
-use Rattle.sign_core.specs.Textbook.{Trees, damaged_in, digest_at, digest_by, digest_under, secret_at, secret_by, signature_at, signature_by}
+use Rattle.sign_core.specs.Textbook.{Trees, damaged_in, digest_at, digest_by, secret_at, secret_by, signature_at, signature_by}
+use Rattle.sign_core.proofs.Found.{digest_under}
 use Rattle.sign_core.specs.Textbook.{signing_by, signings_above, tree_before, trees_of}
 use Rattle.sign_core.proofs.Keys.{key_stands, legal_key}
 use Rattle.sign_core.proofs.LinkParts.{current_stands, leaves_of_level, pair_at, parent_of}

@@ -9,7 +9,8 @@ use Rattle.state_file.specs.declared.record.Key.{Key}
 use Rattle.state_file.specs.declared.record.Record.{Record}
 use Rattle.state_file.specs.declared.record.Secret.{Secret}
 use Rattle.sign_core.specs.declared.trees.Tree.{Tree}
-use Rattle.sign_core.specs.Records.{current, free_at, key_in, next_at, next_of}
+use Rattle.sign_core.specs.Records.{current, free_at, key_in, next_at}
+use Rattle.sign_core.proofs.Found.{next_of}
 use Rattle.sign_core.specs.inner.Links.{IsTreeAt}
 use Rattle.sign_core.specs.Trees.{tree_at, with_next}
 use Rattle.sign_core.specs.Textbook.{Trees, secret_at, trees_of}

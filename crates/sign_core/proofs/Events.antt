@@ -13,7 +13,8 @@ use Rattle.state_file.specs.declared.record.Record.TheVariants.{Key as KeyRecord
 use Rattle.state_file.specs.declared.record.Secret.{Secret}
 use Rattle.sign_core.specs.declared.key.AnyPublic.{AnyPublic}
 use Rattle.sign_core.specs.declared.fault.SignFault.{SignFault}
-use Rattle.sign_core.specs.Records.{can_follow, current, first_illegal, has_moved, key_in, leaves_of_current, next_at, next_of}
+use Rattle.sign_core.specs.Records.{can_follow, current, first_illegal, has_moved, key_in, leaves_of_current, next_at}
+use Rattle.sign_core.proofs.Found.{next_of}
 use Rattle.sign_core.specs.Events.{AllEvents, AreFields, IsEvent, key_sizes}
 use Rattle.sign_core.specs.World.{Creation, Event, Fate, Handed, Opening, Outcome, State, World, acked, after, appended, beginning}
 use Rattle.sign_core.specs.inner.Cases.{begun}
@@ -141,7 +142,7 @@ after_retired limit state handed upto fate (Some key) kept keyed =
 
 pub kept_after : (limit : ℕ) (world : World) (event : Event) → IsEvent event → IsKept world.state.records world.handed
     → IsKept (after limit world event).state.records (after limit world event).handed
-kept_after limit world (create spec chance) can kept = after_created chance.failed_load world.state world.handed spec chance can.0 can.2 kept
+kept_after limit world (create spec chance) can kept = after_created chance.failed_load world.state world.handed spec chance can.0 can.1 kept
 kept_after limit world (reopen chance) can kept = after_opened world.state world.handed chance (first_illegal world.state.records) kept
 kept_after limit world (request name chance) can kept = kept_request limit world.state world.handed name chance can.1 kept
 kept_after limit world (retire upto fate) can kept = after_retired limit world.state world.handed upto fate (key_in world.state.records) kept refl

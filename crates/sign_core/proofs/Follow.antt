@@ -18,7 +18,8 @@ use Rattle.state_file.specs.declared.record.Version.TheVariants.{One, Two}
 use Rattle.state_file.specs.Laws.{Fits, HasRandomizer, IsCurrent, IsLegal, Names, bottom_of, identifier_of, leaves_at, levels_of}
 use Rattle.state_file.proofs.Legal.{current-all, current-front}
 use Rattle.sign_core.specs.Records.{binding_in, can_follow_legal, can_move, current, has_identifier, has_moved, has_randomizer}
-use Rattle.sign_core.specs.Records.{in_tree, is_free, is_moved, key_in, next_at, next_in, next_of, reaches}
+use Rattle.sign_core.specs.Records.{in_tree, is_free, is_moved, key_in, next_at, next_in, reaches}
+use Rattle.sign_core.proofs.Found.{next_of}
 use Rattle.sign_core.proofs.TreeSteps.{before_current, current_before, current_is, is_current}
 use Rattle.sign_core.proofs.Leaves.{is_next}
 use Rattle.sign_core.proofs.Bindings.{identifier_stands, not_bound}

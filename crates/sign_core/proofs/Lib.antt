@@ -1,3 +1,4 @@
+pub mod Found
 pub mod TextbookSpelling
 pub mod OnceParts
 pub mod KeySizes

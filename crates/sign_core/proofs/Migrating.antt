@@ -25,8 +25,10 @@ use Rattle.hss.specs.Secret.{Signing}
 use Rattle.hss.specs.Writing.{signature_bytes, textbook}
 use Rattle.sign_core.specs.Headline.{IsRecorded}
 use Rattle.sign_core.specs.Records.{are_same, binding_in, can_follow, can_follow_legal, can_move, has_randomizer, current, has_identifier, has_moved, illegal_from, in_tree}
-use Rattle.sign_core.specs.Records.{is_free, is_moved, is_of, key_in, last_from, next_at, next_in, next_of, number_in, numbers_from, reaches, same_tree, under}
-use Rattle.sign_core.specs.Textbook.{AllHaveSizes, AreSound, HasSizes, Trees, digest_at, digest_by, digest_under, hss_signature_under, is_sound_at, is_sound_extend}
+use Rattle.sign_core.specs.Records.{is_free, is_moved, is_of, key_in, last_from, next_at, next_in, number_in, numbers_from, reaches, same_tree, under}
+use Rattle.sign_core.proofs.Found.{next_of}
+use Rattle.sign_core.specs.Textbook.{AllHaveSizes, AreSound, HasSizes, Trees, digest_at, digest_by, is_sound_at, is_sound_extend}
+use Rattle.sign_core.proofs.Found.{digest_under, hss_signature_under}
 use Rattle.sign_core.specs.Textbook.{is_sound_record, secret_at, secret_by, signature_at, signature_by, signing_by, signings_above, tree_before, trees_of}
 use Rattle.sign_core.specs.World.{Handed, Migration, State, carried_over, closed_on, left_alone, migrated, migrated_to, migrated_under, sealed}
 use Rattle.sign_core.proofs.Bindings.{binding_other, binding_stands}

@@ -20,7 +20,7 @@ use Rattle.sign_core.specs.declared.fault.SignFault.TheVariants.{Moved as MovedA
 use Rattle.sign_core.specs.Records.{are_same, binding_in, deepest, first_illegal, has_moved, key_in, leaves_of_current, next_at, wanted_count, is_long}
 use Rattle.sign_core.specs.Requests.{AreComplete, BeginsTree, IsSigned}
 use Rattle.sign_core.specs.Openings.{BeginsKey, Reopens}
-use Rattle.sign_core.specs.Events.{CanStopOpening}
+use Rattle.sign_core.specs.Openings.{CanStopOpening}
 use Rattle.sign_core.specs.Headline.{IsBoundTo}
 use Rattle.sign_core.specs.Once.{IsOnce}
 use Rattle.sign_core.specs.World.{Chance, Creation, Handed, Opening, Fate, Outcome, State, World, acked, after, answered, appended, cut_new, cut_old, no_memory}

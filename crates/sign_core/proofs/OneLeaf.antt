@@ -11,7 +11,8 @@ use Rattle.state_file.specs.declared.record.Secret.{Secret}
 use Rattle.state_file.specs.declared.record.Secret.TheVariants.{Lms, Hss, Xmss}
 use Rattle.sign_core.specs.declared.key.AnyPublic.{AnyPublic}
 use Rattle.sign_core.specs.Records.{binding_in, key_in}
-use Rattle.sign_core.specs.Headline.{IsBoundTo, IsLast, IsOneLeaf, IsRecorded, IsValidUnder, WereHanded, public_in_world, public_of_key}
+use Rattle.sign_core.specs.Headline.{IsBoundTo, IsLast, IsOneLeaf, IsRecorded, IsValidUnder, WereHanded, public_in_world}
+use Rattle.sign_core.specs.Textbook.{public_of_key}
 use Rattle.sign_core.specs.Headline.{LeafUse, MakesUses}
 use Rattle.sign_core.specs.World.{Handed, World}
 use Rattle.sign_core.specs.Textbook.{AreSound, public_in, signature_at}

@@ -20,7 +20,8 @@ use Rattle.sign_core.specs.declared.fault.SignFault.TheVariants.{Moved as MovedA
 use Rattle.sign_core.specs.Records.{are_same, binding_in, deepest, first_illegal, free_at, has_identifier, has_moved, has_randomizer, key_in, is_long, can_move}
 use Rattle.sign_core.specs.Records.{leaves_of_current, next_at, wanted_count}
 use Rattle.sign_core.specs.Events.{AllEvents, AreDraws, AreFields, IsEvent, IsTreeDraw, tree_sizes}
-use Rattle.sign_core.specs.Headline.{IsBoundTo, IsValidUnder, public_of_key}
+use Rattle.sign_core.specs.Headline.{IsBoundTo, IsValidUnder}
+use Rattle.sign_core.specs.Textbook.{public_of_key}
 use Rattle.sign_core.specs.Openings.{Reopens}
 use Rattle.sign_core.specs.Opened.{AreWellFormed, IsValidOver, OpenedLaw}
 use Rattle.sign_core.specs.World.{Chance, Creation, Draw, Event, Fate, Handed, Opening, Outcome, State, World, acked, after, appended}

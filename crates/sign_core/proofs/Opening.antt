@@ -19,7 +19,7 @@ use Rattle.sign_core.specs.declared.fault.SignFault.TheVariants.{RandomRepeated,
 use Rattle.sign_core.specs.declared.fault.SignFault.TheVariants.{Changed, Exhausted, RandomFailed, StoreFailed, Stopped, Damaged, OutOfMemory, LedgerFull}
 use Rattle.sign_core.specs.declared.fault.SignFault.TheVariants.{Unreadable, KeyThere}
 use Rattle.sign_core.specs.Records.{can_follow, first_illegal, illegal_from, key_in}
-use Rattle.sign_core.specs.Headline.{public_of_key}
+use Rattle.sign_core.specs.Textbook.{public_of_key}
 use Rattle.sign_core.specs.inner.Signer.{IsTakenUp, LoadsRecord, TakesUpLoaded}
 use Rattle.sign_core.specs.Signer.{IsTied, LeavesOld, LoadsAll, RefusesToOpen, StopsOpening, is_device_failed, unreadable_slot}
 use Rattle.sign_core.specs.Signer.{GoesTo, slots_below}

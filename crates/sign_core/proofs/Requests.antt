@@ -21,7 +21,8 @@ use Rattle.sign_core.specs.declared.fault.SignFault.TheVariants.{Changed, Damage
 use Rattle.sign_core.specs.declared.fault.SignFault.TheVariants.{RandomRepeated, Stopped}
 use Rattle.sign_core.specs.declared.fault.SignFault.TheVariants.{Moved as MovedAway}
 use Rattle.sign_core.specs.Records.{are_same, binding_in, can_follow, current, deepest, free_at, has_identifier, has_moved, has_randomizer, is_long}
-use Rattle.sign_core.specs.Records.{is_free, key_in, next_at, next_in, next_of}
+use Rattle.sign_core.specs.Records.{is_free, key_in, next_at, next_in}
+use Rattle.sign_core.proofs.Found.{next_of}
 use Rattle.sign_core.specs.Records.{wanted_count}
 use Rattle.sign_core.specs.Events.{AreDraws, AreFields, IsTreeDraw, tree_sizes}
 use Rattle.sign_core.specs.Headline.{IsBoundTo, IsRecorded}

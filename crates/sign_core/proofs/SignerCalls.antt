@@ -25,7 +25,7 @@ use Rattle.sign_core.specs.declared.fault.SignFault.TheVariants.{Stopped, StoreF
 use Rattle.sign_core.specs.declared.fault.SignFault.TheVariants.{Moved as MovedAway}
 use Rattle.sign_core.specs.declared.source.Source as source
 use Rattle.sign_core.specs.Calls.{IsLastingCall}
-use Rattle.sign_core.specs.Events.{CanFailLoad, CanStopOpening, IsEvent}
+use Rattle.sign_core.specs.Events.{IsEvent}
 use Rattle.sign_core.specs.Cuts.{IsBeginning, reached}
 use Rattle.sign_core.specs.Records.{first_illegal, key_in}
 use Rattle.sign_core.specs.Signer.{Creates, IsAnswered, IsRead, IsSigner, LoadFails, Opens, Retires, Signs, StopsOpening, View, is_before_draws, is_fault, is_of_append}
@@ -261,50 +261,6 @@ opens_in g (Err refused) left mine outcome same state opens all listed answer =
     ap (λ (s : State). s.is_open) state ∙ opens.1 refused.fault (ap (λ (o : Outcome AnyPublic). o.answer) same ∙ answer) in
     λ i. record { records = listed i; is_open = closed i }
 
-can_fail : (failed : Option SignFault) (list : List Record) (stopped honest : Bool) → LoadFails failed list stopped honest → CanFailLoad failed
-can_fail None list stopped honest fails = tt
-can_fail (Some Stopped) list stopped honest fails = inl refl
-can_fail (Some (Unreadable slot)) list stopped honest fails = inr (inl (ap Unreadable fails.2))
-can_fail (Some StoreFailed) list stopped honest fails = inr (inr (inl refl))
-can_fail (Some OutOfMemory) list stopped honest fails = inr (inr (inr refl))
-can_fail (Some Changed) list stopped honest fails = absurd fails
-can_fail (Some Exhausted) list stopped honest fails = absurd fails
-can_fail (Some RandomFailed) list stopped honest fails = absurd fails
-can_fail (Some RandomRepeated) list stopped honest fails = absurd fails
-can_fail (Some MessageRead) list stopped honest fails = absurd fails
-can_fail (Some (Damaged k)) list stopped honest fails = absurd fails
-can_fail (Some LedgerFull) list stopped honest fails = absurd fails
-can_fail (Some MovedAway) list stopped honest fails = absurd fails
-can_fail (Some RetireRange) list stopped honest fails = absurd fails
-can_fail (Some LongName) list stopped honest fails = absurd fails
-can_fail (Some NoKey) list stopped honest fails = absurd fails
-can_fail (Some (Illegal k)) list stopped honest fails = absurd fails
-can_fail (Some DeviceFailed) list stopped honest fails = absurd fails
-can_fail (Some NoMemoryToOpen) list stopped honest fails = absurd fails
-can_fail (Some KeyThere) list stopped honest fails = absurd fails
-
-can_stop : (chance : Opening) (list : List Record) (stopped honest : Bool) → StopsOpening chance list stopped honest → CanStopOpening chance
-can_stop None list stopped honest stops = tt
-can_stop (Some (slot, Stopped)) list stopped honest stops = inl refl
-can_stop (Some (slot, Unreadable k)) list stopped honest stops = inr (inl (ap Unreadable stops.2))
-can_stop (Some (slot, DeviceFailed)) list stopped honest stops = inr (inr (inl refl))
-can_stop (Some (slot, NoMemoryToOpen)) list stopped honest stops = inr (inr (inr refl))
-can_stop (Some (slot, Changed)) list stopped honest stops = absurd stops
-can_stop (Some (slot, Exhausted)) list stopped honest stops = absurd stops
-can_stop (Some (slot, RandomFailed)) list stopped honest stops = absurd stops
-can_stop (Some (slot, RandomRepeated)) list stopped honest stops = absurd stops
-can_stop (Some (slot, MessageRead)) list stopped honest stops = absurd stops
-can_stop (Some (slot, Damaged k)) list stopped honest stops = absurd stops
-can_stop (Some (slot, LedgerFull)) list stopped honest stops = absurd stops
-can_stop (Some (slot, MovedAway)) list stopped honest stops = absurd stops
-can_stop (Some (slot, RetireRange)) list stopped honest stops = absurd stops
-can_stop (Some (slot, LongName)) list stopped honest stops = absurd stops
-can_stop (Some (slot, NoKey)) list stopped honest stops = absurd stops
-can_stop (Some (slot, Illegal k)) list stopped honest stops = absurd stops
-can_stop (Some (slot, StoreFailed)) list stopped honest stops = absurd stops
-can_stop (Some (slot, OutOfMemory)) list stopped honest stops = absurd stops
-can_stop (Some (slot, KeyThere)) list stopped honest stops = absurd stops
-
 creates_in : {S R : Type 0} (g : store.Ghosts S) (r : source.Ghosts R) (version : Version) (spec : Spec) (kept_in : S) (random : R)
     (result : Result (View S R) (Refused (S × R) SignFault)) (handed : List Handed) → IsRunning g kept_in → IsSpec spec
     → (creates : Creates g r version spec kept_in random result) → OpensInWorld g (g.list kept_in) handed (create spec creates.chance) kept_in result
@@ -320,7 +276,7 @@ creates_in g r version spec kept_in random result handed is can creates =
       is = record {
         honest = creates.store.honest;
         is_call = record {
-          possible = (can, can_fail creates.chance.failed_load list (g.stopped kept_in) (g.honest kept_in) creates.load, creates.possible);
+          possible = (can, creates.possible);
           leaves = inl leaves;
         };
       };
@@ -349,7 +305,7 @@ opens_again g kept_in random result handed is opens =
       is = record {
         honest = loads.honest;
         is_call = record {
-          possible = can_stop loads.chance list (g.stopped kept_in) (g.honest kept_in) loads.load;
+          possible = tt;
           leaves = inl leaves;
         };
       };
@@ -443,7 +399,7 @@ refuses_to_create g r version spec kept_in random result world stopped can creat
     let failed = stopped_load chance.failed_load (g.list kept_in) (g.stopped kept_in) (g.honest kept_in) stopped creates.load in
     let at = λ (state : State). ap (λ f. created_after f state spec chance) failed in
     refused_opening g world (create spec chance) kept_in result creates.outcome
-    (can, can_fail chance.failed_load (g.list kept_in) (g.stopped kept_in) (g.honest kept_in) creates.load, creates.possible)
+    (can, creates.possible)
     (sym (ap (λ (o : Outcome AnyPublic). o.answer) creates.step) ∙ ap (λ (o : Outcome AnyPublic). o.answer) (at (closed_on (g.list kept_in))))
     creates.answer (creates.stays stopped)
     (ap (λ (o : Outcome AnyPublic). record { state = o.state; handed = world.handed }) (at world.state))
@@ -456,7 +412,7 @@ refuses_to_open g kept_in random result world stopped opens =
     let first = stopped_opening chance (g.list kept_in) (g.stopped kept_in) (g.honest kept_in) stopped loads.load in
     let at = λ (state : State). ap (opened state) first ∙ opened_none state (first_illegal state.records) in
     refused_opening g world (reopen chance) kept_in result loads.outcome
-    (can_stop chance (g.list kept_in) (g.stopped kept_in) (g.honest kept_in) loads.load)
+    tt
     (sym (ap (λ (o : Outcome AnyPublic). o.answer) loads.step) ∙ ap (λ (o : Outcome AnyPublic). o.answer) (at (closed_on loads.records)))
     loads.answer (loads.stays stopped)
     (ap (λ (o : Outcome AnyPublic). record { state = o.state; handed = world.handed }) (at world.state))

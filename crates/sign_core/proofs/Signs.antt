@@ -28,14 +28,29 @@ use Rattle.sign_core.specs.Caches.{Cached}
 use Rattle.sign_core.specs.inner.Signer.{Hinders}
 use Rattle.sign_core.specs.Signer.{IsRead, IsSigner, IsTied, KeepsAll, KeepsForRepeat, KeepsStore, LacksMemory, LacksTree, RefusesMemory, wanted_by, Signs, View, is_out_of_memory}
 use Rattle.sign_core.specs.Signer.{is_before_caches, is_before_repeat, is_fault, is_random_failed, is_store_failed, signature_size, state_of}
-use Rattle.sign_core.specs.inner.Signing.{Binds, CanBind, BindsBelow, IsBindingOf, IsReady, Repeats, repeat_chance}
+use Rattle.sign_core.specs.inner.Signing.{CanBind, BindsBelow, Does, IsBindingOf, IsReady, Repeats, repeat_chance}
 use Rattle.sign_core.specs.Signing.{UnderKey}
 use Rattle.sign_core.specs.Ledger.{kept_of}
+use Rattle.sign_core.specs.Events.{AreDrawsOf}
+use Rattle.sign_core.specs.Signer.{KeepsAtRefusal}
 use Rattle.sign_core.specs.World.{Chance, Outcome, State, reading, refused, requested}
 use Rattle.sign_core.specs.inner.Cases.{bound_anew, bound_sound, repeated, repeated_sound, requested_of, requested_under}
 use Rattle.sign_core.specs.Textbook.{damaged_in, digest_at, tree_before}
 use Rattle.sign_core.proofs.Adding.{LeavesItsList}
 use Rattle.sign_core.proofs.Refusals.{after_caches, before_repeat, keeps_at_all, keeps_after_draws, same_view}
+
+-- A new name, where there is room, and this level is the deepest with a free leaf.
+pub record Binds {S R M : Type 0} (g : store.Ghosts S) (r : source.Ghosts R) (m : message.Ghosts M) (name : List ℕ)
+    (level : ℕ) (old new : View S R) (before after : M) (answer : Result (List ℕ) SignFault) (key : Key) : Type 0 where
+  pub chance : Chance
+  pub outcome : Outcome (List ℕ)
+  pub step : bound_sound (state_of old) key name chance level
+      (damaged_in key level old.records (tree_before level old.records (length old.records))) ≡ outcome
+  pub possible : AreDrawsOf key.secret chance
+  pub room : chance.has_room ≡ true
+  pub does : Does g r m old new before after chance.given outcome answer
+  pub keeps : KeepsAtRefusal g true (levels_of key.secret - level) old new answer
+  pub not_before_caches : is_fault is_before_caches answer ≡ false
 
 -- ---- requests, by what refuses them
 
@@ -421,7 +436,7 @@ module _ {S R M : Type 0} (g : store.Ghosts S) (r : source.Ghosts R) (m : messag
     not_before_caches = refl;
   }
 
-  -- the standing chain is sound, and the records below it are made
+  -- the current trees down to a level are sound, and the records below it are made
   pub binds_below_binds : (old new : View S R) (name : List ℕ) (before after : M) (level : ℕ) (key : Key) (answer : Result (List ℕ) SignFault)
       → damaged_in key level old.records (tree_before level old.records (length old.records)) ≡ None
       → BindsBelow g r m name (bottom_of key.secret - level) old new before after answer key → old.is_open ≡ true → level < levels_of key.secret

@@ -19,7 +19,8 @@ use Rattle.hss.specs.Writing.{signature_bytes, textbook}
 use Rattle.sign_core.proofs.Lists.{slice_get_front, slice_get_new}
 use Rattle.sign_core.specs.Records.{are_same, current, has_moved, is_moved, key_in, last_from, makes}
 use Rattle.sign_core.specs.Records.{same_tree, under}
-use Rattle.sign_core.specs.Textbook.{Trees, digest_at, digest_by, digest_under, hss_signature_under, is_sound_at, is_sound_extend, is_sound_record}
+use Rattle.sign_core.specs.Textbook.{Trees, digest_at, digest_by, is_sound_at, is_sound_extend, is_sound_record}
+use Rattle.sign_core.proofs.Found.{digest_under, hss_signature_under}
 use Rattle.sign_core.specs.Textbook.{secret_at, secret_by}
 use Rattle.sign_core.specs.Textbook.{signature_at, signature_by, signing_by, signings_above, tree_before, trees_of}
 

@@ -1,5 +1,5 @@
--- Which events can come: what may be drawn in them, and what a load may fail with.
-use Rattle.std.specs.Prelude.{◌≡◌, ℕ, List, [], ◌∷◌, length, ◌⊎◌, Option, Some, None}
+-- Which events can come, by what may be drawn in them.
+use Rattle.std.specs.Prelude.{◌≡◌, ℕ, List, [], ◌∷◌, length}
 use Rattle.typecodes.specs.declared.spec.Spec.TheVariants.{Lms, Hss, Xmss}
 use Rattle.std.specs.List.{AllByRecursion}
 use Rattle.typecodes.specs.declared.spec.Spec.{Spec}
@@ -8,10 +8,7 @@ use Rattle.typecodes.specs.Name.{IsName}
 use Rattle.typecodes.specs.Layout.{AreBytes}
 use Rattle.state_file.specs.declared.record.Secret.{Secret}
 use Rattle.state_file.specs.declared.record.Secret.TheVariants.{Lms as LmsSecret, Hss as HssSecret, Xmss as XmssSecret}
-use Rattle.sign_core.specs.declared.fault.SignFault.{SignFault}
-use Rattle.sign_core.specs.declared.fault.SignFault.TheVariants.{OutOfMemory, Stopped, StoreFailed, Unreadable}
-use Rattle.sign_core.specs.declared.fault.SignFault.TheVariants.{DeviceFailed, NoMemoryToOpen}
-use Rattle.sign_core.specs.World.{Chance, Draw, Event, Opening, create, reopen, request, retire, migrate, stop}
+use Rattle.sign_core.specs.World.{Chance, Draw, Event, create, request}
 
 -- the fields of a draw have their sizes in bytes; the last of them may be missing
 abbrev pub AreFields : (sizes : List ℕ) → (fields : List (List ℕ)) → Type 0
@@ -48,25 +45,10 @@ pub record AreDrawsOf (secret : Secret) (chance : Chance) : Type 0 where
   pub trees : AllByRecursion IsTreeDraw chance.trees
   pub bound : AreFields (randomizer_sizes secret) chance.bound.fields
 
--- what the load of record 0 can fail with in a create, and what stops an opening at a slot
-abbrev pub CanFailLoad : Option SignFault → Type 0
-CanFailLoad None = Unit {0}
-CanFailLoad (Some fault) =
-    (fault ≡ Stopped) ⊎ (fault ≡ Unreadable 0) ⊎ (fault ≡ StoreFailed) ⊎ (fault ≡ OutOfMemory)
-
-abbrev pub CanStopOpening : Opening → Type 0
-CanStopOpening None = Unit {0}
-CanStopOpening (Some (slot, fault)) =
-    (fault ≡ Stopped) ⊎ (fault ≡ Unreadable slot) ⊎ (fault ≡ DeviceFailed) ⊎ (fault ≡ NoMemoryToOpen)
-
 abbrev pub IsEvent : Event → Type 0
-IsEvent (create spec chance) =
-    IsSpec spec × CanFailLoad chance.failed_load × AreFields (key_sizes spec) chance.fields
-IsEvent (reopen chance) = CanStopOpening chance
+IsEvent (create spec chance) = IsSpec spec × AreFields (key_sizes spec) chance.fields
 IsEvent (request name chance) = IsName name × AreDraws chance
-IsEvent (retire upto fate) = Unit {0}
-IsEvent (migrate fate) = Unit {0}
-IsEvent stop = Unit {0}
+IsEvent _ = Unit {0}
 
 abbrev pub AllEvents : List Event → Type 0
 AllEvents events = AllByRecursion IsEvent events

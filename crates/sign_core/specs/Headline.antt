@@ -1,5 +1,5 @@
 -- The headline: in every run no leaf signs two digests, and each signature handed out is recorded and valid.
-use Rattle.std.specs.Prelude.{◌≡◌, ℕ, ◌+◌, List, [], ◌∷◌, ◌++◌, Contains, length, map, Option, Some, None}
+use Rattle.std.specs.Prelude.{◌≡◌, ℕ, ◌+◌, List, [], ◌∷◌, ◌++◌, Contains, length, map, Option, Some}
 use Rattle.std.specs.List.{range_with_len}
 use Rattle.typecodes.specs.Layout.{Spells}
 use Rattle.lmots.specs.Key.{message_digest_of as q_of}
@@ -13,7 +13,7 @@ use Rattle.xmss.specs.Writing.{public_bytes as xmss_public_bytes}
 use Rattle.hss.specs.Signature.{Signature as HssSignature, signature as hss_signature}
 use Rattle.hss.specs.Signature.{key_at, message_at, signature_at as hss_signature_at}
 use Rattle.hss.specs.Verification.{IsValid as IsHssValid}
-use Rattle.sign_core.specs.Textbook.{digest_at, public_in, signature_at}
+use Rattle.sign_core.specs.Textbook.{digest_at, public_of_key, signature_at}
 use Rattle.sign_core.specs.declared.key.AnyPublic.{AnyPublic}
 use Rattle.sign_core.specs.declared.key.AnyPublic.TheVariants.{Lms, Hss, Xmss}
 use Rattle.state_file.specs.declared.record.Bound.{Bound}
@@ -76,10 +76,6 @@ pub record IsRecorded (records : List Record) (x : Handed) : Type 0 where
   pub signature : x.signature ≡ signature_at key records k bound
 
 -- the public key of the world's record 0
-abbrev pub public_of_key : Option Key → Option AnyPublic
-public_of_key None = None
-public_of_key (Some key) = public_in key
-
 abbrev pub public_in_world : World → Option AnyPublic
 public_in_world world = public_of_key (key_in world.state.records)
 

@@ -7,7 +7,8 @@ use Rattle.state_file.specs.declared.record.Key.{Key}
 use Rattle.state_file.specs.declared.record.Record.{Record}
 use Rattle.sign_core.specs.declared.key.AnyPublic.{AnyPublic}
 use Rattle.sign_core.specs.Events.{AllEvents, AreDraws, IsEvent}
-use Rattle.sign_core.specs.Headline.{IsValidUnder, public_of_key}
+use Rattle.sign_core.specs.Headline.{IsValidUnder}
+use Rattle.sign_core.specs.Textbook.{public_of_key}
 use Rattle.sign_core.specs.Openings.{Reopens}
 use Rattle.sign_core.specs.declared.fault.SignFault.TheVariants.{Damaged}
 use Rattle.sign_core.specs.Records.{binding_in, deepest, key_in}

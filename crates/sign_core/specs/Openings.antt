@@ -7,13 +7,13 @@ use Rattle.typecodes.specs.Spec.{IsSpec}
 use Rattle.state_file.specs.declared.record.Key.{Key}
 use Rattle.state_file.specs.declared.record.Record.TheVariants.{Key as KeyRecord}
 use Rattle.state_file.specs.declared.record.Secret.{Secret}
-use Rattle.sign_core.specs.declared.fault.SignFault.TheVariants.{Illegal}
+use Rattle.sign_core.specs.declared.fault.SignFault.TheVariants.{DeviceFailed, Illegal, NoMemoryToOpen, Stopped}
+use Rattle.sign_core.specs.declared.fault.SignFault.TheVariants.{Unreadable}
 use Rattle.sign_core.specs.Records.{key_in}
 use Rattle.sign_core.specs.World.{Creation, Opening, State, World, acked, answered, created, drawing, new_key, open_on}
 use Rattle.sign_core.specs.World.{opened, secret_from}
 use Rattle.sign_core.specs.Textbook.{AreSound, public_in}
-use Rattle.sign_core.specs.Events.{CanStopOpening}
-use Rattle.sign_core.specs.Headline.{public_of_key}
+use Rattle.sign_core.specs.Textbook.{public_of_key}
 
 -- A create begins this key: its record is the only one, the signer is open on it, and the public key is answered.
 pub record BeginsKey (state : State) (spec : Spec) (chance : Creation) (key : Key) : Type 0 where
@@ -27,6 +27,12 @@ pub record Reopens (state : State) : Type 0 where
   pub public : AnyPublic
   pub keyed : public_of_key (key_in state.records) ≡ Some public
   pub opens : opened state None ≡ answered (open_on state.records) public
+
+-- what stops an opening at a slot
+abbrev pub CanStopOpening : Opening → Type 0
+CanStopOpening None = Unit {0}
+CanStopOpening (Some (slot, fault)) =
+    (fault ≡ Stopped) ⊎ (fault ≡ Unreadable slot) ⊎ (fault ≡ DeviceFailed) ⊎ (fault ≡ NoMemoryToOpen)
 
 pub record AreOpeningsAnswered (world : World) : Type 0 where
   -- a create where no record stands begins a key and answers its public key, where nothing fails

@@ -2,7 +2,7 @@
 -- bindings. A tree is named by the place of the record that makes it.
 use Rattle.std.specs.Prelude.{◌≡◌, ◌⊎◌, ℕ, zero, suc, ◌+◌, ◌-◌, ◌≤◌, Bool, true, false, not, List, [], ◌∷◌}
 use Rattle.std.specs.Prelude.{length, take, map, reverse, fold, max, nat_eq, nat_lt, nat_le, find, slice_get, is_some}
-use Rattle.std.specs.Prelude.{Option, Some, None, option_map, if◌then◌else◌, ◌&&◌, replicate}
+use Rattle.std.specs.Prelude.{Option, Some, None, option_map, unwrap_or, if◌then◌else◌, ◌&&◌, replicate}
 use Rattle.std.specs.Cmp.Lexicographic.{pointwise}
 use Rattle.std.specs.List.{range_with_len}
 use Rattle.state_file.specs.Laws.{bottom_of, has_moved, identifier_of, leaves_at, levels_of}
@@ -86,13 +86,9 @@ pub record IsNext (secret : Secret) (records : List Record) (tree next : ℕ) : 
   pub least : (next ≡ 0) ⊎ ((k : ℕ) × (entry : Record) × (slice_get records k ≡ Some entry)
       × (reaches secret (take k records) entry ≡ Some (tree, next)))
 
-abbrev pub next_of : Secret → List Record → Option ℕ → ℕ
-next_of secret records None = 0
-next_of secret records (Some tree) = next_in secret records tree
-
 -- the next leaf of a level's current tree, 0 where there is none
 abbrev pub next_at : Secret → List Record → (level : ℕ) → ℕ
-next_at secret records level = next_of secret records (current level records)
+next_at secret records level = unwrap_or (option_map (next_in secret records) (current level records)) 0
 
 -- how many leaves are free in a level's current tree, 0 where there is none
 abbrev pub free_at : Secret → List Record → (level : ℕ) → ℕ

@@ -33,7 +33,7 @@ use Rattle.sign_core.specs.Source.{Provides}
 use Rattle.sign_core.specs.Records.{binding_in, deepest, key_in, wanted_count}
 use Rattle.sign_core.specs.Events.{AreDrawsOf, AreFields, key_sizes}
 use Rattle.sign_core.specs.Cuts.{IsBeginning, reached}
-use Rattle.sign_core.specs.Headline.{public_of_key}
+use Rattle.sign_core.specs.Textbook.{public_of_key}
 use Rattle.sign_core.specs.World.{Chance, Creation, Fate, Opening, Outcome, State, closed_on, created, opened}
 use Rattle.sign_core.specs.World.{requested, retired}
 use Rattle.sign_core.specs.Caches.{Cached, LacksCache}

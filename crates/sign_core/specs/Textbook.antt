@@ -1,7 +1,7 @@
 -- The textbook signature of a binding, and what is sound: functions of the records alone.
 use Rattle.std.specs.Prelude.{◌≡◌, ℕ, zero, suc, ◌-◌, Bool, true, false, not, List, [], ◌∷◌, ◌++◌, ◌&&◌}
 use Rattle.std.specs.Prelude.{length, take, find, slice_get, slice_index_or, unwrap_or}
-use Rattle.std.specs.Prelude.{Option, Some, None}
+use Rattle.std.specs.Prelude.{Option, Some, None, option_map}
 use Rattle.typecodes.specs.declared.types.LmsPair.{LmsPair}
 use Rattle.typecodes.specs.Levels.{AreLevels}
 use Rattle.lmots.specs.Key.{message_digest_of}
@@ -101,19 +101,24 @@ public_by (Xmss secret) root =
 abbrev pub public_in : Key → Option AnyPublic
 public_in key = public_by key.secret key.root
 
+-- where there is a key
+abbrev pub public_of_key : Option Key → Option AnyPublic
+public_of_key None = None
+public_of_key (Some key) = public_in key
+
+-- bytes of a key's LMS trees
+abbrev pub by_trees : Secret → (Trees → List ℕ) → List ℕ
+by_trees secret bytes = unwrap_or (option_map bytes (trees_of secret)) []
+
 -- The digest that a leaf of the bottom tree before place k signs for a message: Q by C, or M' by SK_PRF and the
 -- recorded root.
-abbrev pub digest_under : Option Trees → List Record → (tree leaf : ℕ) → (randomizer message : List ℕ) → List ℕ
-digest_under None records tree leaf randomizer message = []
-digest_under (Some trees) records tree leaf randomizer message =
-    message_digest_of (secret_at trees records tree).identifier leaf randomizer message
-
 abbrev pub digest_by : Secret → (root : List ℕ) → List Record → (k leaf : ℕ) → (randomizer message : List ℕ) → List ℕ
 digest_by (Lms secret) root records k leaf randomizer message =
     message_digest_of secret.identifier leaf randomizer message
 digest_by (Hss levels identifier seed) root records k leaf randomizer message =
-    digest_under (trees_of (Hss levels identifier seed)) records (tree_before (length levels - 1) records k) leaf
-    randomizer message
+    let tree = tree_before (length levels - 1) records k in
+    by_trees (Hss levels identifier seed)
+    (λ trees. message_digest_of (secret_at trees records tree).identifier leaf randomizer message)
 digest_by (Xmss secret) root records k leaf randomizer message = xmss_digest_in secret root leaf message
 
 abbrev pub digest_at : Key → List Record → (k leaf : ℕ) → (randomizer message : List ℕ) → List ℕ
@@ -122,18 +127,14 @@ digest_at key records k leaf randomizer message = digest_by key.secret key.root 
 -- ---- signatures
 
 -- The textbook signature of a binding whose record stands at place k.
-abbrev pub hss_signature_under : Option Trees → List Record → (level tree : ℕ) → Bound → List ℕ
-hss_signature_under None records level tree bound = []
-hss_signature_under (Some trees) records level tree bound =
-    let above = signings_above trees level records tree in
-    hss_signature_bytes (hss_textbook above (signing_of_bound trees records tree bound))
-
 abbrev pub signature_by : Secret → List Record → (k : ℕ) → Bound → List ℕ
 signature_by (Lms secret) records k bound =
     lms_signature_bytes (lms_textbook secret bound.leaf bound.randomizer bound.digest)
 signature_by (Hss levels identifier seed) records k bound =
     let bottom = length levels - 1 in
-    hss_signature_under (trees_of (Hss levels identifier seed)) records bottom (tree_before bottom records k) bound
+    let tree = tree_before bottom records k in
+    by_trees (Hss levels identifier seed) (λ trees. hss_signature_bytes
+    (hss_textbook (signings_above trees bottom records tree) (signing_of_bound trees records tree bound)))
 signature_by (Xmss secret) records k bound =
     xmss_signature_bytes (xmss_textbook secret bound.leaf bound.digest)
 
@@ -144,10 +145,8 @@ signature_at key records k bound = signature_by key.secret records k bound
 
 -- the root of a key's top tree
 abbrev pub root_by : Secret → List ℕ
-root_by (Lms secret) = lms_root_in secret
-root_by (Hss [] identifier seed) = []
-root_by (Hss (pair ∷ rest) identifier seed) = lms_root_in (lms_secret pair identifier seed)
 root_by (Xmss secret) = xmss_root_in secret
+root_by secret = by_trees secret (λ trees. lms_root_in trees.top)
 
 -- whether the Extend at place k has the root of the tree's secret, and the digest of the tree's public key under the
 -- parent's I and leaf

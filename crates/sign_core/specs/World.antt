@@ -29,7 +29,7 @@ use Rattle.sign_core.specs.declared.fault.SignFault.TheVariants.{Moved, RetireRa
 use Rattle.sign_core.specs.Records.{are_same, binding_in, can_move, deepest, first_illegal, has_identifier}
 use Rattle.sign_core.specs.Records.{has_moved}
 use Rattle.sign_core.specs.Records.{is_long, key_in, leaves_of_current, next_at, wanted_count}
-use Rattle.sign_core.specs.Textbook.{Trees, damaged_in, digest_at, lms_secret, public_in, root_by, secret_at}
+use Rattle.sign_core.specs.Textbook.{Trees, damaged_in, digest_at, lms_secret, public_in, public_of_key, root_by, secret_at}
 use Rattle.sign_core.specs.Textbook.{signature_at, tree_before, trees_of}
 
 -- ---- states and outcomes
@@ -211,9 +211,7 @@ abbrev pub opened : State → Opening → Outcome AnyPublic
 opened state chance = event (do
   records ← the_records
   refuse_with (first_refusal chance (first_illegal records))
-  close
-  key ← some_or NoKey (key_in records)
-  publish (public_in key)) state
+  publish (public_of_key (key_in records))) state
 
 -- ---- requests
 
@@ -404,23 +402,19 @@ pub data Event : Type 0 where
   stop : Event
 
 abbrev pub handed_with : (name : List ℕ) → (given : Option (List ℕ)) → Result (List ℕ) SignFault → List Handed
-handed_with name (Some message) (Ok signature) =
-    record { name = name; message = message; signature = signature } ∷ []
+handed_with name (Some message) (Ok signature) = record { name = name; message = message; signature = signature } ∷ []
 handed_with name _ _ = []
 
 -- an event in a world whose store takes `limit` records
 abbrev pub after : (limit : ℕ) → World → Event → World
-after limit world (create spec chance) =
-    record { state = (created world.state spec chance).state; handed = world.handed }
-after limit world (reopen chance) =
-    record { state = (opened world.state chance).state; handed = world.handed }
+after limit world (create spec chance) = record world { state = (created world.state spec chance).state }
+after limit world (reopen chance) = record world { state = (opened world.state chance).state }
 after limit world (request name chance) =
     let outcome = requested limit world.state name chance in
     record { state = outcome.state; handed = world.handed ++ handed_with name chance.given outcome.answer }
-after limit world (retire upto fate) =
-    record { state = (retired limit world.state upto fate).state; handed = world.handed }
-after limit world (migrate fate) = record { state = migrated world.state fate; handed = world.handed }
-after limit world stop = record { state = closed_on world.state.records; handed = world.handed }
+after limit world (retire upto fate) = record world { state = (retired limit world.state upto fate).state }
+after limit world (migrate fate) = record world { state = migrated world.state fate }
+after limit world stop = record world { state = closed_on world.state.records }
 
 abbrev pub run : (limit : ℕ) → World → List Event → World
 run limit world [] = world

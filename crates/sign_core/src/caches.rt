@@ -1,6 +1,6 @@
 //! The caches of current trees. Each tree is made once, and then its root and a path cost few leaves or none.
 
-ghost use Rattle.std.specs.Prelude.{◌≡◌, ◌≢◌, ◌↔◌, ◌<◌, ◌≤◌, ◌^◌, ◌∷◌, List, Some, None, true, length, ℕ, IfErr, IfOk};
+ghost use Rattle.std.specs.Prelude.{◌≡◌, ◌≢◌, ◌↔◌, ◌<◌, ◌≤◌, ◌^◌, ◌∷◌, List, Some, None, length, ℕ, IfErr, IfOk};
 ghost use Rattle.std.specs.Prelude.{IsSome, OnErr, OnOk, replicate};
 ghost use Rattle.merkle.specs.Tree.{path_of, root_of};
 ghost use Rattle.typecodes.specs.Types.{height_of, xmss_height_of};
@@ -188,7 +188,7 @@ impl Caches {
     ghost use Rattle.sign_core.specs.Caches.{HasLevel, cache_at};
     ghost use Rattle.sign_core.specs.inner.Links.{IsMade};
     ghost use Rattle.lms.specs.Secret.{root_in as lms_root_in};
-    ghost use Rattle.xmss.specs.Secret.{path_in as xmss_path_in, root_in as xmss_root_in};
+    ghost use Rattle.xmss.specs.Secret.{path_in as xmss_path_in};
 
     /// No cache for any level.
     pub(crate) fn new(alloc: Global) -> Self

@@ -1,6 +1,6 @@
 //! Frames of requests, read from an input: the head before a message, and the message.
 
-ghost use Rattle.std.specs.Prelude.{◌≡◌, ◌<◌, length, OnErr, OnOk};
+ghost use Rattle.std.specs.Prelude.{◌≡◌, ◌<◌};
 ghost use Rattle.sign_core.specs.inner.Frames.{FillsBuffer, ReadsField, ReadsHead, Skips, bytes_of, said_by};
 ghost use Rattle.sign_core.specs.Frames.{after_size};
 ghost use Rattle.typecodes.specs.Fields.{block};

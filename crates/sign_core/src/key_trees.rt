@@ -1,11 +1,12 @@
-//! The LMS trees of a key: the chain of trees from the top down to one that signs, and the caches of the current ones.
+//! The trees of a key: of LMS or HSS the chain from the top down to one that signs, or the one tree of XMSS; and the
+//! caches of the current ones.
 
-ghost use Rattle.std.specs.Prelude.{◌≡◌, ◌<◌, ◌+◌, ◌^◌, ◌∷◌, [], ◌++◌, Some, None, true, false, length, slice_index_or};
+ghost use Rattle.std.specs.Prelude.{◌≡◌, ◌<◌, ◌+◌, ◌^◌, ◌++◌, Some, None, true, false, length, slice_index_or};
 ghost use Rattle.std.specs.Prelude.{IfErr, OnOk, IfOk, OnErr};
 ghost use Rattle.arrayvec.specs.ArrayVec.{array_vec_len};
 ghost use Rattle.typecodes.specs.Types.{height_of};
-ghost use Rattle.state_file.specs.Laws.{IsLegal, levels_of};
-ghost use Rattle.sign_core.specs.Records.{free_at, key_in};
+ghost use Rattle.state_file.specs.Laws.{levels_of};
+ghost use Rattle.sign_core.specs.Records.{free_at};
 ghost use Rattle.sign_core.specs.Textbook.{damaged_in, tree_before};
 
 use crate::caches::Caches;

@@ -1,9 +1,8 @@
 //! Laws of records, of textbook signatures and of the world of one key. The functions do nothing; their contracts are
 //! proved for every list of records and of events.
 
-ghost use Rattle.std.specs.Prelude.{◌≡◌, ◌≢◌, ◌⊎◌, ◌↔◌, ℕ, ◌+◌, ◌<◌, ◌≤◌, List, [], Some, None, length, take};
-ghost use Rattle.std.specs.Prelude.{slice_get};
-ghost use Rattle.std.specs.Prelude.{true};
+ghost use Rattle.std.specs.Prelude.{◌≡◌, ◌≢◌, ◌⊎◌, ◌↔◌, ℕ, ◌+◌, ◌<◌, List, Some, None, Ok, true, length, slice_get};
+ghost use Rattle.std.specs.Prelude.{take};
 ghost use Rattle.state_file.specs.declared.record.Bound.{Bound};
 ghost use Rattle.state_file.specs.declared.record.Key.{Key};
 ghost use Rattle.state_file.specs.declared.record.Record.{Record};
@@ -15,6 +14,7 @@ ghost use Rattle.sign_core.specs.Records.{IsNext, binding_in, current, deepest, 
 ghost use Rattle.sign_core.specs.Records.{has_identifier, key_in, next_in};
 ghost use Rattle.sign_core.specs.Cuts.{CutLaw, StopLaw};
 ghost use Rattle.sign_core.specs.Headline.{HeadlineLaw, IsBoundTo, IsValidUnder};
+ghost use Rattle.sign_core.specs.Key.{KeyVerdict};
 ghost use Rattle.sign_core.specs.Lasting.{LastingLaw};
 ghost use Rattle.sign_core.specs.Once.{OnceLaw};
 ghost use Rattle.sign_core.specs.Sound.{SoundLaw};
@@ -69,6 +69,7 @@ pub fn ledger_laws()
 /// - `valid`: over sound records, a binding's signature is valid for each message with its digest.
 /// - `checked`: the same over legal records, if the chain of the binding's trees is sound.
 /// - `undamaged`: sound records have no damaged chain.
+/// - `accepted`: a signature is valid exactly if `Ok` is a right answer of verification (`verify_any`).
 pub fn textbook_laws()
     ensures valid { (records : List Record) (key : Key) (name message : List ℕ) (k : ℕ) (bound : Bound)
         (public : AnyPublic) →
@@ -80,6 +81,8 @@ pub fn textbook_laws()
         public_in key ≡ Some public → IsValidUnder public message (signature_at key records k bound) }
     ensures undamaged { (records : List Record) (key : Key) (level tree : ℕ) → AreSound records →
         key_in records ≡ Some key → damaged_in key level records tree ≡ None }
+    ensures accepted { (public : AnyPublic) (message bytes : List ℕ) →
+        IsValidUnder public message bytes ↔ KeyVerdict public message bytes (Ok (tt {0})) }
 {}
 
 /// No leaf of a key signs twice.

@@ -1,8 +1,8 @@
 //! The ledger: a key's records in memory, and what is looked up in them. A Retire takes no memory.
 
-ghost use Rattle.std.specs.Prelude.{◌≡◌, ◌<◌, ◌≤◌, ◌+◌, ◌-◌, ◌^◌, ◌∷◌, ◌++◌, [], ℕ, Some, None, true, length};
-ghost use Rattle.std.specs.Prelude.{option_map, slice_get, MatchOption, OnOk, OnErr, IfOk, IfErr, ◌↔◌};
-ghost use Rattle.sign_core.specs.Records.{binding_in, can_follow, can_follow_legal, can_move, deepest, free_at};
+ghost use Rattle.std.specs.Prelude.{◌≡◌, ◌<◌, ◌≤◌, ◌+◌, ◌-◌, ◌∷◌, [], Some, None, true, length};
+ghost use Rattle.std.specs.Prelude.{OnOk, OnErr, IfOk, IfErr, ◌↔◌};
+ghost use Rattle.sign_core.specs.Records.{can_follow, can_follow_legal, can_move, deepest, free_at};
 ghost use Rattle.sign_core.specs.Records.{has_identifier, has_moved, is_free, key_in};
 ghost use Rattle.sign_core.specs.Ledger.{TakesMemory};
 ghost use Rattle.sign_core.specs.Textbook.{public_in};
@@ -151,7 +151,7 @@ impl Ledger {
     ghost use Rattle.sign_core.specs.declared.ledger.LedgerFault.TheVariants.{Illegal, OutOfMemory};
     ghost use Rattle.sign_core.specs.Trees.{tree_at};
     ghost use Rattle.sign_core.specs.Textbook.{AllHaveSizes, HasSizes};
-    ghost use Rattle.sign_core.specs.Headline.{public_of_key};
+    ghost use Rattle.sign_core.specs.Textbook.{public_of_key};
     ghost use Rattle.sign_core.specs.Records.{free_counts};
 
     /// A ledger that holds only the key.

@@ -47,11 +47,9 @@ impl SigningTree {
         }
     }
 
-    pub(crate) fn public(&self) -> LmsPublic
-        ensures value { result.pair ≡ self.now.secret.pair }
-        ensures identifier { result.identifier ≡ self.now.secret.identifier }
-        ensures root { result.root ≡ self.now.root }
-        ensures made { IsMade self.now → result ≡ public_of self.now.secret }
+    fn public(&self) -> LmsPublic
+        requires { IsMade self.now }
+        ensures { result ≡ public_of self.now.secret }
     {
         LmsPublic {
             pair: self.secret.pair,

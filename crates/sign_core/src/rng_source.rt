@@ -1,6 +1,6 @@
 //! A source over a generator of random bytes.
 
-ghost use Rattle.std.specs.Prelude.{◌≡◌, ℕ, List, Option, None, OnOk};
+ghost use Rattle.std.specs.Prelude.{◌≡◌, None, OnOk};
 ghost use Rattle.sign_core.specs.Source.{Fills};
 
 use crate::source::{Source, SourceFault};

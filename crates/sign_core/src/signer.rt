@@ -9,7 +9,7 @@ ghost use Rattle.sign_core.specs.Events.{AreFields};
 ghost use Rattle.sign_core.specs.inner.Signer.{DrawsSecret, Hinders, IsAnsweredByKey, IsAppended, IsTakenUp};
 ghost use Rattle.sign_core.specs.Signer.{IsTied, LoadsAll, MakesKey};
 ghost use Rattle.sign_core.specs.inner.Signer.{LoadsRecord, LooksForKey, TakesUpLoaded};
-ghost use Rattle.sign_core.specs.Textbook.{HasSizes, SecretHasSizes, root_by};
+ghost use Rattle.sign_core.specs.Textbook.{HasSizes, root_by};
 ghost use Rattle.state_file.specs.declared.record.Record.TheVariants.{Key as KeyRecord};
 ghost use Rattle.typecodes.specs.Layout.{AreBytes};
 ghost use Rattle.typecodes.specs.Spec.{IsSpec};
@@ -246,7 +246,7 @@ fn load_all<S: Store>(alloc: Global, store: &mut S) -> Result<Ledger, SignFault>
 impl<S: Store, R: Source> Signer<S, R> {
     ghost use Rattle.sign_core.specs.Records.{can_follow, free_counts, has_moved, key_in};
     ghost use Rattle.state_file.specs.declared.record.Key.{Key as K};
-    ghost use Rattle.sign_core.specs.Headline.{public_of_key};
+    ghost use Rattle.sign_core.specs.Textbook.{public_of_key};
     ghost use Rattle.sign_core.specs.inner.Signer.{Adds, IsBottom};
     ghost use Rattle.sign_core.specs.Signer.{Creates, Opens, Retires};
     ghost use Rattle.sign_core.specs.Ledger.{TakesMemory};

@@ -12,13 +12,13 @@ use Rattle.sign_core.specs.declared.key.AnyPublic.{AnyPublic}
 use Rattle.sign_core.specs.declared.fault.SignFault.{SignFault}
 use Rattle.sign_core.specs.declared.fault.SignFault.TheVariants.{Changed, Exhausted, RandomFailed, RandomRepeated}
 use Rattle.sign_core.specs.declared.fault.SignFault.TheVariants.{Stopped, OutOfMemory, LedgerFull}
-use Rattle.sign_core.specs.declared.fault.SignFault.TheVariants.{Damaged, Moved, RetireRange, NoKey, KeyThere}
+use Rattle.sign_core.specs.declared.fault.SignFault.TheVariants.{Damaged, Moved, RetireRange, KeyThere}
 use Rattle.sign_core.specs.Records.{are_same, binding_in, has_identifier, has_moved, key_in}
 use Rattle.sign_core.specs.Records.{leaves_of_current, next_at, wanted_count}
-use Rattle.sign_core.specs.Textbook.{Trees, damaged_in, digest_at, lms_secret, public_in}
+use Rattle.sign_core.specs.Textbook.{Trees, damaged_in, digest_at, lms_secret, public_in, public_of_key}
 use Rattle.sign_core.specs.Textbook.{signature_at, tree_before}
 use Rattle.sign_core.specs.World.{◌>>=◌, ◌>>◌, Chance, Creation, Draw, Fate, Opening, Outcome, State, answer_if}
-use Rattle.sign_core.specs.World.{append, begin_trees, bind, close, draw, draw_identifier, draw_seed, event}
+use Rattle.sign_core.specs.World.{append, begin_trees, bind, draw, draw_identifier, draw_seed, event}
 use Rattle.sign_core.specs.World.{extend_record, first_refusal, give, new_bound, new_key, open_on}
 use Rattle.sign_core.specs.World.{open_signer, publish, read, refuse_if}
 use Rattle.sign_core.specs.World.{refuse_with, secret_from, sign_as, some_or, the_records}
@@ -52,19 +52,14 @@ created_after failed state spec chance = event (do
 
 -- the legal records have this key
 abbrev pub opened_on : List Record → Option Key → Outcome AnyPublic
-opened_on records found = event (do
-  close
-  key ← some_or NoKey found
-  publish (public_in key)) (open_on records)
+opened_on records found = event (publish (public_of_key found)) (open_on records)
 
 -- of the records this one isn't legal
 abbrev pub opened_by : State → Opening → (illegal : Option ℕ) → Outcome AnyPublic
 opened_by state chance illegal = event (do
   records ← the_records
   refuse_with (first_refusal chance illegal)
-  close
-  key ← some_or NoKey (key_in records)
-  publish (public_in key)) state
+  publish (public_of_key (key_in records))) state
 
 -- ---- a repeat
 

@@ -20,7 +20,7 @@ use Rattle.sign_core.specs.declared.source.Source as source
 use Rattle.sign_core.specs.Source.{Provides}
 use Rattle.sign_core.specs.Records.{can_follow, key_in, leaves_of_current, next_at}
 use Rattle.sign_core.specs.Events.{AreFields, key_sizes}
-use Rattle.sign_core.specs.Headline.{public_of_key}
+use Rattle.sign_core.specs.Textbook.{public_of_key}
 use Rattle.sign_core.specs.World.{Fate, Outcome, State, answered, appended, open_on, secret_from}
 use Rattle.sign_core.specs.inner.Ledger.{LacksRoom}
 use Rattle.sign_core.specs.Ledger.{Table, TakesMemory}

@@ -1,5 +1,5 @@
 -- What private functions alone cite of `Signing.antt`'s subject.
-use Rattle.std.specs.Prelude.{◌≡◌, ◌⊎◌, ℕ, ◌+◌, ◌-◌, ◌<◌, Bool, true, false, List, [], ◌∷◌, ◌++◌, length, Option, None}
+use Rattle.std.specs.Prelude.{◌≡◌, ◌⊎◌, ℕ, ◌+◌, ◌<◌, Bool, true, false, List, [], ◌∷◌, ◌++◌, length, Option, None}
 use Rattle.std.specs.Prelude.{Some, Result, Ok, Err, Vec, map, vec_capacity, ◌≤◌, ◌^◌}
 use Rattle.std.specs.List.{AllByRecursion, concat}
 use Rattle.typecodes.specs.declared.message.Message as message
@@ -19,12 +19,12 @@ use Rattle.sign_core.specs.declared.signer.bind.TreeSeeds.{TreeSeeds}
 use Rattle.sign_core.specs.Source.{Provides}
 use Rattle.sign_core.specs.Records.{binding_in, free_at, has_identifier, has_moved, has_randomizer, is_long, key_in}
 use Rattle.sign_core.specs.inner.Links.{signings_of}
-use Rattle.sign_core.specs.Events.{AreDrawsOf, AreFields, IsTreeDraw, randomizer_sizes, tree_sizes}
-use Rattle.sign_core.specs.Signer.{Ends, IsRead, KeepsAtRefusal, LacksTree, RefusesAfterDraws, UnlessAppended}
-use Rattle.sign_core.specs.Signer.{UsesMemory, View, is_before_caches, is_before_draws, is_before_repeat, is_fault}
-use Rattle.sign_core.specs.Signer.{is_random_failed, signature_size, state_of}
+use Rattle.sign_core.specs.Events.{AreFields, IsTreeDraw, randomizer_sizes, tree_sizes}
+use Rattle.sign_core.specs.Signer.{Ends, IsRead, LacksTree, RefusesAfterDraws, UnlessAppended}
+use Rattle.sign_core.specs.Signer.{UsesMemory, View, is_before_draws, is_before_repeat, is_fault}
+use Rattle.sign_core.specs.Signer.{is_random_failed, signature_size}
 use Rattle.sign_core.specs.World.{Chance, Draw, Outcome, State, acked, answered}
-use Rattle.sign_core.specs.inner.Cases.{bound_sound, extended, bound_below}
+use Rattle.sign_core.specs.inner.Cases.{extended, bound_below}
 use Rattle.sign_core.specs.World.{open_on, randomizer_from}
 use Rattle.sign_core.specs.inner.Cases.{requested_of}
 use Rattle.sign_core.specs.Textbook.{Trees, damaged_in, signature_at, signature_by, signing_of_bound}
@@ -127,7 +127,7 @@ pub record Extends {S R : Type 0} (g : store.Ghosts S) (r : source.Ghosts R) (le
   pub stays : UnlessAppended old new answer (new.store ≡ old.store)
   pub not_before_draws : is_fault is_before_draws answer ≡ false
 
--- All records of a new name, where the lowest `below` levels have no tree: the Extends, and the Bound.
+-- All records of a new name: an Extend for each of the lowest `below` levels, and the Bound.
 pub record BindsBelow {S R M : Type 0} (g : store.Ghosts S) (r : source.Ghosts R) (m : message.Ghosts M) (name : List ℕ)
     (below : ℕ) (old new : View S R) (before after : M) (answer : Result (List ℕ) SignFault) (key : Key) : Type 0 where
   pub trees : List Draw
@@ -159,19 +159,6 @@ BindsNext g r m name old new before after (Ok binding) key = (bound : Bound)
     (Ok (signature_at key (old.records ++ BoundRecord bound ∷ []) (length old.records) bound)) key
     × IsBoundLast key old.records new.records name bound binding
 BindsNext g r m name old new before after (Err fault) key = BindsBelow g r m name 0 old new before after (Err fault) key
-
--- A new name, where there is room, and this level is the deepest with a free leaf.
-pub record Binds {S R M : Type 0} (g : store.Ghosts S) (r : source.Ghosts R) (m : message.Ghosts M) (name : List ℕ)
-    (level : ℕ) (old new : View S R) (before after : M) (answer : Result (List ℕ) SignFault) (key : Key) : Type 0 where
-  pub chance : Chance
-  pub outcome : Outcome (List ℕ)
-  pub step : bound_sound (state_of old) key name chance level
-      (damaged_in key level old.records (tree_before level old.records (length old.records))) ≡ outcome
-  pub possible : AreDrawsOf key.secret chance
-  pub room : chance.has_room ≡ true
-  pub does : Does g r m old new before after chance.given outcome answer
-  pub keeps : KeepsAtRefusal g true (levels_of key.secret - level) old new answer
-  pub not_before_caches : is_fault is_before_caches answer ≡ false
 
 -- a chance without draws and appends
 abbrev pub repeat_chance : (has_room : Bool) → (given : Option (List ℕ)) → Chance

@@ -1,12 +1,10 @@
 //! A new name: room for its records and signature, its new trees, its binding, and its signature.
 
-ghost use Rattle.std.specs.Prelude.{◌≡◌, ◌<◌, ◌-◌, [], None, Some, true, false, length, vec_capacity, IfErr, OnErr};
-ghost use Rattle.std.specs.Prelude.{◌+◌, IfOk, OnOk};
-ghost use Rattle.sign_core.specs.Caches.{LacksCache};
+ghost use Rattle.std.specs.Prelude.{◌≡◌, ◌<◌, ◌-◌, [], None, Some, true, false, length, vec_capacity};
+ghost use Rattle.std.specs.Prelude.{◌+◌, OnOk};
 ghost use Rattle.state_file.specs.Laws.{levels_of, bottom_of};
 ghost use Rattle.sign_core.specs.Records.{binding_in, free_at, has_moved, is_long};
 ghost use Rattle.sign_core.specs.inner.Request.{Prepares};
-ghost use Rattle.sign_core.specs.Signer.{KeepsAll};
 ghost use Rattle.sign_core.specs.inner.Signing.{BindsBelow, BindsNext, CanBind, DrawsRandomizer, DrawsTree, Extends};
 ghost use Rattle.sign_core.specs.inner.Signing.{IsReady, Stands};
 ghost use Rattle.sign_core.specs.Signing.{KeepsCapacity, UnderKey, answered_with};
@@ -138,8 +136,8 @@ impl<S: Store, R: Source> Signer<S, R> {
             identifier,
             root,
         };
-        let signer = chain.secret_at(&self.ledger, parent.place).identifier;
-        let digest = key_digest(signer, parent.next, &randomizer, &public);
+        let parent_identifier = chain.secret_at(&self.ledger, parent.place).identifier;
+        let digest = key_digest(parent_identifier, parent.next, &randomizer, &public);
         self.add(Record::Extend(Extend {
             level: below,
             parent_leaf: parent.next,
@@ -154,8 +152,14 @@ impl<S: Store, R: Source> Signer<S, R> {
     // Binds a name to the next leaf of the bottom tree: draws C, reads the message, and appends the record. Answers
     // what is kept of the binding.
     #[inline(never)]
-    fn bind<M: Message>(&mut self, name: &Name, message: &mut M) -> Result<Binding, SignFault>
+    fn bind<M: Message>(
+        &mut self,
+        trees: &SecretTrees,
+        name: &Name,
+        message: &mut M,
+    ) -> Result<Binding, SignFault>
         requires ready { IsReady (S.most self.old.store) 1 self.old }
+        requires trees { UnderKey self.old.records (λ key. MakesTrees key.secret trees.now) }
         requires unbound { binding_in self.old.records name.now ≡ None }
         requires fits { UnderKey self.old.records (λ key. is_long key name.now ≡ false) }
         requires free { UnderKey self.old.records (λ key.
@@ -163,9 +167,7 @@ impl<S: Store, R: Source> Signer<S, R> {
         ensures { UnderKey self.old.records (BindsNext S.Store R.Source M.Message name.now self.old self.new
             message.old message.new result) }
     {
-        let secret = &self.ledger.key().secret;
-        let trees = SecretTrees::of(secret);
-        let bottom = secret.levels() - 1;
+        let bottom = self.ledger.key().secret.levels() - 1;
         let Some(tree) = self.ledger.current(bottom) else {
             unreachable!()
         };
@@ -189,8 +191,8 @@ impl<S: Store, R: Source> Signer<S, R> {
         })
     }
 
-    // Makes a new name's records below a level with a free leaf, one after the other: an Extend for each of the levels
-    // there, and the Bound. Then it writes the signature.
+    // Makes a new name's records, one after the other: an Extend for each level below one with a free leaf, and the
+    // Bound. Then it writes the signature.
     #[inline(never)]
     pub(super) fn bind_below<M: Message, P: TreeProgress>(
         &mut self,
@@ -216,7 +218,7 @@ impl<S: Store, R: Source> Signer<S, R> {
             prove!(self.is_open);
             return self.bind_below(trees, level + 1, name, message, out, progress);
         }
-        let binding = self.bind(name, message)?;
+        let binding = self.bind(trees, name, message)?;
         // Never refuses: the records of all trees down to the bottom are sound.
         trees
             .write_bound(&self.ledger, &mut self.caches, &binding, out, progress)

@@ -1,4 +1,4 @@
-use Rattle.std.proofs.Common.{◌∙◌, ◌+◌, ap, sym, arith, take_all}
+use Rattle.std.proofs.Common.{◌∙◌, ◌+◌, ap, arith, take_all}
 use Rattle.key_audit.specs.Listing.{names_among}
 use Rattle.key_audit.proofs.Listed.{names_more}
 use Rattle.key_audit.proofs.listing.count_names.Goals as goal

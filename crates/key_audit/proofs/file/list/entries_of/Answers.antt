@@ -1,4 +1,4 @@
-use Rattle.std.proofs.Common.{◌∙◌, [], ◌∷◌, ◌++◌, ap, sym, arith, map, take_all}
+use Rattle.std.proofs.Common.{◌∙◌, [], ◌∷◌, ◌++◌, ap, arith, map, take_all}
 use Rattle.key_audit.specs.Listing.{entry_of}
 use Rattle.key_audit.proofs.Listed.{entries_more}
 use Rattle.key_audit.proofs.file.list.entries_of.Goals as goal

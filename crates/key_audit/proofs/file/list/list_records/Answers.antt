@@ -1,6 +1,6 @@
-use Rattle.std.proofs.Common.{◌∙◌, ap, sym, Some}
+use Rattle.std.proofs.Common.{◌∙◌, ap, sym}
 use Rattle.std.specs.Prelude.{option_map}
-use Rattle.key_audit.proofs.Lists.{has_key, shown_so}
+use Rattle.key_audit.proofs.Lists.{has_key}
 use Rattle.key_audit.proofs.file.list.list_records.Goals as goal
 
 pub unreachable-requires : goal.unreachable-requires

@@ -44,7 +44,7 @@ unreachable-requires g c =
     (is_none c.current.result c.in_default.not-Some) free
 
 pub digest-requires : goal.digest-requires
-digest-requires g c = subst (λ (k : Key). MakesTrees k.secret c.of-trees.result) c.key.ensures.key c.of-trees.ensures
+digest-requires g c = c.requires.trees c.self.inside.ledger.key (ap (λ w. key_in w.records) (sym c.self.view_is) ∙ c.self.invariant.1)
 
 pub returns-in_err-randomizer : goal.returns-in_err-randomizer
 returns-in_err-randomizer g c key keyed =
@@ -59,8 +59,7 @@ returns-in_err-randomizer g c key keyed =
     subst (λ w. 0 < free_at K.secret w.records (bottom_of K.secret)) (sym c.self.view_is) (c.requires.free K kept) in
     let own : K ≡ key = same_key v.records K key kept keyed in
     let opened : i.is_open ≡ true = ap (λ w. w.is_open) c.self.view_is ∙ c.requires.ready.is_open in
-    let trees : MakesTrees key.secret c.of-trees.result =
-    subst (λ (k : Key). MakesTrees k.secret c.of-trees.result) (c.key.ensures.key ∙ own) c.of-trees.ensures in
+    let trees : MakesTrees key.secret c.args.trees.now = c.requires.trees key keyed in
     let answer : c.from_residual.result ≡ Err c.in_err-randomizer.field-0.0 = search rules in
     subst (λ a. BindsNext g.S.Store g.R.Source g.M.Message c.args.name.now v (view_of i.store c.draw_randomizer.new.random i.ledger i.caches i.is_open)
     c.args.message.now c.args.message.now a key) (sym answer)
@@ -83,8 +82,7 @@ returns-in_err-digest g c key keyed =
     subst (λ w. 0 < free_at K.secret w.records (bottom_of K.secret)) (sym c.self.view_is) (c.requires.free K kept) in
     let has = has_free K.secret records (bottom_of K.secret) c.current.result c.in-Some.tree (c.current.ensures ∙ ap (tree_at K.secret records) level) c.in-Some.is
     free in
-    let trees : MakesTrees K.secret c.of-trees.result =
-    subst (λ (k : Key). MakesTrees k.secret c.of-trees.result) c.key.ensures.key c.of-trees.ensures in
+    let trees : MakesTrees K.secret c.args.trees.now = c.requires.trees K kept in
     let own : K ≡ key = same_key v.records K key kept keyed in
     let opened : i.is_open ≡ true = ap (λ w. w.is_open) c.self.view_is ∙ c.requires.ready.is_open in
     let at = tree_at_end records (bottom_of K.secret) c.in-Some.tree.place has.current_is in
@@ -114,8 +112,7 @@ add-requires-clause-follows g c =
     subst (λ w. 0 < free_at K.secret w.records (bottom_of K.secret)) (sym c.self.view_is) (c.requires.free K kept) in
     let has = has_free K.secret records (bottom_of K.secret) c.current.result c.in-Some.tree (c.current.ensures ∙ ap (tree_at K.secret records) level) c.in-Some.is
     free in
-    let trees : MakesTrees K.secret c.of-trees.result =
-    subst (λ (k : Key). MakesTrees k.secret c.of-trees.result) c.key.ensures.key c.of-trees.ensures in
+    let trees : MakesTrees K.secret c.args.trees.now = c.requires.trees K kept in
     bound_follows records K c.in-Some.tree.place c.args.name.now _ c.self.invariant.1 (ap (λ w. has_moved w.records) c.self.view_is ∙ c.requires.ready.stays)
     has.current_is has.leaf_is has.free refl (ap (λ w. binding_in w.records c.args.name.now) c.self.view_is ∙ c.requires.unbound)
     (c.in_ok-randomizer.ensures K.secret trees).fits
@@ -144,8 +141,7 @@ returns-in_err-add g c key keyed =
     subst (λ w. 0 < free_at K.secret w.records (bottom_of K.secret)) (sym c.self.view_is) (c.requires.free K kept) in
     let has = has_free K.secret records (bottom_of K.secret) c.current.result c.in-Some.tree (c.current.ensures ∙ ap (tree_at K.secret records) level) c.in-Some.is
     free in
-    let trees : MakesTrees K.secret c.of-trees.result =
-    subst (λ (k : Key). MakesTrees k.secret c.of-trees.result) c.key.ensures.key c.of-trees.ensures in
+    let trees : MakesTrees K.secret c.args.trees.now = c.requires.trees K kept in
     let own : K ≡ key = same_key v.records K key kept keyed in
     let opened : i.is_open ≡ true = ap (λ w. w.is_open) c.self.view_is ∙ c.requires.ready.is_open in
     let at = tree_at_end records (bottom_of K.secret) c.in-Some.tree.place has.current_is in
@@ -184,8 +180,7 @@ returns g c key keyed =
     subst (λ w. 0 < free_at K.secret w.records (bottom_of K.secret)) (sym c.self.view_is) (c.requires.free K kept) in
     let has = has_free K.secret records (bottom_of K.secret) c.current.result c.in-Some.tree (c.current.ensures ∙ ap (tree_at K.secret records) level) c.in-Some.is
     free in
-    let trees : MakesTrees K.secret c.of-trees.result =
-    subst (λ (k : Key). MakesTrees k.secret c.of-trees.result) c.key.ensures.key c.of-trees.ensures in
+    let trees : MakesTrees K.secret c.args.trees.now = c.requires.trees K kept in
     let own : K ≡ key = same_key v.records K key kept keyed in
     let opened : i.is_open ≡ true = ap (λ w. w.is_open) c.self.view_is ∙ c.requires.ready.is_open in
     let at = tree_at_end records (bottom_of K.secret) c.in-Some.tree.place has.current_is in
