@@ -23,5 +23,6 @@ pub mod Walks
 pub mod WithOption
 pub mod MessageReading
 pub mod Numbers
+pub mod ProgressLaws
 pub mod SigningReads
 pub mod ServeLines

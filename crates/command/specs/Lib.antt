@@ -16,6 +16,7 @@ pub mod Number
 pub mod Output
 pub mod Program
 pub mod Progress
+pub mod ProgressLaws
 pub mod Public
 pub mod RandomFile
 pub mod Refusal

@@ -48,10 +48,10 @@ short_text made leaves left = decimal (percent made leaves) ++ codes " %, " ++ g
 abbrev pub long_text : (level made leaves left : ℕ) → List ℕ
 long_text level made leaves left = head level ++ counts made leaves ++ short_text made leaves left
 
--- The long text if it leaves a blank on a line of `columns`, else the short one.
+-- The long text if it leaves a blank on a line of `columns`, behind a margin of three; else the short one.
 abbrev pub fitting_text : (columns level made leaves left : ℕ) → List ℕ
 fitting_text columns level made leaves left =
-    if nat_lt (length (long_text level made leaves left)) columns
+    if nat_lt (length (long_text level made leaves left) + 3) columns
     then long_text level made leaves left
     else short_text made leaves left
 
@@ -67,17 +67,19 @@ unfoldable pub times : ℕ → List ℕ → List ℕ
 times zero bytes = []
 times (suc count) bytes = times count bytes ++ bytes
 
--- a blank and ten blocks; each ten percent fill one
+-- ten blocks and a blank; each ten percent fill one
 abbrev pub bar : (percent : ℕ) → List ℕ
-bar percent = codes " " ++ times (min (percent / 10) 10) full_block ++ times (10 - min (percent / 10) 10) light_block
+bar percent = times (min (percent / 10) 10) full_block ++ times (10 - min (percent / 10) 10) light_block ++ codes " "
 
--- A bar fits behind an ASCII text of `len` bytes: its eleven characters, and a blank.
+-- A bar fits before an ASCII text of `len` bytes: its eleven characters, and a blank behind the text.
 abbrev pub has_room : (has_blocks : Bool) (columns len : ℕ) → Bool
 has_room has_blocks columns len = if has_blocks then nat_lt (len + 11) columns else false
 
--- the text that fits, and a bar if there is room
+-- What stands before the text, where a terminal shows what is typed: a bar if there is room, else three blanks.
+abbrev pub margin : (has_blocks : Bool) (columns len percent : ℕ) → List ℕ
+margin has_blocks columns len percent = if has_room has_blocks columns len then bar percent else codes "   "
+
 abbrev pub line_text : (has_blocks : Bool) (columns level made leaves left : ℕ) → List ℕ
 line_text has_blocks columns level made leaves left =
-    if has_room has_blocks columns (length (fitting_text columns level made leaves left))
-    then fitting_text columns level made leaves left ++ bar (percent made leaves)
-    else fitting_text columns level made leaves left
+    margin has_blocks columns (length (fitting_text columns level made leaves left)) (percent made leaves)
+    ++ fitting_text columns level made leaves left

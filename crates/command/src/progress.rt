@@ -1,12 +1,13 @@
 //! The progress of long work: a line on a terminal, rewritten while trees are made, and erased at the end of each.
 //!
-//! Contracts say what the line has. When it is drawn and erased depends on a clock and a terminal: tests/progress tests
+//! Contracts say what the line has, and `line_laws` what its reader gets. When it is drawn and erased depends on a clock and a terminal: tests/progress tests
 //! that.
 
 ghost use Rattle.std.specs.Prelude.{◌≡◌, ◌<◌, ◌≤◌, OnOk, IfOk};
 ghost use Rattle.std.specs.Io.KnownBytes.{Appends};
-ghost use Rattle.command.specs.Progress.{bar, counts, fitting_text, group, grouped, has_room, head, is_due, line_text};
+ghost use Rattle.command.specs.Progress.{bar, counts, fitting_text, group, grouped, has_room, head, is_due, line_text, margin};
 ghost use Rattle.command.specs.Progress.{long_text, percent, seconds_left, separator, short_text, times};
+ghost use Rattle.command.specs.ProgressLaws.{LineLaws};
 
 use crate::foreground::is_in_foreground;
 use crate::number::read_number;
@@ -163,6 +164,12 @@ impl<R: Env + Clock + Files<File = File>> TreeProgress for Bar<'_, R> {
     }
 }
 
+/// What the line tells, how wide it is, and how often it is drawn. The function does nothing: its contract is proved for
+/// all numbers.
+pub fn line_laws()
+    ensures { LineLaws }
+{}
+
 // Whether a line is drawn now: a second after the work began, and then each 200 ms. Times in milliseconds.
 fn is_due(begun: u64, shown: u64, now: u64) -> bool
     ensures { result ≡ is_due begun shown now }
@@ -190,7 +197,7 @@ fn seconds_left(spent: u32, made: u32, leaves: u32) -> u64
     left.div_ceil(1_000)
 }
 
-// The text that fits into the terminal, and a bar if there is room for it and a blank behind it.
+// The text that fits into the terminal, and before it a bar or a margin.
 fn line_text(
     look: Look,
     level: u8,
@@ -201,14 +208,27 @@ fn line_text(
     requires { 0 < leaves }
     ensures { IfOk result (λ text. text.items ≡ line_text look.has_blocks look.columns level made leaves left) }
 {
-    let mut text = fitting_text(look.columns, level, made, leaves, left)?;
-    if has_room(look, text.len()) {
-        write_bar(&mut text, percent(made, leaves))?;
-    }
-    Ok(text)
+    let text = fitting_text(look.columns, level, made, leaves, left)?;
+    let mut line = ArrayVec::new();
+    write_margin(&mut line, look, text.len(), percent(made, leaves))?;
+    line.write_all(text.as_slice())?;
+    Ok(line)
 }
 
-// Whether a bar fits behind an ASCII text of `len` bytes.
+// A bar if there is room before a text of `len` bytes, else three blanks.
+fn write_margin<W: Write>(writer: &mut W, look: Look, len: usize, percent: u64) -> io::Result<()>
+    requires { len ≤ 256 }
+    ensures { OnOk result (Appends (W.contents writer.old) (W.contents writer.new)
+        (margin look.has_blocks look.columns len percent)) }
+{
+    if has_room(look, len) {
+        write_bar(writer, percent)
+    } else {
+        writer.write_all("   ".as_bytes())
+    }
+}
+
+// Whether a bar fits before an ASCII text of `len` bytes.
 fn has_room(look: Look, len: usize) -> bool
     requires { len ≤ 256 }
     ensures { result ≡ has_room look.has_blocks look.columns len }
@@ -220,7 +240,7 @@ fn has_room(look: Look, len: usize) -> bool
     }
 }
 
-// The long text, or the short one if the long one leaves no blank behind it.
+// The long text, or the short one if the long one leaves no blank behind it and a margin.
 fn fitting_text(
     columns: u32,
     level: u8,
@@ -233,7 +253,7 @@ fn fitting_text(
 {
     let mut long = ArrayVec::new();
     write_long(&mut long, level, made, leaves, left)?;
-    if long.len() < columns as usize {
+    if long.len() + 3 < columns as usize {
         return Ok(long);
     }
     let mut short = ArrayVec::new();
@@ -325,9 +345,9 @@ fn write_bar<W: Write>(writer: &mut W, percent: u64) -> io::Result<()>
     ensures { OnOk result (Appends (W.contents writer.old) (W.contents writer.new) (bar percent)) }
 {
     let full = (percent / 10).min(10);
-    writer.write_all(" ".as_bytes())?;
     write_times(writer, FULL_BLOCK, full)?;
-    write_times(writer, LIGHT_BLOCK, 10 - full)
+    write_times(writer, LIGHT_BLOCK, 10 - full)?;
+    writer.write_all(" ".as_bytes())
 }
 
 fn write_times<W: Write>(writer: &mut W, bytes: &[u8], count: u64) -> io::Result<()>

@@ -14,6 +14,17 @@ use std::os::fd::AsFd;
 use std::os::unix::fs::FileTypeExt;
 use std::{fmt, fs, io};
 
+// Controls of a VT100 (DECSC, DECRC, EL and DECAWM).
+const SAVE_CURSOR: &[u8; 2] = b"\x1b7";
+
+const RESTORE_CURSOR: &[u8; 2] = b"\x1b8";
+
+const ERASE_TO_END: &[u8; 3] = b"\x1b[K";
+
+const WRAP_OFF: &[u8; 5] = b"\x1b[?7l";
+
+const WRAP_ON: &[u8; 5] = b"\x1b[?7h";
+
 /// Standard output or standard error: which file of the machine it is, if this is known.
 #[derive(Drop)]
 pub struct Stream {
@@ -102,7 +113,7 @@ pub struct Standard {
     pub errors: Stream,
     /// Whether standard error is a terminal.
     pub is_on_terminal: bool,
-    // whether a line of progress is on the screen, in the row of the cursor
+    // whether a line of progress is on the screen, behind the cursor
     has_line: Cell<bool>,
     stderr: Stderr,
     // in place of each closed stream, as long as this value lives
@@ -157,14 +168,19 @@ impl Standard {
         self.has_line.get()
     }
 
-    /// Draws a line of progress in the row of the cursor. The terminal cuts it at its last column.
+    /// Draws a line of progress behind the cursor, which goes back to where it was. So what stands before it stays, and
+    /// what is typed or written meanwhile, too. The terminal cuts the line at its last column.
     pub fn show_line(&self, text: &[u8]) {
         self.has_line.set(true);
         let mut line = ArrayVec::<u8, 512>::new();
         // Every text fits.
-        let _ = line.write_all(b"\r\x1b[K\x1b[?7l");
+        let _ = line.write_all(SAVE_CURSOR);
+        let _ = line.write_all(ERASE_TO_END);
+        let _ = line.write_all(WRAP_OFF);
         let _ = line.write_all(text);
-        let _ = line.write_all(b" \x1b[?7h");
+        let _ = line.write_all(b" ");
+        let _ = line.write_all(RESTORE_CURSOR);
+        let _ = line.write_all(WRAP_ON);
         self.write_to_terminal(line.as_slice());
     }
 
@@ -172,7 +188,7 @@ impl Standard {
     pub fn erase_line(&self) {
         if self.has_line.get() {
             self.forget_line();
-            self.write_to_terminal(b"\r\x1b[K");
+            self.write_to_terminal(ERASE_TO_END);
         }
     }
 
