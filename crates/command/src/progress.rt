@@ -1,12 +1,12 @@
 //! The progress of long work: a line on a terminal, rewritten while trees are made, and erased at the end of each.
 //!
-//! Contracts say what the line has, and `line_laws` what its reader gets. When it is drawn and erased depends on a clock and a terminal: tests/progress tests
-//! that.
+//! Contracts say what the line has, and `line_laws` what its reader gets. When it is drawn and erased depends on a
+//! clock and a terminal: tests/progress tests that.
 
 ghost use Rattle.std.specs.Prelude.{◌≡◌, ◌<◌, ◌≤◌, OnOk, IfOk};
 ghost use Rattle.std.specs.Io.KnownBytes.{Appends};
-ghost use Rattle.command.specs.Progress.{bar, counts, fitting_text, group, grouped, has_room, head, is_due, line_text, margin};
-ghost use Rattle.command.specs.Progress.{long_text, percent, seconds_left, separator, short_text, times};
+ghost use Rattle.command.specs.Progress.{bar, counts, fitting_text, group, grouped, has_room, head, is_due, line_text};
+ghost use Rattle.command.specs.Progress.{long_text, margin, percent, seconds_left, separator, short_text, times};
 ghost use Rattle.command.specs.ProgressLaws.{LineLaws};
 
 use crate::foreground::is_in_foreground;
@@ -164,8 +164,8 @@ impl<R: Env + Clock + Files<File = File>> TreeProgress for Bar<'_, R> {
     }
 }
 
-/// What the line tells, how wide it is, and how often it is drawn. The function does nothing: its contract is proved for
-/// all numbers.
+/// What the line tells, how wide it is, and how often it is drawn. The function does nothing: its contract is proved
+/// for all numbers.
 pub fn line_laws()
     ensures { LineLaws }
 {}

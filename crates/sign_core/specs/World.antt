@@ -29,8 +29,8 @@ use Rattle.sign_core.specs.declared.fault.SignFault.TheVariants.{Moved, RetireRa
 use Rattle.sign_core.specs.Records.{are_same, binding_in, can_move, deepest, first_illegal, has_identifier}
 use Rattle.sign_core.specs.Records.{has_moved}
 use Rattle.sign_core.specs.Records.{is_long, key_in, leaves_of_current, next_at, wanted_count}
-use Rattle.sign_core.specs.Textbook.{Trees, damaged_in, digest_at, lms_secret, public_in, public_of_key, root_by, secret_at}
-use Rattle.sign_core.specs.Textbook.{signature_at, tree_before, trees_of}
+use Rattle.sign_core.specs.Textbook.{Trees, damaged_in, digest_at, lms_secret, public_in, public_of_key, root_by}
+use Rattle.sign_core.specs.Textbook.{secret_at, signature_at, tree_before, trees_of}
 
 -- ---- states and outcomes
 
