@@ -7,7 +7,8 @@ use Rattle.typecodes.specs.declared.fault.Cause.TheVariants.{UnknownType}
 use Rattle.typecodes.specs.declared.fault.ReadFault.{ReadFault}
 use Rattle.typecodes.specs.Types.{named}
 use Rattle.typecodes.specs.Layout.{Layout, done, refuse, field, ◌>>=◌, Spells, HasFault}
-use Rattle.typecodes.specs.Fields.{number, block, known, typed, values}
+use Rattle.typecodes.specs.Fields.{number, block, typed, values}
+use Rattle.typecodes.proofs.Codes.{known}
 
 -- The layout takes at most n bytes, and P holds of its values.
 unfoldable pub TakesAtMost : {V : Type 0} → Layout V → ℕ → (V → Type 0) → Type 0

@@ -3,10 +3,10 @@ use Rattle.std.proofs.Common.{◌≡◌, ◌∙◌, refl, sym, ap, ap₂, ℕ, z
 use Rattle.std.proofs.lemmas.List.{take-append-drop}
 use Rattle.typecodes.specs.Types.{lms_code, lms_types, named, ots_code, ots_types}
 use Rattle.typecodes.specs.Layout.{Spells, AreBytes}
-use Rattle.typecodes.specs.Fields.{block, known, lms_type, number, ots_type, typed}
+use Rattle.typecodes.specs.Fields.{block, lms_type, number, ots_type, typed}
 use Rattle.typecodes.specs.Cursor.{read}
 use Rattle.typecodes.proofs.Bytes.{AreBytes-front, AreBytes-rest}
-use Rattle.typecodes.proofs.Codes.{named-has}
+use Rattle.typecodes.proofs.Codes.{known, named-has}
 use Rattle.typecodes.proofs.OneWay.{one_way-number}
 use Rattle.typecodes.proofs.Read.{read-stands}
 use Rattle.typecodes.proofs.Spelling.{in_turn}

@@ -3,7 +3,6 @@ use Rattle.std.specs.Prelude.{ℕ, nat_le, ◌&&◌, if◌then◌else◌}
 use Rattle.typecodes.specs.declared.fault.Cause.TheVariants.{LevelCount}
 use Rattle.typecodes.specs.Layout.{Layout, done, refuse, ◌>>=◌}
 use Rattle.typecodes.specs.Fields.{number}
-use Rattle.typecodes.specs.Levels.{most_levels}
 use Rattle.lms.specs.Key.{public_key as lms_public_key}
 use Rattle.hss.specs.declared.key.HssPublic.{HssPublic}
 
@@ -16,6 +15,6 @@ level_number low high = do
 -- a public key, 60 bytes: L, and the public key of the top tree
 unfoldable pub public_key : Layout HssPublic
 public_key = do
-  levels ← level_number 1 most_levels
+  levels ← level_number 1 8
   top ← lms_public_key
   done (record { levels = levels; top = top })

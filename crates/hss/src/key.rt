@@ -16,7 +16,6 @@ pub struct HssPublic {
 }
 
 impl HssPublic {
-    ghost use Rattle.typecodes.specs.Levels.{most_levels};
     ghost use Rattle.hss.specs.Key.{level_number, public_key};
 
     /// The key that the bytes spell, 60 and no more, or their first fault (1, 2, 3 or 5). It has 1 to 8 levels.
@@ -38,7 +37,7 @@ impl HssPublic {
     fn level_count_at(cursor: &mut Cursor<'_>) -> Result<LevelCount, ReadFault>
         requires { cursor.old.place + 4 < 2 ^ 32 }
         ensures read { Gives (λ n. (n, cursor.new.place)) result
-            (read (level_number 1 most_levels) cursor.old.bytes.now cursor.old.place) }
+            (read (level_number 1 8) cursor.old.bytes.now cursor.old.place) }
         ensures at_least_1 { IfOk result (λ n. 1 ≤ n) }
         ensures at_most_8 { IfOk result (λ n. n ≤ 8) }
         ensures passes { Passes 4 result cursor.old cursor.new }

@@ -16,12 +16,13 @@ use Rattle.typecodes.specs.Types.{xmss_code, xmss_of_code, xmss_types, lms_code,
 use Rattle.state_file.specs.declared.record.Version.{Version}
 use Rattle.typecodes.specs.declared.types.LmsPair.{LmsPair}
 use Rattle.typecodes.specs.Layout.{Layout, done, ◌>>=◌, Spells}
-use Rattle.typecodes.specs.Fields.{block, known, lms_type, number, ots_type, typed, xmss_type}
+use Rattle.typecodes.specs.Fields.{block, lms_type, number, ots_type, typed, xmss_type}
 use Rattle.typecodes.proofs.Spelling.{from_turn, in_turn}
 use Rattle.typecodes.specs.Name.{IsName}
 use Rattle.state_file.proofs.Visible.{visible-name}
 use Rattle.state_file.specs.Slot.{are_visible, byte, byte_within, exactly, name_field, only_if, pair_field, pairs, version_code, version_field, zeros}
 use Rattle.state_file.specs.Fields.{AppendsSpelling}
+use Rattle.typecodes.proofs.Codes.{known}
 
 pub writes-done : {V : Type 0} (v : V) (at : List ℕ) → AppendsSpelling (done v) v at at
 writes-done v at = record { part = []; after = sym (append-nil at); spelled = (refl, refl) }

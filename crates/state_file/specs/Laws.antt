@@ -19,9 +19,8 @@ use Rattle.state_file.specs.declared.record.Version.TheVariants.{One}
 
 -- the number of levels; only HSS may have more than one
 abbrev pub levels_of : Secret → ℕ
-levels_of (Lms secret) = 1
 levels_of (Hss levels identifier seed) = length levels
-levels_of (Xmss secret) = 1
+levels_of _ = 1
 
 -- the level whose trees sign messages
 abbrev pub bottom_of : Secret → ℕ

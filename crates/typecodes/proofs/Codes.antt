@@ -1,8 +1,15 @@
 -- The type that a code names in a table, and codes that name none.
-use Rattle.std.proofs.Common.{◌≡◌, ◌≢◌, ℕ, List, [], ◌∷◌, Some, None, All, cond, true, false, ◌==◌, refl, sym, ap, ◌∙◌, eqb-true, ne_eqb}
+use Rattle.std.proofs.Common.{◌≡◌, ◌≢◌, ℕ, List, [], ◌∷◌, Option, Some, None, All, cond, true, false, ◌==◌, refl, sym, ap, ◌∙◌, eqb-true, ne_eqb}
 use Rattle.std.proofs.lemmas.Bool.{eqb-false}
 use Rattle.std.proofs.lemmas.List.Elements.{All-nil, All-cons, All-head, All-tail}
+use Rattle.std.specs.Option.{option_map_or}
+use Rattle.typecodes.specs.declared.fault.Cause.TheVariants.{UnknownType}
 use Rattle.typecodes.specs.Types.{named}
+use Rattle.typecodes.specs.Layout.{Layout, done, refuse}
+
+-- what a table's layout goes on with: the type that a code named, if it named one
+abbrev pub known : {T : Type 0} → Option T → Layout T
+known found = option_map_or done found (refuse 4 UnknownType)
 
 pub named-has : {T : Type 0} (code : T → ℕ) (types : List T) (c : ℕ) (t : T) → named code types c ≡ Some t → code t ≡ c
 named-has code [] c t found = cc

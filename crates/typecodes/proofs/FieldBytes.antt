@@ -11,8 +11,9 @@ use Rattle.typecodes.specs.declared.types.XmssType.{XmssType}
 use Rattle.typecodes.specs.declared.types.XmssType.TheVariants as xmss
 use Rattle.typecodes.specs.Types.{lms_code, lms_types, named, ots_code, ots_types, xmss_code, xmss_types}
 use Rattle.typecodes.specs.Layout.{Layout, Spells, done, ◌>>=◌}
-use Rattle.typecodes.specs.Fields.{block, known, lms_type, number, ots_type, typed, values, xmss_type}
+use Rattle.typecodes.specs.Fields.{block, lms_type, number, ots_type, typed, values, xmss_type}
 use Rattle.typecodes.proofs.Spelling.{from_turn}
+use Rattle.typecodes.proofs.Codes.{known}
 
 pub three_parts : (a b c : List ℕ) → a ++ (b ++ c) ≡ a ++ b ++ c
 three_parts a b c = simp append_assoc

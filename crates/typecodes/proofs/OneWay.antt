@@ -8,9 +8,9 @@ use Rattle.typecodes.specs.declared.fault.Cause.{Cause}
 use Rattle.typecodes.specs.declared.fault.Cause.TheVariants.{UnknownType}
 use Rattle.typecodes.specs.Types.{named, lms_code, lms_types, ots_code, ots_types, xmss_code, xmss_types}
 use Rattle.typecodes.specs.Layout.{Layout, done, refuse, ◌>>=◌, Spells, AreBytes, OneSpelling, Shows}
-use Rattle.typecodes.specs.Fields.{number, block, values, known, typed, lms_type, ots_type, xmss_type}
+use Rattle.typecodes.specs.Fields.{number, block, values, typed, lms_type, ots_type, xmss_type}
 use Rattle.typecodes.proofs.Bytes.{AreBytes-front, AreBytes-rest}
-use Rattle.typecodes.proofs.Codes.{named-has}
+use Rattle.typecodes.proofs.Codes.{known, named-has}
 use Rattle.typecodes.proofs.Spelling.{in_turn}
 use Rattle.typecodes.proofs.Values.{more_values}
 

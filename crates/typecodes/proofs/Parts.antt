@@ -6,10 +6,11 @@ use Rattle.byteorder.specs.Endian.{big_number}
 use Rattle.typecodes.specs.declared.fault.ReadFault.{ReadFault}
 use Rattle.typecodes.specs.Types.{named}
 use Rattle.typecodes.specs.Layout.{Layout, field, done, ◌>>=◌}
-use Rattle.typecodes.specs.Fields.{block, known, number, typed, values, values_in}
+use Rattle.typecodes.specs.Fields.{block, number, typed, values, values_in}
 use Rattle.typecodes.specs.Cursor.{and_then, read}
 use Rattle.typecodes.proofs.Read.{read-bind, read-cut, read-fits, read-stands, spelled-read}
 use Rattle.typecodes.proofs.Values.{values-cut, values-fit}
+use Rattle.typecodes.proofs.Codes.{known}
 
 -- what two layouts read, one after the other, is read in turn
 pub in_turn : {V W : Type 0} (first : Layout V) (next : V → Layout W) (bytes : List ℕ) (place : ℕ) (x : W × ℕ) → read (first >>= next) bytes place ≡ Ok x

@@ -4,8 +4,9 @@ use Rattle.typecodes.specs.declared.fault.Cause.{Cause}
 use Rattle.typecodes.specs.declared.fault.Cause.TheVariants.{UnknownType}
 use Rattle.typecodes.specs.Types.{named}
 use Rattle.typecodes.specs.Layout.{Layout, done, refuse, ◌>>=◌, Spells}
-use Rattle.typecodes.specs.Fields.{number, block, known, typed}
+use Rattle.typecodes.specs.Fields.{number, block, typed}
 use Rattle.typecodes.proofs.Spelling.{in_turn}
+use Rattle.typecodes.proofs.Codes.{known}
 
 -- each spelling has n bytes
 abbrev pub HasSize : {V : Type 0} → Layout V → ℕ → Type 0

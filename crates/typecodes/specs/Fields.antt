@@ -1,5 +1,6 @@
 -- The fields that layouts are made of (RFC 8554 3.1 and 3.2: numbers are big-endian).
-use Rattle.std.specs.Prelude.{ℕ, zero, suc, List, [], ◌∷◌, Option, Some, None}
+use Rattle.std.specs.Prelude.{ℕ, zero, suc, List, [], ◌∷◌}
+use Rattle.std.specs.Option.{option_map_or}
 use Rattle.std.specs.Simd.{first_chunks}
 use Rattle.byteorder.specs.Endian.{big_number}
 use Rattle.typecodes.specs.declared.fault.Cause.TheVariants.{UnknownType}
@@ -28,14 +29,9 @@ values (suc n) = do
 abbrev pub values_in : ℕ → List ℕ → List (List ℕ)
 values_in n bytes = first_chunks 32 n bytes
 
--- the type of a field of 4 bytes, if its code named one
-abbrev pub known : {T : Type 0} → Option T → Layout T
-known (Some t) = done t
-known None = refuse 4 UnknownType
-
 -- a type of a table, by its code in 4 bytes
 abbrev pub typed : {T : Type 0} → (T → ℕ) → List T → Layout T
-typed code types = number >>= λ c. known (named code types c)
+typed code types = number >>= λ c. option_map_or done (named code types c) (refuse 4 UnknownType)
 
 -- a type of one-time signatures, of LMS trees, and of XMSS
 unfoldable pub ots_type : Layout OtsType

@@ -47,6 +47,5 @@ spec_text (Xmss tree) = codes "xmss:" ++ xmss_text tree
 
 -- a spec of HSS has 1 to 8 levels
 abbrev pub IsSpec : Spec → Type 0
-IsSpec (Lms pair) = Unit {0}
 IsSpec (Hss levels) = AreLevels levels
-IsSpec (Xmss tree) = Unit {0}
+IsSpec _ = Unit {0}
