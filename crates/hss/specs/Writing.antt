@@ -28,8 +28,7 @@ signed_key_bytes signed = lms_signature_bytes signed.signature ++ lms_public_byt
 
 -- u32str(L - 1) || the signed keys || the bottom level's signature
 abbrev pub signature_bytes : Signature → List ℕ
-signature_bytes s =
-    u32str (length s.signed) ++ flat_map signed_key_bytes s.signed ++ lms_signature_bytes s.bottom
+signature_bytes s = u32str (length s.signed) ++ flat_map signed_key_bytes s.signed ++ lms_signature_bytes s.bottom
 
 -- ---- the textbook signature of levels: the ones above the bottom, from the top down, and the bottom one
 
@@ -42,7 +41,7 @@ level_in above bottom i = slice_index_or (levels_in above bottom) i bottom
 -- The signature of levels: above the bottom, each level's signature and after it the next level's key.
 abbrev pub signed_with : {L : Type 0} → (L → LmsSignature) → (L → LmsPublic) → List L → L → Signature
 signed_with signature key above bottom =
-    let nexts = drop 1 (levels_in above bottom) in record {
+    let nexts = drop 1 (above ++ bottom ∷ []) in record {
       signed = map (λ pair. record { signature = signature pair.0; key = key pair.1 }) (zip above nexts);
       bottom = signature bottom;
     }

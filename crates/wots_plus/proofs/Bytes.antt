@@ -1,7 +1,7 @@
 -- Bytes written one part after the other.
 use Rattle.std.proofs.Common.{◌≡◌, ◌∙◌, refl, sym, ap, ap₂, ℕ, zero, suc, ◌+◌, ◌*◌, ◌<◌, ◌≤◌, List, [], ◌∷◌, ◌++◌, length, get_or, take, set, replicate, arith, append-nil}
 use Rattle.std.specs.Prelude.{bit_xor}
-use Rattle.std.specs.List.{zip}
+use Rattle.std.specs.List.{flat_map, zip}
 use Rattle.std.proofs.lemmas.List.{take_more, get_or-map, length-map}
 use Rattle.std.proofs.lemmas.List.Concat.{flat_map-append}
 use Rattle.std.proofs.lemmas.List.FromFn.{fill_by_all}
@@ -10,8 +10,11 @@ use Rattle.std.proofs.lemmas.Slice.Zip.{get_or-zip, length-zip}
 use borrow.Rule.Slice.PartMut.{put_mid}
 use Rattle.wots_plus.specs.declared.address.Address.{Address}
 use Rattle.wots_plus.specs.declared.address.Address.TheVariants.{OneTime, LTree, HashTree}
-use Rattle.wots_plus.specs.Address.{address, address_of, bytes_of_words, words_of}
+use Rattle.wots_plus.specs.Address.{address, address_of, words_of}
 use Rattle.wots_plus.specs.Hashes.{to_byte, xor}
+
+abbrev pub bytes_of_words : List ℕ → List ℕ
+bytes_of_words words = flat_map (λ word. to_byte word 4) words
 
 -- after the first i words the next one is written
 pub word_more : (words before part : List ℕ) (i k : ℕ) → i < length words → length part ≡ 4 → 4 * i ≤ length before

@@ -9,11 +9,9 @@ use Rattle.wots_plus.specs.Hashes.{Adrs, to_byte}
 abbrev pub words : ℕ → ℕ → ℕ → ℕ → ℕ → List ℕ
 words kind first second third mask = 0 ∷ 0 ∷ 0 ∷ kind ∷ first ∷ second ∷ third ∷ mask ∷ []
 
-abbrev pub bytes_of_words : List ℕ → List ℕ
-bytes_of_words words = flat_map (λ word. to_byte word 4) words
-
+-- its words' bytes
 unfoldable pub address : ℕ → ℕ → ℕ → ℕ → Adrs
-address kind first second third mask = bytes_of_words (words kind first second third mask)
+address kind first second third mask = flat_map (λ word. to_byte word 4) (words kind first second third mask)
 
 -- an OTS hash address: OTS address, chain address, hash address
 abbrev pub one_time : ℕ → ℕ → ℕ → Adrs

@@ -8,9 +8,8 @@ use Rattle.typecodes.specs.Layout.{Spells}
 use Rattle.winternitz.specs.Chain.{Steps, walk_on}
 use Rattle.merkle.specs.Tree.{node, sibling}
 use Rattle.wots_plus.specs.LTree.{LTreeJoins, at_height, l_tree_join, next_height}
-use Rattle.wots_plus.specs.Key.{chain_value, ends_of_secret, private_value, step_of}
+use Rattle.wots_plus.specs.Key.{chain_value, ends_of_secret, private_value, step_of, public_hash}
 use Rattle.typecodes.specs.declared.secret.XmssSecret.{XmssSecret}
-use Rattle.xmss.specs.Nodes.{leaf_of}
 use Rattle.xmss.specs.Secret.{joins_of, leaves_of, path_in}
 use Rattle.xmss.specs.Signature.{signature}
 use Rattle.xmss.specs.Writing.{signature_bytes, textbook}
@@ -70,7 +69,7 @@ root_size join values k each some are = long_first (at_height join values k) (so
 end_size : (seed : List ℕ) (leaf : ℕ) (secret : List ℕ) (i : ℕ) → length (chain_value seed leaf secret i 15) ≡ 32
 end_size seed leaf secret i = walk_size (step_of seed leaf) i 0 15 (private_value seed leaf secret i) (λ i j v. length-sha256 _) (length-sha256 _)
 
-leaf_size : (seed : List ℕ) (leaf : ℕ) (secret : List ℕ) → length (leaf_of seed leaf (ends_of_secret seed leaf secret)) ≡ 32
+leaf_size : (seed : List ℕ) (leaf : ℕ) (secret : List ℕ) → length (public_hash seed leaf (ends_of_secret seed leaf secret)) ≡ 32
 leaf_size seed leaf secret =
     let ends = ends_of_secret seed leaf secret in
     let count : length ends ≡ 67 = length-map-range_with_len (λ i. chain_value seed leaf secret i 15) 0 67 in

@@ -1,13 +1,8 @@
--- The nodes of an XMSS tree (RFC 8391 4.1). SEED is the public seed of its key.
+-- The nodes of an XMSS tree over its leaves (RFC 8391 4.1). SEED is the public seed of its key.
 use Rattle.std.specs.Prelude.{ℕ, List}
 use Rattle.merkle.specs.Tree.{Joins}
 use Rattle.wots_plus.specs.Address.{hash_tree}
 use Rattle.wots_plus.specs.Hashes.{rand_hash}
-use Rattle.wots_plus.specs.Key.{public_hash}
-
--- a leaf: the root of the L-tree over the ends of its chains, with this index as OTS address and L-tree address (4.1.6)
-abbrev pub leaf_of : List ℕ → ℕ → List (List ℕ) → List ℕ
-leaf_of seed index ends = public_hash seed index ends
 
 -- RAND_HASH of two nodes of height k, with a hash tree address of that height and of the upper node's index j (4.1.6)
 abbrev pub join_of : List ℕ → Joins

@@ -4,17 +4,18 @@ use Rattle.std.specs.Prelude.{ℕ, List}
 use Rattle.typecodes.specs.Types.{xmss_height_of}
 use Rattle.merkle.specs.Tree.{Joins, Leaves, path_of, root_of}
 use Rattle.wots_plus.specs.Hashes.{prf}
-use Rattle.wots_plus.specs.Key.{ends_of_secret}
+use Rattle.wots_plus.specs.Key.{ends_of_secret, public_hash}
 use Rattle.xmss.specs.declared.key.XmssPublic.{XmssPublic}
 use Rattle.typecodes.specs.declared.secret.XmssSecret.{XmssSecret}
 use Rattle.xmss.specs.declared.secret.XmssTree.{XmssTree}
 use Rattle.xmss.specs.Digest.{index_bytes, message_digest_of}
-use Rattle.xmss.specs.Nodes.{join_of, leaf_of}
+use Rattle.xmss.specs.Nodes.{join_of}
 
--- the leaves, each over the ends of its key's chains
+-- the leaves: each the root of the L-tree over the ends of its chains, with its index as OTS address and L-tree address
+-- (4.1.6)
 abbrev pub leaves_of : XmssSecret → Leaves
 leaves_of secret index =
-    leaf_of secret.public_seed index (ends_of_secret secret.public_seed index secret.secret_seed)
+    public_hash secret.public_seed index (ends_of_secret secret.public_seed index secret.secret_seed)
 
 -- the join of two nodes
 abbrev pub joins_of : XmssSecret → Joins
@@ -35,8 +36,7 @@ randomizer_of prf_key index = prf prf_key (index_bytes index)
 
 -- M', the digest of a message that a leaf signs
 abbrev pub digest_in : XmssSecret → List ℕ → ℕ → List ℕ → List ℕ
-digest_in secret root index message =
-    message_digest_of (randomizer_of secret.prf_key index) root index message
+digest_in secret root index message = message_digest_of (randomizer_of secret.prf_key index) root index message
 
 abbrev pub secret_of : XmssTree → XmssSecret
 secret_of tree = tree.secret

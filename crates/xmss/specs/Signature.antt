@@ -13,10 +13,6 @@ pub record Signature : Type 0 where
   pub chains : List (List ℕ)
   pub path : List (List ℕ)
 
-abbrev pub signature_with : ℕ → List ℕ → List (List ℕ) → List (List ℕ) → Signature
-signature_with index randomizer chains path =
-    record { index = index; randomizer = randomizer; chains = chains; path = path }
-
 -- the values of all chains, 32 bytes each (3.1.1)
 unfoldable pub chains_in : List ℕ → List (List ℕ)
 chains_in bytes = values_in wots_chains bytes
@@ -34,4 +30,9 @@ signature tree = do
   randomizer ← block 32
   chains ← values wots_chains
   path ← values (xmss_height_of tree)
-  done (signature_with index randomizer chains path)
+  done (record { index = index; randomizer = randomizer; chains = chains; path = path })
+
+-- a signature of these parts
+abbrev pub signature_with : ℕ → List ℕ → List (List ℕ) → List (List ℕ) → Signature
+signature_with index randomizer chains path =
+    record { index = index; randomizer = randomizer; chains = chains; path = path }

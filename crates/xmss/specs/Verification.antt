@@ -8,10 +8,10 @@ use Rattle.typecodes.specs.Message.{Transition}
 use Rattle.typecodes.specs.Verdict.{LeavesMessage as TreeLeavesMessage}
 use Rattle.typecodes.specs.Types.{wots_chains, xmss_height_of}
 use Rattle.merkle.specs.Ascent.{PathLeadsTo}
-use Rattle.wots_plus.specs.Key.{ClimbTo}
+use Rattle.wots_plus.specs.Key.{ClimbTo, public_hash}
 use Rattle.xmss.specs.declared.key.XmssPublic.{XmssPublic}
 use Rattle.xmss.specs.Digest.{message_digest_of, message_prefix_of}
-use Rattle.xmss.specs.Nodes.{join_of, leaf_of}
+use Rattle.xmss.specs.Nodes.{join_of}
 use Rattle.xmss.specs.Signature.{Signature, signature}
 
 -- The signature of a digest M' leads to this node. Its values climb from the digits of M' to the chains' ends, whose
@@ -19,7 +19,7 @@ use Rattle.xmss.specs.Signature.{Signature, signature}
 pub record LeadsTo (key : XmssPublic) (digest : List ℕ) (s : Signature) (node : List ℕ) : Type 0 where
   pub ends : List (List ℕ)
   pub climbed : ClimbTo key.seed s.index digest s.chains ends
-  pub path : PathLeadsTo (join_of key.seed) s.index (leaf_of key.seed s.index ends) s.path node
+  pub path : PathLeadsTo (join_of key.seed) s.index (public_hash key.seed s.index ends) s.path node
 
 -- The signature has a value for each chain (3.1.1), a leaf's index, and a path of the tree's height. With this digest
 -- it leads to the key's root.

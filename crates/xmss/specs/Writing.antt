@@ -7,13 +7,13 @@ use Rattle.wots_plus.specs.Key.{signed_values}
 use Rattle.xmss.specs.declared.key.XmssPublic.{XmssPublic}
 use Rattle.typecodes.specs.declared.secret.XmssSecret.{XmssSecret}
 use Rattle.xmss.specs.Secret.{path_in, randomizer_of}
-use Rattle.xmss.specs.Signature.{Signature, signature_with}
+use Rattle.xmss.specs.Signature.{Signature}
 
 -- a leaf's signature of the digest M', with any path
 abbrev pub signed : XmssSecret → ℕ → List ℕ → List (List ℕ) → Signature
 signed secret index digest path =
     let chains = signed_values secret.public_seed index secret.secret_seed digest in
-    signature_with index (randomizer_of secret.prf_key index) chains path
+    record { index = index; randomizer = randomizer_of secret.prf_key index; chains = chains; path = path }
 
 -- the textbook signature, with the leaf's own path
 abbrev pub textbook : XmssSecret → ℕ → List ℕ → Signature

@@ -1,6 +1,6 @@
 -- The first i words are written.
 use Rattle.std.proofs.Common.{◌≡◌, ◌*◌, take, length}
-use Rattle.wots_plus.specs.Address.{bytes_of_words}
+use Rattle.wots_plus.proofs.Bytes.{bytes_of_words}
 use Rattle.wots_plus.proofs.address.Address.bytes.Given as goal
 
 abbrev pub invariant-loop-i : goal.invariant-loop-i
