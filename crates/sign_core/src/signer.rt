@@ -4,14 +4,11 @@ ghost use Rattle.std.specs.Prelude.{◌≡◌, ◌<◌, ◌≤◌, ◌-◌, ◌^
 ghost use Rattle.std.specs.Prelude.{IfSome, IsTrue, None, OnOk};
 ghost use Rattle.merkle.specs.Tree.{root_of as tree_root};
 ghost use Rattle.state_file.specs.Store.{CanFollow, is_key};
-ghost use Rattle.sign_core.specs.inner.Source.{DrawsBytes};
-ghost use Rattle.sign_core.specs.Events.{AreFields};
 ghost use Rattle.sign_core.specs.inner.Signer.{DrawsSecret, Hinders, IsAnsweredByKey, IsAppended, IsTakenUp};
 ghost use Rattle.sign_core.specs.Signer.{IsTied, LoadsAll, MakesKey};
 ghost use Rattle.sign_core.specs.inner.Signer.{LoadsRecord, LooksForKey, TakesUpLoaded};
 ghost use Rattle.sign_core.specs.Textbook.{HasSizes, root_by};
 ghost use Rattle.state_file.specs.declared.record.Record.TheVariants.{Key as KeyRecord};
-ghost use Rattle.typecodes.specs.Layout.{AreBytes};
 ghost use Rattle.typecodes.specs.Spec.{IsSpec};
 
 mod bind;
@@ -85,42 +82,25 @@ fn load_first<S: Store>(store: &mut S) -> Result<(), SignFault>
     }
 }
 
-// For the prover: the same bytes, each below 256.
-fn bytes_of<const N: usize>(bytes: [u8; N]) -> [u8; N]
-    ensures same { result ≡ bytes.entry }
-    ensures range { AreBytes result }
-{
-    bytes
-}
-
-fn draw_field<R: Source, const N: usize>(random: &mut R) -> Result<[u8; N], SignFault>
-    ensures drawn { DrawsBytes (R.failures random.old) (R.failures random.new)
-        (R.upcoming random.old) (R.upcoming random.new) result }
-    ensures field { IfOk result (λ bytes. AreFields (N ∷ []) (bytes ∷ [])) }
-{
-    let bytes = draw::<R, N>(random)?;
-    Ok(bytes_of(bytes))
-}
-
 fn draw_secret<R: Source>(spec: &Spec, random: &mut R) -> Result<Secret, SignFault>
     ensures { DrawsSecret R.Source spec.now random.old random.new result }
 {
     match spec {
         Spec::Lms(pair) => Ok(Secret::Lms(LmsSecret {
             pair: *pair,
-            identifier: draw_field(random)?,
-            seed: draw_field(random)?,
+            identifier: draw(random)?,
+            seed: draw(random)?,
         })),
         Spec::Hss(levels) => Ok(Secret::Hss {
             levels: levels.copied(),
-            identifier: draw_field(random)?,
-            seed: draw_field(random)?,
+            identifier: draw(random)?,
+            seed: draw(random)?,
         }),
         Spec::Xmss(tree) => Ok(Secret::Xmss(XmssSecret {
             tree: *tree,
-            secret_seed: draw_field(random)?,
-            prf_key: draw_field(random)?,
-            public_seed: draw_field(random)?,
+            secret_seed: draw(random)?,
+            prf_key: draw(random)?,
+            public_seed: draw(random)?,
         })),
     }
 }

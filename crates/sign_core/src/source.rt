@@ -1,7 +1,9 @@
 //! Sources of random bytes.
 
-ghost use Rattle.std.specs.Prelude.{◌≡◌, ◌<◌, ◌↔◌, ℕ, List, Option, Some, IsErr, length};
+ghost use Rattle.std.specs.Prelude.{◌≡◌, ◌<◌, ◌↔◌, ◌∷◌, [], ℕ, List, Option, Some, IsErr, length};
 ghost use Rattle.std.specs.Prelude.{IfOk};
+ghost use Rattle.typecodes.specs.Layout.{AreBytes};
+ghost use Rattle.sign_core.specs.Events.{AreFields};
 ghost use Rattle.sign_core.specs.inner.Source.{DrawsBytes};
 ghost use Rattle.sign_core.specs.Source.{Fills};
 
@@ -30,14 +32,22 @@ pub trait Source {
             result };
 }
 
+// For the prover: the same bytes, each below 256.
+fn bytes_of<const N: usize>(bytes: [u8; N]) -> [u8; N]
+    ensures same { result ≡ bytes.entry }
+    ensures range { AreBytes result }
+{
+    bytes
+}
+
 pub(crate) fn draw<R: Source, const N: usize>(random: &mut R) -> Result<[u8; N], SignFault>
     ensures drawn { DrawsBytes (R.failures random.old) (R.failures random.new)
         (R.upcoming random.old) (R.upcoming random.new) result }
-    ensures len { IfOk result (λ bytes. length bytes ≡ N) }
+    ensures field { IfOk result (λ bytes. AreFields (N ∷ []) (bytes ∷ [])) }
 {
     let mut bytes = [0u8; N];
     match random.fill(&mut bytes) {
-        Ok(()) => Ok(bytes),
+        Ok(()) => Ok(bytes_of(bytes)),
         Err(_) => Err(SignFault::RandomFailed),
     }
 }

@@ -9,7 +9,7 @@ ghost use Rattle.sign_core.specs.inner.Signing.{BindsBelow, BindsNext, CanBind, 
 ghost use Rattle.sign_core.specs.inner.Signing.{IsReady, Stands};
 ghost use Rattle.sign_core.specs.Signing.{KeepsCapacity, UnderKey, answered_with};
 
-use super::{Signer, draw_field};
+use super::Signer;
 use crate::fault::SignFault;
 use crate::key_trees::SecretTrees;
 use crate::ledger::{Binding, Ledger};
@@ -57,7 +57,7 @@ impl SecretTrees {
             (R.failures random.new) (R.upcoming random.old) (R.upcoming random.new) result }
     {
         match self {
-            SecretTrees::Chain(_) => draw_field::<R, 32>(random),
+            SecretTrees::Chain(_) => draw(random),
             SecretTrees::Xmss(_) => Ok([0; 32]),
         }
     }
