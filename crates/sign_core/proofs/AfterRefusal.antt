@@ -21,18 +21,18 @@ use Rattle.sign_core.specs.AfterRefusal.{AfterRefusalLaw, AreDrawnFor, BeginsDra
 use Rattle.sign_core.specs.AfterRefusal.{Leaves, LeavesRequested, LeavesTrees, WantsRecords}
 use Rattle.sign_core.specs.Events.{AreFields, key_sizes}
 use Rattle.sign_core.specs.Requests.{BeginsTree, BindsName}
-use Rattle.sign_core.specs.Records.{binding_in, binds, first_illegal, has_identifier, has_moved, key_in}
+use Rattle.sign_core.specs.Records.{binding_in, first_illegal, has_identifier, has_moved, key_in}
 use Rattle.sign_core.specs.Records.{leaves_of_current, next_at}
 use Rattle.sign_core.specs.Textbook.{Trees, public_in, signature_at, trees_of}
 use Rattle.sign_core.specs.World.{Chance, Creation, Draw, Fate, Opening, Outcome, State, acked, answered, appended}
 use Rattle.sign_core.specs.World.{cut_new, cut_old, drawing}
 use Rattle.sign_core.specs.inner.Cases.{begun, bound_with, created_after, extended, extended_by}
-use Rattle.sign_core.specs.World.{first_draw, new_bound, new_key, no_memory, open_on}
+use Rattle.sign_core.specs.World.{first_draw, new_key, no_memory, open_on}
 use Rattle.sign_core.specs.inner.Cases.{extended_with, bound_below}
 use Rattle.sign_core.specs.inner.Cases.{opened_by, opened_on}
 use Rattle.sign_core.specs.World.{randomizer_from, reading, refused, requested, secret_from}
 use Rattle.sign_core.specs.inner.Cases.{published, retired_under}
-use Rattle.sign_core.proofs.Bindings.{binding_other}
+use Rattle.sign_core.proofs.Bindings.{binding_other, binds}
 use Rattle.sign_core.proofs.DrawnAgain.{IsSettled, settled_repeated, settled_under}
 use Rattle.sign_core.proofs.Fresh.{begins_along, extend_in}
 use Rattle.sign_core.proofs.BoundBelow.{next_extend}
@@ -40,6 +40,7 @@ use Rattle.sign_core.proofs.Leaves.{deepest_is}
 use Rattle.sign_core.proofs.OnceKept.{kept_choice}
 use Rattle.sign_core.proofs.RefusedDraws.{DrawsWanted, chance_with, draws_wanted}
 use Rattle.sign_core.proofs.Sizes.{public_made, secret_sizes}
+use Rattle.sign_core.proofs.Found.{new_bound}
 
 some_none : {A : Type 0} (x : A) → None ≡ Some x → ⊥
 some_none x is = absurd (cc)

@@ -27,14 +27,14 @@ use Rattle.sign_core.specs.Signing.{answered_with}
 use Rattle.sign_core.specs.inner.Source.{DrawsBytes}
 use Rattle.sign_core.specs.Source.{Provides}
 use Rattle.sign_core.specs.Records.{binding_in, can_follow, current, has_moved, has_randomizer, is_free, key_in, next_at, next_in}
-use Rattle.sign_core.proofs.Found.{next_of}
+use Rattle.sign_core.proofs.Found.{new_bound, next_of}
 use Rattle.sign_core.specs.Caches.{Cached}
 use Rattle.sign_core.specs.inner.Signer.{Adds, added}
 use Rattle.sign_core.specs.Signer.{Ends, IsRead, IsTied, View, is_before_draws, is_of_append, is_out_of_memory, is_random_failed, is_store_failed, state_of, view_of}
 use Rattle.sign_core.specs.inner.Signing.{Does, DrawsRandomizer, BindsBelow, IsBindingOf, IsBoundLast, IsRandomizer, Stands}
 use Rattle.sign_core.specs.declared.ledger.Binding.{Binding}
 use Rattle.sign_core.specs.Ledger.{Table, binding_kept, kept_of}
-use Rattle.sign_core.specs.World.{Fate, Outcome, acked, answered, appended, cut_new, cut_old, drawing, new_bound, no_memory}
+use Rattle.sign_core.specs.World.{Fate, Outcome, acked, answered, appended, cut_new, cut_old, drawing, no_memory}
 use Rattle.sign_core.specs.inner.Cases.{bound_with}
 use Rattle.sign_core.specs.World.{open_on, randomizer_from, reading}
 use Rattle.sign_core.specs.Textbook.{Trees, damaged_in, digest_at, signature_at, tree_before, trees_of}

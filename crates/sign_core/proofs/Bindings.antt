@@ -1,8 +1,8 @@
 -- Which names are bound and which I's the records have, and what one more record changes.
 use Rattle.std.proofs.Common.{◌≡◌, ◌≢◌, ◌⊎◌, inl, inr, ℕ, zero, suc, ◌+◌, ◌<◌, Bool, true, false, cond, ◌||◌, List, [], ◌∷◌, ◌++◌}
 use Rattle.std.proofs.Common.{length, Option, Some, None, refl, sym, ap, subst, ◌∙◌, arith, true≢false}
-use Rattle.std.specs.Prelude.{slice_get, find, is_some}
-use Rattle.std.specs.Option.{option_or}
+use Rattle.std.specs.Prelude.{slice_get, find, is_some, if◌then◌else◌}
+use Rattle.std.specs.Option.{option_map_or, option_or}
 use Rattle.std.specs.Cmp.Lexicographic.{bytes_decides}
 use Rattle.std.proofs.lemmas.Option.{none-some, same_Some, cond_some, some_pair_parts}
 use Rattle.std.proofs.lemmas.List.Folds.{find-append}
@@ -10,9 +10,32 @@ use Rattle.state_file.specs.declared.record.Bound.{Bound}
 use Rattle.state_file.specs.declared.record.Record.{Record}
 use Rattle.state_file.specs.declared.record.Record.TheVariants.{Key as KeyRecord, Extend as ExtendRecord, Bound as BoundRecord, Retire, Moved}
 use Rattle.state_file.specs.Laws.{identifier_of}
-use Rattle.sign_core.specs.Records.{are_same, binding_in, binds, bound_from, has_identifier, is_of, or_later}
+use Rattle.sign_core.specs.Records.{are_same, binding_in, bound_from, has_identifier}
 
 -- ---- names
+
+-- the binding of a name that a record makes
+abbrev pub binds : (name : List ℕ) → Record → Option Bound
+binds name (BoundRecord bound) = if are_same bound.name name then Some bound else None
+binds name _ = None
+
+-- a name's binding with its place: the record at place k's, or else a later one
+abbrev or_later : (k : ℕ) → Option Bound → Option (ℕ × Bound) → Option (ℕ × Bound)
+or_later k (Some bound) later = Some (k, bound)
+or_later k None later = later
+
+bound_first : (name : List ℕ) (k : ℕ) (entry : Record) (rest : List Record)
+    → bound_from name k (entry ∷ rest) ≡ or_later k (binds name entry) (bound_from name (k + 1) rest)
+bound_first name k (KeyRecord key) rest = refl
+bound_first name k (ExtendRecord extend) rest = refl
+bound_first name k (BoundRecord bound) rest = by (are_same bound.name name)
+  where
+    by : (same : Bool) → (if same then Some (k, bound) else bound_from name (k + 1) rest)
+        ≡ or_later k (if same then Some bound else None) (bound_from name (k + 1) rest)
+    by true = refl
+    by false = refl
+bound_first name k (Retire upto) rest = refl
+bound_first name k Moved rest = refl
 
 binds_means : (name : List ℕ) (entry : Record) (bound : Bound) → binds name entry ≡ Some bound → (entry ≡ BoundRecord bound) × (bound.name ≡ name)
 binds_means name (KeyRecord key) bound is = absurd (none-some bound is)
@@ -77,11 +100,11 @@ none_first name entry rest first none (suc i) other is = none i other is
 found_binding_first : (name : List ℕ) (k : ℕ) (entry : Record) (rest : List Record) (own : Option Bound) → binds name entry ≡ own → FoundBinding name (k + 1) rest
     → FoundBinding name k (entry ∷ rest)
 found_binding_first name k entry rest (Some bound) is later =
-    inl (k, bound, ap (λ o. or_later k o (bound_from name (k + 1) rest)) is, bound_here name k entry rest bound is)
+    inl (k, bound, bound_first name k entry rest ∙ ap (λ o. or_later k o (bound_from name (k + 1) rest)) is, bound_here name k entry rest bound is)
 found_binding_first name k entry rest None is (inl (j, bound, at, later)) =
-    inl (j, bound, ap (λ o. or_later k o (bound_from name (k + 1) rest)) is ∙ at, bound_later name k j entry rest bound is later)
+    inl (j, bound, bound_first name k entry rest ∙ ap (λ o. or_later k o (bound_from name (k + 1) rest)) is ∙ at, bound_later name k j entry rest bound is later)
 found_binding_first name k entry rest None is (inr (at, none)) =
-    inr (ap (λ o. or_later k o (bound_from name (k + 1) rest)) is ∙ at, none_first name entry rest is none)
+    inr (bound_first name k entry rest ∙ ap (λ o. or_later k o (bound_from name (k + 1) rest)) is ∙ at, none_first name entry rest is none)
 
 found_binding : (name : List ℕ) (k : ℕ) (entries : List Record) → FoundBinding name k entries
 found_binding name k [] = inr (refl, λ i other is. absurd (none-some (BoundRecord other) is))
@@ -125,7 +148,9 @@ bound_append : (name : List ℕ) (k : ℕ) (xs ys : List Record)
 bound_append name k [] ys = let here : k ≡ k + 0 = omega arith in ap (λ n. bound_from name n ys) here
 bound_append name k (entry ∷ xs) ys =
     let on : k + 1 + length xs ≡ k + suc (length xs) = omega arith in
-    by (binds name entry) (bound_append name (k + 1) xs ys ∙ ap (λ n. option_or (bound_from name (k + 1) xs) (bound_from name n ys)) on)
+    bound_first name k entry (xs ++ ys)
+    ∙ by (binds name entry) (bound_append name (k + 1) xs ys ∙ ap (λ n. option_or (bound_from name (k + 1) xs) (bound_from name n ys)) on)
+    ∙ sym (ap (λ o. option_or o (bound_from name (k + suc (length xs)) ys)) (bound_first name k entry xs))
   where
     by : (own : Option Bound)
         → bound_from name (k + 1) (xs ++ ys) ≡ option_or (bound_from name (k + 1) xs) (bound_from name (k + suc (length xs)) ys)
@@ -138,7 +163,9 @@ pub binding_appended : (records : List Record) (entry : Record) (name : List ℕ
     → binding_in (records ++ entry ∷ []) name ≡ option_or (binding_in records name) (or_later (length records) (binds name entry) None)
 binding_appended records entry name =
     let place : 0 + length records ≡ length records = omega arith in
-    bound_append name 0 records (entry ∷ []) ∙ ap (λ n. option_or (binding_in records name) (or_later n (binds name entry) None)) place
+    bound_append name 0 records (entry ∷ [])
+    ∙ ap (λ n. option_or (binding_in records name) (bound_from name n (entry ∷ []))) place
+    ∙ ap (option_or (binding_in records name)) (bound_first name (length records) entry [])
 
 pub binding_stays : (records more : List Record) (name : List ℕ) (found : ℕ × Bound) → binding_in records name ≡ Some found
     → binding_in (records ++ more) name ≡ Some found
@@ -163,6 +190,9 @@ binding_other records entry name none =
     same (Some found) = refl
 
 -- ---- identifiers
+
+abbrev pub is_of : (identifier : List ℕ) → Option (List ℕ) → Bool
+is_of identifier other = option_map_or (λ own. are_same own identifier) other false
 
 is_of_own : (identifier : List ℕ) (other : Option (List ℕ)) → other ≡ Some identifier → is_of identifier other ≡ true
 is_of_own identifier other same = ap (is_of identifier) same ∙ (bytes_decides identifier identifier).1 refl

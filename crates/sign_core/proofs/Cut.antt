@@ -23,7 +23,7 @@ use Rattle.sign_core.specs.inner.Cases.{published}
 use Rattle.sign_core.specs.World.{refused, secret_from}
 use Rattle.sign_core.specs.inner.Cases.{repeated, repeated_sound, requested_of, requested_under, retired_under}
 use Rattle.sign_core.specs.Cuts.{CutLaw, IsOther, turned, turned_chance, turned_creation, turned_draw}
-use Rattle.sign_core.specs.Events.{IsTreeDraw}
+use Rattle.sign_core.proofs.Found.{IsTreeDraw}
 
 -- where nothing was cut, the outcome is the same
 same_outcome : {A : Type 0} (outcome : Outcome A) → outcome.failed ≡ None → IsOther outcome outcome

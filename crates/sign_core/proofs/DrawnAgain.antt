@@ -17,7 +17,7 @@ use Rattle.sign_core.specs.declared.fault.SignFault.TheVariants.{RandomRepeated,
 use Rattle.sign_core.specs.declared.fault.SignFault.TheVariants.{Moved as MovedAway}
 use Rattle.sign_core.specs.Records.{are_same, binding_in, deepest, has_identifier, has_moved, key_in, next_at, wanted_count, is_long}
 use Rattle.sign_core.specs.AfterRefusal.{WantsRecords}
-use Rattle.sign_core.specs.Events.{AreDrawsOf, AreFields, IsTreeDraw, randomizer_sizes}
+use Rattle.sign_core.specs.Events.{AreDrawsOf, AreFields, randomizer_sizes}
 use Rattle.sign_core.specs.Requests.{DrewAgain, bytes_drawn}
 use Rattle.sign_core.specs.Events.{tree_sizes}
 use Rattle.sign_core.specs.World.{Chance, Draw, Fate, Outcome, State, acked, answered, appended}
@@ -32,6 +32,7 @@ use Rattle.sign_core.specs.Textbook.{Trees, damaged_in, digest_at, lms_secret, t
 use Rattle.sign_core.proofs.BoundBelow.{fields_drawn_before}
 use Rattle.sign_core.proofs.OnceKept.{kept_choice}
 use Rattle.sign_core.proofs.Requests.{first_drawn, later_drawn}
+use Rattle.sign_core.proofs.Found.{IsTreeDraw}
 
 -- ---- what comes before the new records
 

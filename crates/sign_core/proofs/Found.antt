@@ -1,12 +1,16 @@
--- What the specifications say of a tree, or of trees, that were found or weren't.
-use Rattle.std.specs.Prelude.{ℕ, List, [], Option, option_map, unwrap_or}
+-- Words for what the specifications say without one, of what was found or wasn't.
+use Rattle.std.specs.Prelude.{ℕ, List, [], length, false, not, ◌&&◌, Option, option_map, unwrap_or, if◌then◌else◌}
+use Rattle.std.specs.Option.{option_map_or}
 use Rattle.lmots.specs.Key.{message_digest_of}
 use Rattle.hss.specs.Writing.{signature_bytes as hss_signature_bytes, textbook as hss_textbook}
 use Rattle.state_file.specs.declared.record.Bound.{Bound}
+use Rattle.state_file.specs.declared.record.Key.{Key}
 use Rattle.state_file.specs.declared.record.Record.{Record}
 use Rattle.state_file.specs.declared.record.Secret.{Secret}
-use Rattle.sign_core.specs.Records.{next_in}
-use Rattle.sign_core.specs.Textbook.{Trees, secret_at, signing_of_bound, signings_above}
+use Rattle.sign_core.specs.Events.{AreFields, tree_sizes}
+use Rattle.sign_core.specs.Records.{can_move, next_in}
+use Rattle.sign_core.specs.Textbook.{Trees, digest_at, secret_at, signing_of_bound, signings_above}
+use Rattle.sign_core.specs.World.{Draw, Migration, State, closed_on, migrated_to}
 
 abbrev pub next_of : Secret → List Record → (tree : Option ℕ) → ℕ
 next_of secret records tree = unwrap_or (option_map (next_in secret records) tree) 0
@@ -18,3 +22,15 @@ digest_under found records tree leaf randomizer message =
 abbrev pub hss_signature_under : Option Trees → List Record → (level tree : ℕ) → Bound → List ℕ
 hss_signature_under found records level tree bound =
     unwrap_or (option_map (λ trees. hss_signature_bytes (hss_textbook (signings_above trees level records tree) (signing_of_bound trees records tree bound))) found) []
+
+abbrev pub IsTreeDraw : Draw → Type 0
+IsTreeDraw draw = AreFields tree_sizes draw.fields
+
+abbrev pub new_bound : Key → List Record → (name : List ℕ) → (leaf : ℕ) → (randomizer message : List ℕ) → Bound
+new_bound key records name leaf randomizer message =
+    record { name = name; leaf = leaf; randomizer = randomizer; digest = digest_at key records (length records) leaf randomizer message }
+
+abbrev pub migrated_under : State → Migration → Option Key → State
+migrated_under state fate found =
+    let can = option_map_or (λ (key : Key). can_move key.version) found false in
+    if can && not state.is_open then closed_on (migrated_to state.records fate) else state

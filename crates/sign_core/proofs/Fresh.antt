@@ -16,10 +16,11 @@ use Rattle.sign_core.specs.Requests.{BeginsTree, IsComplete, bytes_drawn}
 use Rattle.sign_core.specs.Events.{randomizer_sizes, tree_sizes}
 use Rattle.sign_core.specs.World.{Chance, Draw, Fate, Outcome, acked, drawing}
 use Rattle.sign_core.specs.inner.Cases.{bound_with, extended, extended_with}
-use Rattle.sign_core.specs.World.{new_bound, open_on, randomizer_from, refused}
+use Rattle.sign_core.specs.World.{open_on, randomizer_from, refused}
 use Rattle.sign_core.specs.inner.Cases.{bound_below}
 use Rattle.sign_core.specs.Textbook.{Trees, digest_at, signature_at, trees_of}
 use Rattle.sign_core.proofs.BoundBelow.{extends_by, fields_drawn_before, next_extend, whole_draw}
+use Rattle.sign_core.proofs.Found.{new_bound}
 
 -- ---- what is drawn
 

@@ -12,7 +12,7 @@ use Rattle.state_file.specs.declared.record.Record.{Record}
 use Rattle.state_file.specs.declared.record.Record.TheVariants.{Key as KeyRecord, Extend as ExtendRecord, Bound as BoundRecord, Retire, Moved}
 use Rattle.state_file.specs.declared.record.Secret.{Secret}
 use Rattle.state_file.specs.Laws.{bottom_of, identifier_of, leaves_at}
-use Rattle.sign_core.specs.Records.{are_same, binding_in, binds, can_follow, can_follow_legal, current, has_identifier, has_moved, is_moved, is_of}
+use Rattle.sign_core.specs.Records.{are_same, binding_in, can_follow, can_follow_legal, current, has_identifier, has_moved, is_moved}
 use Rattle.sign_core.specs.Ledger.{ByPlace, ByText, IsTableOf, binding_kept, kept_of, made_at, made_by}
 use Rattle.sign_core.specs.inner.Trees.{FollowsRetire}
 use Rattle.sign_core.specs.Trees.{HasTrees}
@@ -21,7 +21,7 @@ use Rattle.sign_core.specs.declared.ledger.Binding.{Binding}
 use Rattle.sign_core.specs.declared.ledger.Made.{Made}
 use Rattle.sign_core.specs.declared.trees.Tree.{Tree}
 use Rattle.sign_core.proofs.Append.{take_of_longer}
-use Rattle.sign_core.proofs.Bindings.{binding_new, binding_other, binding_stands, identifier_appended}
+use Rattle.sign_core.proofs.Bindings.{binding_new, binding_other, binding_stands, binds, identifier_appended, is_of}
 use Rattle.sign_core.proofs.Keys.{key_stands}
 use Rattle.sign_core.proofs.Lists.{front_or_new, slice_get_front, slice_get_new}
 use Rattle.sign_core.proofs.Follow.{key_stays}

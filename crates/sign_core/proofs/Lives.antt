@@ -1,5 +1,5 @@
 -- The lives of one disk are runs of the world.
-use Rattle.std.proofs.Common.{◌≡◌, ◌∙◌, refl, sym, ap, subst, ℕ, zero, suc, ◌≤◌, ◌⊎◌, inl, inr, true, false, IsTrue, true≢false, if◌then◌else◌}
+use Rattle.std.proofs.Common.{◌≡◌, ◌∙◌, refl, sym, ap, subst, ℕ, zero, suc, ◌≤◌, ◌⊎◌, inl, inr, true, false, IsTrue, true≢false, if◌then◌else◌, ◌&&◌}
 use Rattle.std.proofs.Common.{List, [], ◌∷◌, ◌++◌, length, take, Option, Some, None, Result, Ok, Err, append-nil, arith}
 use Rattle.std.proofs.lemmas.Bool.{cases_Bool}
 use Rattle.std.proofs.lemmas.List.{length_push}
@@ -24,13 +24,14 @@ use Rattle.sign_core.specs.Events.{IsEvent}
 use Rattle.sign_core.specs.Once.{IsOnce}
 use Rattle.sign_core.specs.SignerCalls.{world_of}
 use Rattle.sign_core.specs.World.{Event, Handed, World, after, beginning, closed_on, create, handed_with, reopen, request, requested, retire, run, stop, migrate}
-use Rattle.sign_core.specs.World.{Migration, carried_over, migrated_to, migrated_under, sealed}
+use Rattle.sign_core.specs.World.{Migration, carried_over, migrated_to, sealed}
 use Rattle.sign_core.specs.Records.{can_move}
 use Rattle.state_file.specs.Carried.{carried, with_moved}
 use Rattle.sign_core.proofs.Calls.{all_both, run_both, stop_left}
 use Rattle.sign_core.proofs.Events.{kept_by_run}
 use Rattle.sign_core.proofs.OnceParts.{once}
 use Rattle.sign_core.proofs.Answered.{signed_open}
+use Rattle.sign_core.proofs.Found.{migrated_under}
 
 -- ---- which list a content stands for
 
@@ -325,7 +326,7 @@ migrated_run limit handed records fate is (key, keyed, one) =
     let event : Event = migrate fate in
     let leads : after limit (world_of (closed_on records) handed) event ≡ world_of (closed_on (migrated_to records fate)) handed =
     ap (λ found. world_of (migrated_under (closed_on records) fate found) handed) keyed
-    ∙ ap (λ version. world_of (if can_move version then closed_on (migrated_to records fate) else closed_on records) handed) one in
+    ∙ ap (λ version. world_of (if can_move version && true then closed_on (migrated_to records fate) else closed_on records) handed) one in
     runs_on limit beginning (world_of (closed_on records) handed) _ is (subst (IsRun limit (world_of (closed_on records) handed)) leads
     (one_event limit (world_of (closed_on records) handed) event tt))
 

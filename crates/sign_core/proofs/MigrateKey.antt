@@ -1,6 +1,6 @@
 -- The ends of a migration: a refusal of the old place, of the new one, or of sealing; and a place that is filled.
 use Rattle.std.proofs.Common.{◌≡◌, ◌≢◌, ◌⊎◌, inl, inr, ℕ, ◌+◌, ◌*◌, ◌-◌, Bool, true, false, List, [], ◌∷◌, ◌++◌, length, take, Some, None, Ok, Err, Result, refl, sym}
-use Rattle.std.proofs.Common.{ap, ◌∙◌, subst, arith, IsTrue, true≢false, not}
+use Rattle.std.proofs.Common.{ap, ◌∙◌, subst, arith, IsTrue, true≢false, not, ◌&&◌}
 use Rattle.std.proofs.lemmas.Bool.{cases_Bool}
 use Rattle.std.proofs.lemmas.List.{length_push, take_at}
 use Rattle.std.specs.Prelude.{OnOk, IfOk, Option, if◌then◌else◌, map}
@@ -34,10 +34,11 @@ use Rattle.sign_core.specs.Migration.{AnswersNew, AnswersOld, CountsOne, IsFateO
 use Rattle.sign_core.specs.inner.OldFile.{Keeps, OpensOld, RefusesOld}
 use Rattle.sign_core.specs.OldFile.{ReportsOld, SpellsMovable}
 use Rattle.sign_core.specs.Records.{can_move, key_in}
-use Rattle.sign_core.specs.World.{Migration, State, carried_over, closed_on, left_alone, migrated, migrated_to, migrated_under, sealed}
+use Rattle.sign_core.specs.World.{Migration, State, carried_over, closed_on, left_alone, migrated, migrated_to, sealed}
 use Rattle.sign_core.proofs.Adding.{version_of_key}
 use Rattle.sign_core.proofs.Follow.{key_first}
 use Rattle.sign_core.proofs.Lives.{KeepsTime, spelled_stands}
+use Rattle.sign_core.proofs.Found.{migrated_under}
 
 -- ---- lists
 
@@ -63,7 +64,7 @@ carried_sealed records = ap (map (in_version Two)) (unmoved_sealed records)
 
 alone_under : (records : List Record) (found : Option Key) → migrated_under (closed_on records) left_alone found ≡ closed_on records
 alone_under records None = refl
-alone_under records (Some key) = elim (can_move key.version) as (λ (test : Bool). (if test then closed_on records else closed_on records) ≡ closed_on records) [
+alone_under records (Some key) = elim (can_move key.version) as (λ (test : Bool). (if test && true then closed_on records else closed_on records) ≡ closed_on records) [
   | true ↦ refl
   | false ↦ refl
 ]
@@ -78,7 +79,7 @@ migrated_records content records fate is =
     let one = sym (version_of_key records is.legal.key keyed) ∙ is.version in
     ap (λ (s : State). s.records)
     (ap (migrated_under (closed_on records) fate) keyed
-    ∙ ap (λ version. if can_move version then closed_on (migrated_to records fate) else closed_on records) one)
+    ∙ ap (λ version. if can_move version && true then closed_on (migrated_to records fate) else closed_on records) one)
 
 -- ---- answers, by their cases
 

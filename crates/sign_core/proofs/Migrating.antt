@@ -25,13 +25,13 @@ use Rattle.hss.specs.Secret.{Signing}
 use Rattle.hss.specs.Writing.{signature_bytes, textbook}
 use Rattle.sign_core.specs.Headline.{IsRecorded}
 use Rattle.sign_core.specs.Records.{are_same, binding_in, can_follow, can_follow_legal, can_move, has_randomizer, current, has_identifier, has_moved, illegal_from, in_tree}
-use Rattle.sign_core.specs.Records.{is_free, is_moved, is_of, key_in, last_from, next_at, next_in, number_in, numbers_from, reaches, same_tree, under}
-use Rattle.sign_core.proofs.Found.{next_of}
+use Rattle.sign_core.specs.Records.{is_free, is_moved, key_in, last_from, next_at, next_in, number_in, numbers_from, reaches, same_tree, under}
+use Rattle.sign_core.proofs.Found.{migrated_under, next_of}
 use Rattle.sign_core.specs.Textbook.{AllHaveSizes, AreSound, HasSizes, Trees, digest_at, digest_by, is_sound_at, is_sound_extend}
 use Rattle.sign_core.proofs.Found.{digest_under, hss_signature_under}
 use Rattle.sign_core.specs.Textbook.{is_sound_record, secret_at, secret_by, signature_at, signature_by, signing_by, signings_above, tree_before, trees_of}
-use Rattle.sign_core.specs.World.{Handed, Migration, State, carried_over, closed_on, left_alone, migrated, migrated_to, migrated_under, sealed}
-use Rattle.sign_core.proofs.Bindings.{binding_other, binding_stands}
+use Rattle.sign_core.specs.World.{Handed, Migration, State, carried_over, closed_on, left_alone, migrated, migrated_to, sealed}
+use Rattle.sign_core.proofs.Bindings.{binding_other, binding_stands, is_of}
 use Rattle.sign_core.proofs.Follow.{key_stays as key_of_front, moved_means, none_moved}
 use Rattle.sign_core.proofs.Illegal.{legal_from_none, none_from_legal}
 use Rattle.sign_core.proofs.Lists.{slice_get_stays, take_with_next}
@@ -476,8 +476,8 @@ migrated_has P state fate was each = by (key_in state.records) refl
     by : (found : Option Key) → key_in state.records ≡ found → P (migrated_under state fate found).records
     by None keyed = was
     by (Some key) keyed =
-        state_choice P (not state.is_open && can_move key.version) (closed_on (migrated_to state.records fate)) state
-        (λ both. each key keyed (and_parts (not state.is_open) (can_move key.version) both).1) was
+        state_choice P (can_move key.version && not state.is_open) (closed_on (migrated_to state.records fate)) state
+        (λ both. each key keyed (and_parts (can_move key.version) (not state.is_open) both).0) was
 
 pub kept_migrated : (state : State) (handed : List Handed) (fate : Migration) → IsKept state.records handed → IsKept (migrated state fate).records handed
 kept_migrated state handed fate kept =

@@ -349,8 +349,8 @@ closed_retires limit state upto fate None closed = refl
 pub once : (limit : ℕ) (world : World) → IsKept world.state.records world.handed → IsOnce limit world
 once limit world kept = record {
   signatures = record {
-    one_digest = λ x y uses others u v were. one_digest world x y uses others u v kept were;
-    one_name = λ x y uses others u v were. one_name world x y uses others u v kept were;
+    one_digest = λ x y uses others u v was too. one_digest world x y uses others u v kept was too;
+    one_name = λ x y uses others u v was too. one_name world x y uses others u v kept was too;
     one_signature = λ x y in_x in_y. one_signature world.state.records x y (kept.recorded x in_x) (kept.recorded y in_y);
     recorded = kept.recorded;
     valid = λ x there. handed_valid world x kept there;

@@ -2,6 +2,7 @@
 use Rattle.std.proofs.Common.{◌≡◌, ◌∙◌, sym, ap, ap₂, subst, ℕ, ◌<◌, inl, inr, List, Option, Some, arith}
 use Rattle.std.specs.Prelude.{Contains, slice_get}
 use Rattle.std.proofs.lemmas.Bool.{cases_order}
+use Rattle.std.proofs.lemmas.Option.{same_Some}
 use Rattle.state_file.specs.Laws.{IsLegal, Names}
 use Rattle.state_file.specs.declared.record.Bound.{Bound}
 use Rattle.state_file.specs.declared.record.Key.{Key}
@@ -11,7 +12,7 @@ use Rattle.state_file.specs.declared.record.Secret.{Secret}
 use Rattle.state_file.specs.declared.record.Secret.TheVariants.{Lms, Hss, Xmss}
 use Rattle.sign_core.specs.declared.key.AnyPublic.{AnyPublic}
 use Rattle.sign_core.specs.Records.{binding_in, key_in}
-use Rattle.sign_core.specs.Headline.{IsBoundTo, IsLast, IsOneLeaf, IsRecorded, IsValidUnder, WereHanded, public_in_world}
+use Rattle.sign_core.specs.Headline.{IsBoundTo, IsLast, IsOneLeaf, IsRecorded, IsValidUnder, WasHanded, public_in_world}
 use Rattle.sign_core.specs.Textbook.{public_of_key}
 use Rattle.sign_core.specs.Headline.{LeafUse, MakesUses}
 use Rattle.sign_core.specs.World.{Handed, World}
@@ -106,34 +107,37 @@ record AreHanded (world : World) (x y : Handed) (uses others : List LeafUse) : T
   first_uses : MakesUses public x.message (signature_at key world.state.records first.k first.bound) uses
   second_uses : MakesUses public y.message (signature_at key world.state.records second.k second.bound) others
 
-are_handed : (world : World) (x y : Handed) (uses others : List LeafUse) → IsKept world.state.records world.handed → WereHanded world x y uses others
-    → AreHanded world x y uses others
-are_handed world x y uses others kept were =
+are_handed : (world : World) (x y : Handed) (uses others : List LeafUse) → IsKept world.state.records world.handed → WasHanded world x uses
+    → WasHanded world y others → AreHanded world x y uses others
+are_handed world x y uses others kept was too =
     let records = world.state.records in
-    let is = kept.recorded x were.first in
+    let is = kept.recorded x was.handed in
     let keyed = is.is_bound.keyed in
     let sound = sound_with records world.handed is.key kept keyed in
     let first = recorded_under records is.key x keyed is in
-    let second = recorded_under records is.key y keyed (kept.recorded y were.second) in
+    let second = recorded_under records is.key y keyed (kept.recorded y too.handed) in
+    let one : too.public ≡ was.public = same_Some too.public was.public (sym too.keyed ∙ was.keyed) in
     record {
       key = is.key;
       keyed = keyed;
-      public = were.public;
-      is_public = public_under records is.key were.public keyed were.keyed;
+      public = was.public;
+      is_public = public_under records is.key was.public keyed was.keyed;
       sound = sound;
       own = legal_key records is.key sound.legal keyed;
       first = first;
       second = second;
-      first_uses = subst (λ bytes. MakesUses were.public x.message bytes uses) first.signature were.first_uses;
-      second_uses = subst (λ bytes. MakesUses were.public y.message bytes others) second.signature were.second_uses;
+      first_uses = subst (λ bytes. MakesUses was.public x.message bytes uses) first.signature was.makes;
+      second_uses =
+          subst (λ bytes. MakesUses was.public y.message bytes others) second.signature
+          (subst (λ public. MakesUses public y.message y.signature others) one too.makes);
     }
 
 pub one_digest : (world : World) (x y : Handed) (uses others : List LeafUse) (u v : LeafUse) → IsKept world.state.records world.handed
-    → WereHanded world x y uses others
+    → WasHanded world x uses → WasHanded world y others
     → Contains uses u → Contains others v → IsOneLeaf u v → u.digest ≡ v.digest
-one_digest world x y uses others u v kept were in_uses in_others one =
+one_digest world x y uses others u v kept was too in_uses in_others one =
     let records = world.state.records in
-    let are = are_handed world x y uses others kept were in
+    let are = are_handed world x y uses others kept was too in
     let (p, of_u) = use_recorded records are.key x.name x.message are.first.k are.first.bound are.public uses u are.sound kept.sizes are.first.is_bound
     are.is_public
     are.first_uses in_uses in
@@ -156,11 +160,11 @@ one_bound records name other j k a b same first second =
     bound_of one = cc
 
 pub one_name : (world : World) (x y : Handed) (uses others : List LeafUse) (u v : LeafUse) → IsKept world.state.records world.handed
-    → WereHanded world x y uses others
+    → WasHanded world x uses → WasHanded world y others
     → IsLast u uses → IsLast v others → IsOneLeaf u v → x.name ≡ y.name
-one_name world x y uses others u v kept were last_u last_v one =
+one_name world x y uses others u v kept was too last_u last_v one =
     let records = world.state.records in
-    let are = are_handed world x y uses others kept were in
+    let are = are_handed world x y uses others kept was too in
     let of_u = last_recorded records are.key x.name x.message are.first.k are.first.bound are.public uses u are.sound kept.sizes are.first.is_bound
     are.is_public
     are.first_uses last_u in

@@ -19,7 +19,7 @@ use Rattle.sign_core.specs.declared.fault.SignFault.TheVariants.{RandomRepeated,
 use Rattle.sign_core.specs.declared.fault.SignFault.TheVariants.{Moved as MovedAway}
 use Rattle.sign_core.specs.Records.{are_same, binding_in, deepest, first_illegal, free_at, has_identifier, has_moved, has_randomizer, key_in, is_long, can_move}
 use Rattle.sign_core.specs.Records.{leaves_of_current, next_at, wanted_count}
-use Rattle.sign_core.specs.Events.{AllEvents, AreDraws, AreFields, IsEvent, IsTreeDraw, tree_sizes}
+use Rattle.sign_core.specs.Events.{AllEvents, AreDraws, AreFields, IsEvent, tree_sizes}
 use Rattle.sign_core.specs.Headline.{IsBoundTo, IsValidUnder}
 use Rattle.sign_core.specs.Textbook.{public_of_key}
 use Rattle.sign_core.specs.Openings.{Reopens}
@@ -27,7 +27,7 @@ use Rattle.sign_core.specs.Opened.{AreWellFormed, IsValidOver, OpenedLaw}
 use Rattle.sign_core.specs.World.{Chance, Creation, Draw, Event, Fate, Handed, Opening, Outcome, State, World, acked, after, appended}
 use Rattle.sign_core.specs.World.{create, cut_new, cut_old, drawing}
 use Rattle.sign_core.specs.inner.Cases.{begun, bound_anew, bound_sound, bound_with, created_after, extended, extended_by, extended_with}
-use Rattle.sign_core.specs.World.{first_draw, handed_with, new_bound, no_memory, open_on}
+use Rattle.sign_core.specs.World.{first_draw, handed_with, no_memory, open_on}
 use Rattle.sign_core.specs.inner.Cases.{bound_below, opened_by, opened_on, published}
 use Rattle.sign_core.specs.World.{randomizer_from, refused, reopen, request, requested, retire}
 use Rattle.sign_core.specs.inner.Cases.{repeated, repeated_sound, requested_of, requested_under}
@@ -51,6 +51,7 @@ use Rattle.sign_core.proofs.Sizes.{key_has_sizes, public_made, randomizer_size}
 use Rattle.sign_core.proofs.SoundChains.{AreOf, IsStanding, bound_stands, extend_stands, of_grown}
 use Rattle.sign_core.proofs.Stays.{some_keyed}
 use Rattle.sign_core.proofs.Valid.{checked}
+use Rattle.sign_core.proofs.Found.{IsTreeDraw, new_bound}
 
 pub of_key : (records : List Record) → AreWellFormed records → (key : Key) × AreOf key records
 of_key records are =

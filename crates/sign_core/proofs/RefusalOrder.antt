@@ -20,13 +20,12 @@ use Rattle.sign_core.specs.declared.key.AnyPublic.{AnyPublic}
 use Rattle.sign_core.specs.declared.fault.SignFault.{SignFault}
 use Rattle.sign_core.specs.declared.fault.SignFault.TheVariants.{Changed, Damaged, Exhausted, Illegal, KeyThere, LedgerFull, MessageRead, Moved, NoKey, LongName}
 use Rattle.sign_core.specs.declared.fault.SignFault.TheVariants.{OutOfMemory, RandomFailed, RandomRepeated, RetireRange, Stopped, StoreFailed}
-use Rattle.sign_core.specs.Records.{are_same, binding_in, deepest, first_illegal, has_identifier, has_moved, is_of, key_in, leaves_of_current, next_at, is_long}
+use Rattle.sign_core.specs.Records.{are_same, binding_in, deepest, first_illegal, has_identifier, has_moved, key_in, leaves_of_current, next_at, is_long}
 use Rattle.sign_core.specs.Records.{wanted_count}
 use Rattle.sign_core.specs.Textbook.{AllHaveSizes, Trees, damaged_in, digest_at, lms_secret, public_in, signature_at, tree_before, trees_of}
-use Rattle.sign_core.specs.Events.{AreDrawsOf, AreFields, IsTreeDraw, key_sizes, randomizer_sizes, tree_sizes}
+use Rattle.sign_core.specs.Events.{AreDrawsOf, AreFields, key_sizes, randomizer_sizes, tree_sizes}
 use Rattle.sign_core.specs.World.{Chance, Creation, Draw, Fate, Opening, Outcome, State, acked, answered, appended, drawing}
 use Rattle.sign_core.specs.inner.Cases.{begun, bound_anew, bound_sound, bound_with}
-use Rattle.sign_core.specs.World.{new_bound}
 use Rattle.sign_core.specs.World.{cut_new, cut_old, extend_record, first_draw}
 use Rattle.sign_core.specs.inner.Cases.{created_after, extended, extended_by, extended_with, bound_below}
 use Rattle.sign_core.specs.World.{no_memory, open_on, randomizer_from, refused}
@@ -36,7 +35,7 @@ use Rattle.sign_core.specs.inner.Cases.{requested_of, requested_under, retired_u
 use Rattle.sign_core.specs.RefusalOrder.{AfterAppend, BeginsWith, IsIllegalFirst, IsUnsound, Of, RefusalLaw, RefuseAlike, RefusesAt}
 use Rattle.sign_core.specs.RefusalOrder.{RefusesCreate, RefusesName, RefusesNew, RefusesOpening, RefusesRecord, RefusesRepeat, RefusesRequest}
 use Rattle.sign_core.specs.RefusalOrder.{RefusesRetire, RefusesTree, RefusesWanted, Unless, WhereOpen}
-use Rattle.sign_core.proofs.Bindings.{identifier_appended, identifier_stands, stands_identifier}
+use Rattle.sign_core.proofs.Bindings.{identifier_appended, identifier_stands, is_of, stands_identifier}
 use Rattle.sign_core.proofs.Illegal.{legal_from_none}
 use Rattle.sign_core.proofs.Leaves.{deepest_is, none_free}
 use Rattle.sign_core.proofs.Requests.{first_drawn, later_drawn}
@@ -44,6 +43,7 @@ use Rattle.sign_core.proofs.Sizes.{key_has_sizes, public_made, secret_sizes}
 use Rattle.sign_core.proofs.Lists.{slice_get_new}
 use Rattle.sign_core.proofs.Stays.{old_or_new}
 use Rattle.state_file.specs.Slot.{name_most}
+use Rattle.sign_core.proofs.Found.{IsTreeDraw, new_bound}
 
 some_not_none : {A : Type 0} (x : A) → Some x ≡ None → ⊥
 some_not_none x is = absurd (cc)

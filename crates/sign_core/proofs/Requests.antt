@@ -22,15 +22,15 @@ use Rattle.sign_core.specs.declared.fault.SignFault.TheVariants.{RandomRepeated,
 use Rattle.sign_core.specs.declared.fault.SignFault.TheVariants.{Moved as MovedAway}
 use Rattle.sign_core.specs.Records.{are_same, binding_in, can_follow, current, deepest, free_at, has_identifier, has_moved, has_randomizer, is_long}
 use Rattle.sign_core.specs.Records.{is_free, key_in, next_at, next_in}
-use Rattle.sign_core.proofs.Found.{next_of}
+use Rattle.sign_core.proofs.Found.{IsTreeDraw, new_bound, next_of}
 use Rattle.sign_core.specs.Records.{wanted_count}
-use Rattle.sign_core.specs.Events.{AreDraws, AreFields, IsTreeDraw, tree_sizes}
+use Rattle.sign_core.specs.Events.{AreDraws, AreFields, tree_sizes}
 use Rattle.sign_core.specs.Headline.{IsBoundTo, IsRecorded}
 use Rattle.sign_core.specs.World.{Chance, Draw, Fate, Handed, Outcome, State, extend_record}
 use Rattle.sign_core.specs.inner.Cases.{bound_anew, bound_sound, bound_with, extended}
 use Rattle.sign_core.specs.World.{first_draw}
 use Rattle.sign_core.specs.inner.Cases.{extended_by, extended_with, bound_below}
-use Rattle.sign_core.specs.World.{new_bound, open_on, randomizer_from, requested}
+use Rattle.sign_core.specs.World.{open_on, randomizer_from, requested}
 use Rattle.sign_core.specs.inner.Cases.{repeated, repeated_sound, requested_of, requested_under}
 use Rattle.sign_core.specs.Textbook.{HasSizes, Trees, damaged_in, digest_at, is_sound_extend, lms_secret, secret_at, signature_at, tree_before, trees_of}
 use Rattle.sign_core.proofs.Append.{current_new, next_new, some_leaves}

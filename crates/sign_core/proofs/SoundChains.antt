@@ -11,7 +11,7 @@ use Rattle.state_file.specs.declared.record.Record.TheVariants.{Bound as BoundRe
 use Rattle.sign_core.specs.Records.{binding_in, can_follow, current, free_at, has_identifier, has_moved, has_randomizer, key_in, next_at}
 use Rattle.sign_core.specs.Events.{AreFields, tree_sizes}
 use Rattle.sign_core.specs.Headline.{IsBoundTo}
-use Rattle.sign_core.specs.World.{extend_record, new_bound}
+use Rattle.sign_core.specs.World.{extend_record}
 use Rattle.sign_core.specs.Textbook.{AllHaveSizes, HasSizes, Trees, chain, damaged_in, is_sound_at, is_sound_extend, is_sound_record}
 use Rattle.sign_core.specs.Textbook.{lms_secret, tree_before, trees_of}
 use Rattle.sign_core.proofs.Append.{current_new, next_new}
@@ -22,6 +22,7 @@ use Rattle.sign_core.proofs.Lists.{slice_get_new}
 use Rattle.sign_core.proofs.Requests.{bound_can, extend_can, extend_of, extend_sizes, extend_sound, free_anew, free_current, free_named}
 use Rattle.sign_core.proofs.Sizes.{digest_size, key_has_sizes}
 use Rattle.sign_core.proofs.Stays.{before_stays, digest_stays, key_stays, last_is, old_or_new, record_stays, some_keyed, sound_stays, tree_low}
+use Rattle.sign_core.proofs.Found.{new_bound}
 
 -- The key's records are legal, and their parts have their sizes.
 pub record AreOf (key : Key) (records : List Record) : Type 0 where

@@ -26,8 +26,8 @@ use Rattle.sign_core.specs.inner.Cases.{published}
 use Rattle.sign_core.specs.World.{refused, secret_from}
 use Rattle.sign_core.specs.inner.Cases.{repeated, repeated_sound, requested_of, requested_under, retired_under}
 use Rattle.sign_core.specs.Cuts.{IsBeginning, IsLeftBy, StopLaw, reached}
-use Rattle.sign_core.specs.Events.{IsTreeDraw}
 use Rattle.sign_core.specs.World.{World, create, handed_with, request, requested, retire, retired, stop}
+use Rattle.sign_core.proofs.Found.{IsTreeDraw}
 
 -- the append was cut, and left these records
 abbrev pub IsCutAt : {A : Type 0} → Outcome A → (left : List Record) → Type 0

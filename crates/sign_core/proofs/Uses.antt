@@ -17,8 +17,7 @@ use Rattle.lms.specs.Signature.{Signature as LmsSignature, signature as lms_sign
 use Rattle.lms.specs.Secret.{public_of as lms_public_of}
 use Rattle.lms.specs.Writing.{signature_bytes as lms_signature_bytes, textbook as lms_textbook}
 use Rattle.lms.proofs.OneWay.{one_way-signature as lms_one_way}
-use Rattle.xmss.specs.Signature.{Signature as XmssSignature, signature as xmss_signature}
-use Rattle.xmss.specs.Digest.{message_digest_of as m_of}
+use Rattle.xmss.specs.Signature.{signature as xmss_signature}
 use Rattle.xmss.specs.Writing.{public_bytes as xmss_public_bytes, signature_bytes as xmss_signature_bytes, textbook as xmss_textbook}
 use Rattle.xmss.specs.declared.key.XmssPublic.{XmssPublic}
 use Rattle.xmss.proofs.OneWay.{one_way-signature as xmss_one_way}
@@ -42,7 +41,7 @@ use Rattle.sign_core.specs.declared.key.AnyPublic.{AnyPublic}
 use Rattle.sign_core.specs.declared.key.AnyPublic.TheVariants.{Lms as AnyLms, Hss as AnyHss, Xmss as AnyXmss}
 use Rattle.sign_core.specs.Records.{current}
 use Rattle.sign_core.specs.Headline.{IsBoundTo, IsLast}
-use Rattle.sign_core.specs.Headline.{LeafUse, MakesUses, lms_use}
+use Rattle.sign_core.specs.Headline.{LeafUse, MakesUses, lms_use, xmss_use}
 use Rattle.sign_core.specs.Textbook.{AllHaveSizes, AreSound, Trees, damaged_in, lms_public_in, public_by, public_in, secret_at, secret_by}
 use Rattle.sign_core.specs.Textbook.{signature_at, signing_of_bound, signings_above, tree_before}
 use Rattle.sign_core.proofs.Chains.{SignsNext, current_made}
@@ -132,16 +131,12 @@ lms_uses records version secret root message k bound uses is (s, spelled, are) =
 
 -- ---- XMSS
 
-xmss_use : XmssPublic → (message : List ℕ) → XmssSignature → LeafUse
-xmss_use key message s = record { identifier = xmss_public_bytes key; leaf = s.index; digest = m_of s.randomizer key.root s.index message }
-
 xmss_uses : (records : List Record) (version : Version) (secret : XmssSecret) (root message : List ℕ) (k : ℕ) (bound : Bound)
     (uses : List LeafUse)
     → IsSoundlyBound records (key_with version (Xmss secret) root) message k bound
     → MakesUses (AnyXmss (record { tree = secret.tree; root = root; seed = secret.public_seed })) message
     (signature_at (key_with version (Xmss secret) root) records k bound) uses
     → AreUsesOf (key_with version (Xmss secret) root) records k uses
-unfolding xmss_use
 xmss_uses records version secret root message k bound uses is (s, spelled, are) =
     let key = key_with version (Xmss secret) root in
     let public : XmssPublic = record { tree = secret.tree; root = root; seed = secret.public_seed } in
@@ -161,7 +156,6 @@ xmss_uses records version secret root message k bound uses is (s, spelled, are) 
 -- its tree is named by the public key
 pub xmss_named : (public : XmssPublic) (message bytes : List ℕ) (uses : List LeafUse) (u : LeafUse) → MakesUses (AnyXmss public) message bytes uses
     → Contains uses u → u.identifier ≡ xmss_public_bytes public
-unfolding xmss_use
 xmss_named public message bytes uses u (s, spelled, are) (i, inside, at) =
     let only : get_or (xmss_use public message s ∷ []) i u ≡ u = ap (λ us. get_or us i u) (sym are) ∙ at in
     let first : i ≡ 0 = omega (arith, inside, ap length are) in

@@ -1,6 +1,6 @@
 -- Which events can come, by what may be drawn in them.
 use Rattle.std.specs.Prelude.{◌≡◌, ℕ, List, [], ◌∷◌, length}
-use Rattle.typecodes.specs.declared.spec.Spec.TheVariants.{Lms, Hss, Xmss}
+use Rattle.typecodes.specs.declared.spec.Spec.TheVariants.{Xmss}
 use Rattle.std.specs.List.{AllByRecursion}
 use Rattle.typecodes.specs.declared.spec.Spec.{Spec}
 use Rattle.typecodes.specs.Spec.{IsSpec}
@@ -8,7 +8,7 @@ use Rattle.typecodes.specs.Name.{IsName}
 use Rattle.typecodes.specs.Layout.{AreBytes}
 use Rattle.state_file.specs.declared.record.Secret.{Secret}
 use Rattle.state_file.specs.declared.record.Secret.TheVariants.{Lms as LmsSecret, Hss as HssSecret, Xmss as XmssSecret}
-use Rattle.sign_core.specs.World.{Chance, Draw, Event, create, request}
+use Rattle.sign_core.specs.World.{Chance, Event, create, request}
 
 -- the fields of a draw have their sizes in bytes; the last of them may be missing
 abbrev pub AreFields : (sizes : List ℕ) → (fields : List (List ℕ)) → Type 0
@@ -18,16 +18,12 @@ AreFields (size ∷ sizes) (field ∷ fields) = (length field ≡ size) × AreBy
 
 -- what a create draws: I and SEED, or the three seeds of XMSS
 abbrev pub key_sizes : Spec → List ℕ
-key_sizes (Lms pair) = 16 ∷ 32 ∷ []
-key_sizes (Hss levels) = 16 ∷ 32 ∷ []
 key_sizes (Xmss tree) = 32 ∷ 32 ∷ 32 ∷ []
+key_sizes _ = 16 ∷ 32 ∷ []
 
 -- what a new tree draws: I, SEED and C
 abbrev pub tree_sizes : List ℕ
 tree_sizes = 16 ∷ 32 ∷ 32 ∷ []
-
-abbrev pub IsTreeDraw : Draw → Type 0
-IsTreeDraw draw = AreFields tree_sizes draw.fields
 
 -- what a binding draws: C, but nothing for XMSS
 abbrev pub randomizer_sizes : Secret → List ℕ
@@ -37,12 +33,12 @@ randomizer_sizes (XmssSecret secret) = []
 
 -- A request's draws: for each new tree, and C for the binding.
 pub record AreDraws (chance : Chance) : Type 0 where
-  pub trees : AllByRecursion IsTreeDraw chance.trees
+  pub trees : AllByRecursion (λ draw. AreFields tree_sizes draw.fields) chance.trees
   pub bound : AreFields (32 ∷ []) chance.bound.fields
 
 -- A request's draws under a key: as `AreDraws`, but for XMSS no C.
 pub record AreDrawsOf (secret : Secret) (chance : Chance) : Type 0 where
-  pub trees : AllByRecursion IsTreeDraw chance.trees
+  pub trees : AllByRecursion (λ draw. AreFields tree_sizes draw.fields) chance.trees
   pub bound : AreFields (randomizer_sizes secret) chance.bound.fields
 
 abbrev pub IsEvent : Event → Type 0

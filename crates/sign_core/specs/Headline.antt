@@ -2,13 +2,12 @@
 use Rattle.std.specs.Prelude.{◌≡◌, ℕ, ◌+◌, List, [], ◌∷◌, ◌++◌, Contains, length, map, Option, Some}
 use Rattle.std.specs.List.{range_with_len}
 use Rattle.typecodes.specs.Layout.{Spells}
-use Rattle.lmots.specs.Key.{message_digest_of as q_of}
 use Rattle.lms.specs.declared.key.LmsPublic.{LmsPublic}
 use Rattle.lms.specs.Signature.{Signature as LmsSignature, signature as lms_signature}
-use Rattle.lms.specs.Verification.{IsValid as IsLmsValid}
-use Rattle.xmss.specs.Digest.{message_digest_of as m_of}
+use Rattle.lms.specs.Verification.{IsValid as IsLmsValid, digest_of as lms_digest_of}
+use Rattle.xmss.specs.declared.key.XmssPublic.{XmssPublic}
 use Rattle.xmss.specs.Signature.{Signature as XmssSignature, signature as xmss_signature}
-use Rattle.xmss.specs.Verification.{IsValid as IsXmssValid}
+use Rattle.xmss.specs.Verification.{IsValid as IsXmssValid, digest_of as xmss_digest_of}
 use Rattle.xmss.specs.Writing.{public_bytes as xmss_public_bytes}
 use Rattle.hss.specs.Signature.{Signature as HssSignature, signature as hss_signature}
 use Rattle.hss.specs.Signature.{key_at, message_at, signature_at as hss_signature_at}
@@ -32,8 +31,11 @@ pub record LeafUse : Type 0 where
   pub digest : List ℕ
 
 abbrev pub lms_use : LmsPublic → (message : List ℕ) → LmsSignature → LeafUse
-lms_use key message s =
-    record { identifier = key.identifier; leaf = s.q; digest = q_of key.identifier s.q s.randomizer message }
+lms_use key message s = record { identifier = key.identifier; leaf = s.q; digest = lms_digest_of key message s }
+
+abbrev pub xmss_use : XmssPublic → (message : List ℕ) → XmssSignature → LeafUse
+xmss_use key message s =
+    record { identifier = xmss_public_bytes key; leaf = s.index; digest = xmss_digest_of key message s }
 
 -- The signature of these bytes makes these uses: one at each level, from the top down.
 abbrev pub MakesUses : AnyPublic → (message bytes : List ℕ) → List LeafUse → Type 0
@@ -44,12 +46,7 @@ MakesUses (Hss key) message bytes uses =
     × (uses ≡ map (λ i. lms_use (key_at key.top s i) (message_at message s i) (hss_signature_at s i))
     (range_with_len 0 (length s.signed + 1)))
 MakesUses (Xmss key) message bytes uses =
-    (s : XmssSignature) × Spells (xmss_signature key.tree) s bytes
-    × (uses ≡ record {
-      identifier = xmss_public_bytes key;
-      leaf = s.index;
-      digest = m_of s.randomizer key.root s.index message;
-    } ∷ [])
+    (s : XmssSignature) × Spells (xmss_signature key.tree) s bytes × (uses ≡ xmss_use key message s ∷ [])
 
 -- ---- what was handed out
 
@@ -79,14 +76,12 @@ pub record IsRecorded (records : List Record) (x : Handed) : Type 0 where
 abbrev pub public_in_world : World → Option AnyPublic
 public_in_world world = public_of_key (key_in world.state.records)
 
--- Two signatures were handed out, and by their bytes they make these uses.
-pub record WereHanded (world : World) (x y : Handed) (uses others : List LeafUse) : Type 0 where
+-- A signature was handed out, and by its bytes it makes these uses.
+pub record WasHanded (world : World) (x : Handed) (uses : List LeafUse) : Type 0 where
   pub public : AnyPublic
   pub keyed : public_in_world world ≡ Some public
-  pub first : Contains world.handed x
-  pub second : Contains world.handed y
-  pub first_uses : MakesUses public x.message x.signature uses
-  pub second_uses : MakesUses public y.message y.signature others
+  pub handed : Contains world.handed x
+  pub makes : MakesUses public x.message x.signature uses
 
 pub record IsOneLeaf (u v : LeafUse) : Type 0 where
   pub identifier : u.identifier ≡ v.identifier
@@ -100,11 +95,11 @@ IsLast u uses = (above : List LeafUse) × (uses ≡ above ++ u ∷ [])
 
 pub record SignsOnce (world : World) : Type 0 where
   -- no leaf at any level signs two digests
-  pub one_digest : (x y : Handed) (uses others : List LeafUse) (u v : LeafUse) → WereHanded world x y uses others
-      → Contains uses u → Contains others v → IsOneLeaf u v → u.digest ≡ v.digest
+  pub one_digest : (x y : Handed) (uses others : List LeafUse) (u v : LeafUse) → WasHanded world x uses
+      → WasHanded world y others → Contains uses u → Contains others v → IsOneLeaf u v → u.digest ≡ v.digest
   -- no leaf of a bottom tree signs under two names
-  pub one_name : (x y : Handed) (uses others : List LeafUse) (u v : LeafUse) → WereHanded world x y uses others
-      → IsLast u uses → IsLast v others → IsOneLeaf u v → x.name ≡ y.name
+  pub one_name : (x y : Handed) (uses others : List LeafUse) (u v : LeafUse) → WasHanded world x uses
+      → WasHanded world y others → IsLast u uses → IsLast v others → IsOneLeaf u v → x.name ≡ y.name
   -- one name has one signature
   pub one_signature : (x y : Handed) → Contains world.handed x → Contains world.handed y → x.name ≡ y.name
       → x.signature ≡ y.signature

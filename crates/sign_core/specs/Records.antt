@@ -5,6 +5,7 @@ use Rattle.std.specs.Prelude.{length, take, map, reverse, fold, max, nat_eq, nat
 use Rattle.std.specs.Prelude.{Option, Some, None, option_map, unwrap_or, if◌then◌else◌, ◌&&◌, replicate}
 use Rattle.std.specs.Cmp.Lexicographic.{pointwise}
 use Rattle.std.specs.List.{range_with_len}
+use Rattle.std.specs.Option.{option_map_or}
 use Rattle.state_file.specs.Laws.{bottom_of, has_moved, identifier_of, leaves_at, levels_of}
 pub use Rattle.state_file.specs.Laws.{has_moved, is_moved}
 use Rattle.state_file.specs.Slot.{name_most}
@@ -116,18 +117,12 @@ wanted_count secret level = levels_of secret - level
 abbrev pub are_same : List ℕ → List ℕ → Bool
 are_same a b = pointwise nat_eq a b
 
-abbrev pub binds : (name : List ℕ) → Record → Option Bound
-binds name (BoundRecord bound) = if are_same bound.name name then Some bound else None
-binds name _ = None
-
--- a name's binding with its place: the record at place k's, or else a later one
-abbrev pub or_later : (k : ℕ) → Option Bound → Option (ℕ × Bound) → Option (ℕ × Bound)
-or_later k (Some bound) later = Some (k, bound)
-or_later k None later = later
-
+-- a name's binding, with its place: of the first record from place k on that binds it
 abbrev pub bound_from : (name : List ℕ) (k : ℕ) → List Record → Option (ℕ × Bound)
 bound_from name k [] = None
-bound_from name k (entry ∷ rest) = or_later k (binds name entry) (bound_from name (k + 1) rest)
+bound_from name k (BoundRecord bound ∷ rest) =
+    if are_same bound.name name then Some (k, bound) else bound_from name (k + 1) rest
+bound_from name k (entry ∷ rest) = bound_from name (k + 1) rest
 
 -- a name's binding, with the place of its record
 abbrev pub binding_in : List Record → (name : List ℕ) → Option (ℕ × Bound)
@@ -137,12 +132,10 @@ binding_in records name = bound_from name 0 records
 abbrev pub is_long : Key → (name : List ℕ) → Bool
 is_long key name = nat_lt (name_most key.version) (length name)
 
-abbrev pub is_of : (identifier : List ℕ) → Option (List ℕ) → Bool
-is_of identifier None = false
-is_of identifier (Some other) = are_same other identifier
-
+-- whether a record brings this I
 abbrev pub has_identifier : List Record → (identifier : List ℕ) → Bool
-has_identifier records identifier = is_some (find (λ entry. is_of identifier (identifier_of entry)) records)
+has_identifier records identifier =
+    is_some (find (λ entry. option_map_or (λ own. are_same own identifier) (identifier_of entry) false) records)
 
 -- ---- which records can be added
 

@@ -1,7 +1,7 @@
 -- The textbook signature of a binding, and what is sound: functions of the records alone.
 use Rattle.std.specs.Prelude.{◌≡◌, ℕ, zero, suc, ◌-◌, Bool, true, false, not, List, [], ◌∷◌, ◌++◌, ◌&&◌}
 use Rattle.std.specs.Prelude.{length, take, find, slice_get, slice_index_or, unwrap_or}
-use Rattle.std.specs.Prelude.{Option, Some, None, option_map}
+use Rattle.std.specs.Prelude.{Option, Some, None, option_and_then, option_map}
 use Rattle.typecodes.specs.declared.types.LmsPair.{LmsPair}
 use Rattle.typecodes.specs.Levels.{AreLevels}
 use Rattle.lmots.specs.Key.{message_digest_of}
@@ -95,16 +95,14 @@ public_by (Lms secret) root = Some (AnyLms (lms_public_in secret.pair secret.ide
 public_by (Hss [] identifier seed) root = None
 public_by (Hss (pair ∷ rest) identifier seed) root =
     Some (AnyHss (record { levels = length (pair ∷ rest); top = lms_public_in pair identifier root }))
-public_by (Xmss secret) root =
-    Some (AnyXmss (record { tree = secret.tree; root = root; seed = secret.public_seed }))
+public_by (Xmss secret) root = Some (AnyXmss (record { tree = secret.tree; root = root; seed = secret.public_seed }))
 
 abbrev pub public_in : Key → Option AnyPublic
 public_in key = public_by key.secret key.root
 
 -- where there is a key
 abbrev pub public_of_key : Option Key → Option AnyPublic
-public_of_key None = None
-public_of_key (Some key) = public_in key
+public_of_key found = option_and_then public_in found
 
 -- bytes of a key's LMS trees
 abbrev pub by_trees : Secret → (Trees → List ℕ) → List ℕ
@@ -135,8 +133,7 @@ signature_by (Hss levels identifier seed) records k bound =
     let tree = tree_before bottom records k in
     by_trees (Hss levels identifier seed) (λ trees. hss_signature_bytes
     (hss_textbook (signings_above trees bottom records tree) (signing_of_bound trees records tree bound)))
-signature_by (Xmss secret) records k bound =
-    xmss_signature_bytes (xmss_textbook secret bound.leaf bound.digest)
+signature_by (Xmss secret) records k bound = xmss_signature_bytes (xmss_textbook secret bound.leaf bound.digest)
 
 abbrev pub signature_at : Key → List Record → (k : ℕ) → Bound → List ℕ
 signature_at key records k bound = signature_by key.secret records k bound

@@ -4,6 +4,7 @@ use Rattle.std.specs.Prelude.{ℕ, zero, suc, ◌+◌, ◌-◌, Bool, true, fals
 use Rattle.std.specs.Prelude.{drop, replicate, slice_index_or}
 use Rattle.std.specs.Prelude.{Option, Some, None, option_map, Result, Ok, Err, nat_le, nat_lt, if◌then◌else◌}
 use Rattle.std.specs.List.{concat}
+use Rattle.std.specs.Option.{option_map_or}
 use Rattle.typecodes.specs.declared.spec.Spec.{Spec}
 use Rattle.typecodes.specs.declared.spec.Spec.TheVariants.{Lms as LmsSpec, Hss as HssSpec, Xmss as XmssSpec}
 use Rattle.lmots.specs.Key.{message_digest_of}
@@ -303,20 +304,14 @@ randomizer_from (Xmss secret) fields = None
 randomizer_from _ (randomizer ∷ []) = Some randomizer
 randomizer_from _ _ = None
 
-abbrev pub new_bound : Key → List Record → (name : List ℕ) → (leaf : ℕ) → (randomizer message : List ℕ) → Bound
-new_bound key records name leaf randomizer message = record {
-  name = name;
-  leaf = leaf;
-  randomizer = randomizer;
-  digest = digest_at key records (length records) leaf randomizer message;
-}
-
 abbrev pub bind : Key → (name : List ℕ) → Chance → Step (List ℕ) (List ℕ)
 bind key name chance = do
   old ← the_records
   randomizer ← draw (randomizer_from key.secret chance.bound.fields) chance.bound.fields
   message ← read chance.given
-  bound ← give (new_bound key old name (next_at key.secret old (bottom_of key.secret)) randomizer message)
+  leaf ← give (next_at key.secret old (bottom_of key.secret))
+  digest ← give (digest_at key old (length old) leaf randomizer message)
+  bound ← give {A = Bound} (record { name = name; leaf = leaf; randomizer = randomizer; digest = digest })
   append (BoundRecord bound) chance.bound.fate
   records ← the_records
   give (signature_at key records (length old) bound)
@@ -384,14 +379,11 @@ migrated_to records left_alone = records
 migrated_to records sealed = with_moved records
 migrated_to records carried_over = carried records
 
-abbrev pub migrated_under : State → Migration → Option Key → State
-migrated_under state fate None = state
-migrated_under state fate (Some key) =
-    if not state.is_open && can_move key.version then closed_on (migrated_to state.records fate) else state
-
 -- A migration of records of version 1, while no signer is open. Else nothing changes.
 abbrev pub migrated : State → Migration → State
-migrated state fate = migrated_under state fate (key_in state.records)
+migrated state fate =
+    let can = option_map_or (λ key. can_move key.version) (key_in state.records) false in
+    if can && not state.is_open then closed_on (migrated_to state.records fate) else state
 
 pub data Event : Type 0 where
   create : Spec → Creation → Event

@@ -19,7 +19,7 @@ use Rattle.sign_core.specs.Textbook.{Trees, damaged_in, digest_at, lms_secret, p
 use Rattle.sign_core.specs.Textbook.{signature_at, tree_before}
 use Rattle.sign_core.specs.World.{◌>>=◌, ◌>>◌, Chance, Creation, Draw, Fate, Opening, Outcome, State, answer_if}
 use Rattle.sign_core.specs.World.{append, begin_trees, bind, draw, draw_identifier, draw_seed, event}
-use Rattle.sign_core.specs.World.{extend_record, first_refusal, give, new_bound, new_key, open_on}
+use Rattle.sign_core.specs.World.{extend_record, first_refusal, give, new_key, open_on}
 use Rattle.sign_core.specs.World.{open_signer, publish, read, refuse_if}
 use Rattle.sign_core.specs.World.{refuse_with, secret_from, sign_as, some_or, the_records}
 
@@ -119,8 +119,9 @@ abbrev pub bound_with : State → Key → (name : List ℕ) → (randomizer give
 bound_with state key name made given fate = event (do
   randomizer ← some_or RandomFailed made
   message ← read given
-  bound ← give (new_bound key state.records name (next_at key.secret state.records (bottom_of key.secret))
-      randomizer message)
+  leaf ← give (next_at key.secret state.records (bottom_of key.secret))
+  digest ← give (digest_at key state.records (length state.records) leaf randomizer message)
+  bound ← give {A = Bound} (record { name = name; leaf = leaf; randomizer = randomizer; digest = digest })
   append (BoundRecord bound) fate
   records ← the_records
   give (signature_at key records (length state.records) bound)) state

@@ -19,7 +19,7 @@ use Rattle.sign_core.specs.declared.signer.bind.TreeSeeds.{TreeSeeds}
 use Rattle.sign_core.specs.Source.{Provides}
 use Rattle.sign_core.specs.Records.{binding_in, free_at, has_identifier, has_moved, has_randomizer, is_long, key_in}
 use Rattle.sign_core.specs.inner.Links.{signings_of}
-use Rattle.sign_core.specs.Events.{AreFields, IsTreeDraw, randomizer_sizes, tree_sizes}
+use Rattle.sign_core.specs.Events.{AreFields, randomizer_sizes, tree_sizes}
 use Rattle.sign_core.specs.Signer.{Ends, IsRead, LacksTree, RefusesAfterDraws, UnlessAppended}
 use Rattle.sign_core.specs.Signer.{UsesMemory, View, is_before_draws, is_before_repeat, is_fault}
 use Rattle.sign_core.specs.Signer.{is_random_failed, signature_size}
@@ -118,7 +118,7 @@ pub record Extends {S R : Type 0} (g : store.Ghosts S) (r : source.Ghosts R) (le
   pub outcome : Outcome (List ℕ)
   pub step : extended (open_on old.records) key level (trees_of key.secret) draw
       (λ records. answered (open_on records) []) ≡ outcome
-  pub possible : IsTreeDraw draw
+  pub possible : AreFields tree_sizes draw.fields
   pub ends : Ends g old new outcome answer
   pub source : Provides (r.upcoming old.random) outcome.drawn (r.upcoming new.random)
   pub failures : Counts is_random_failed (r.failures old.random) (r.failures new.random) answer
@@ -137,7 +137,7 @@ pub record BindsBelow {S R M : Type 0} (g : store.Ghosts S) (r : source.Ghosts R
   pub step : (all : List Draw)
       → bound_below key name (record { has_room = true; trees = all; bound = bound; given = given }) below trees
       old.records ≡ outcome
-  pub trees_possible : AllByRecursion IsTreeDraw trees
+  pub trees_possible : AllByRecursion (λ (draw : Draw). AreFields tree_sizes draw.fields) trees
   pub bound_possible : AreFields (randomizer_sizes key.secret) bound.fields
   pub does : Does g r m old new before after given outcome answer
   pub not_before_draws : is_fault is_before_draws answer ≡ false
