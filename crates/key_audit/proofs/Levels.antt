@@ -15,9 +15,9 @@ use Rattle.sign_core.specs.declared.key.AnyPublic.{AnyPublic}
 use Rattle.sign_core.specs.declared.key.AnyPublic.TheVariants.{Lms, Hss, Xmss}
 use Rattle.sign_core.specs.Once.{IsValidUnder}
 use Rattle.hss.specs.Signature.{Signature, key_at, level_count, message_at, signature as hss_signature, signature_at}
-use Rattle.sign_core.specs.Uses.{LeafUse as Use, lms_use}
+use Rattle.sign_core.specs.Uses.{LeafUse as Use, lms_use, xmss_use}
 use Rattle.key_audit.specs.declared.uses.LeafUse.{LeafUse}
-use Rattle.key_audit.specs.inner.Uses.{AreUsesOf, hss_use_at, kept_use, xmss_use}
+use Rattle.key_audit.specs.inner.Uses.{AreUsesOf, hss_use_at, kept_use}
 
 -- The uses of the levels above `level`, and its key.
 pub record AreAbove (top : LmsPublic) (message : List ℕ) (s : Signature) (level : ℕ) (uses : List LeafUse) (key : LmsPublic) : Type 0 where

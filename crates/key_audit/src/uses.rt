@@ -8,7 +8,8 @@ ghost use Rattle.lms.specs.View.{signature_of as lms_signature_of};
 ghost use Rattle.hss.specs.Signature.{level_count};
 ghost use Rattle.hss.specs.View.{signature_of as hss_signature_of};
 ghost use Rattle.xmss.specs.View.{signature_of as xmss_signature_of};
-ghost use Rattle.key_audit.specs.inner.Uses.{AreUsesOf, hss_use_at, kept_use, xmss_use};
+ghost use Rattle.sign_core.specs.Uses.{xmss_use};
+ghost use Rattle.key_audit.specs.inner.Uses.{AreUsesOf, hss_use_at, kept_use};
 
 use crate::leaf::Leaf;
 use arrayvec::ArrayVec;

@@ -7,13 +7,13 @@ use Rattle.lmots.specs.Key.{signed_values}
 use Rattle.lms.specs.declared.key.LmsPublic.{LmsPublic}
 use Rattle.typecodes.specs.declared.secret.LmsSecret.{LmsSecret}
 use Rattle.lms.specs.Secret.{path_in}
-use Rattle.lms.specs.Signature.{Signature}
+use Rattle.lms.specs.Signature.{Signature, signature_with}
 
 -- the signature of the digest Q by leaf q, with the randomizer C and a path
 abbrev pub signed : LmsSecret → ℕ → List ℕ → List ℕ → List (List ℕ) → Signature
 signed secret q randomizer digest path =
     let chains = signed_values secret.identifier q secret.pair.ots secret.seed digest in
-    record { pair = secret.pair; q = q; randomizer = randomizer; chains = chains; path = path }
+    signature_with secret.pair q randomizer chains path
 
 -- The textbook signature: it has the path of leaf q.
 abbrev pub textbook : LmsSecret → ℕ → List ℕ → List ℕ → Signature

@@ -1,4 +1,4 @@
--- Words for what the specifications say without one, of what was found or wasn't.
+-- Names that proofs give to parts of the specifications.
 use Rattle.std.specs.Prelude.{ℕ, List, [], length, false, not, ◌&&◌, Option, option_map, unwrap_or, if◌then◌else◌}
 use Rattle.std.specs.Option.{option_map_or}
 use Rattle.lmots.specs.Key.{message_digest_of}
@@ -9,8 +9,9 @@ use Rattle.state_file.specs.declared.record.Record.{Record}
 use Rattle.state_file.specs.declared.record.Secret.{Secret}
 use Rattle.sign_core.specs.Events.{AreFields, tree_sizes}
 use Rattle.sign_core.specs.Records.{can_move, next_in}
-use Rattle.sign_core.specs.Textbook.{Trees, digest_at, secret_at, signing_of_bound, signings_above}
+use Rattle.sign_core.specs.Textbook.{Trees, digest_at, secret_at, signings_above}
 use Rattle.sign_core.specs.World.{Draw, Migration, State, closed_on, migrated_to}
+use Rattle.sign_core.specs.inner.Links.{signing_of_bound}
 
 abbrev pub next_of : Secret → List Record → (tree : Option ℕ) → ℕ
 next_of secret records tree = unwrap_or (option_map (next_in secret records) tree) 0

@@ -21,7 +21,7 @@ use Rattle.sign_core.specs.declared.fault.SignFault.{SignFault}
 use Rattle.sign_core.specs.declared.fault.SignFault.TheVariants.{Changed, Damaged, MessageRead, OutOfMemory}
 use Rattle.sign_core.specs.declared.ledger.Binding.{Binding}
 use Rattle.sign_core.specs.declared.links.Link.{Link}
-use Rattle.sign_core.specs.inner.Links.{AreMade, IsTreeAt, signing_of_link, signings_of}
+use Rattle.sign_core.specs.inner.Links.{AreMade, IsTreeAt, signing_of_link, signings_of, signing_of_bound}
 use Rattle.sign_core.specs.Records.{are_same, binding_in, key_in}
 use Rattle.sign_core.specs.Caches.{Cached, LacksCache}
 use Rattle.sign_core.specs.Signer.{View, is_before_repeat, is_fault, signature_size, state_of}
@@ -30,7 +30,7 @@ use Rattle.sign_core.specs.Signing.{IsXmssKey, answered_with}
 use Rattle.sign_core.specs.Ledger.{kept_of}
 use Rattle.sign_core.specs.World.{Outcome, State, refused}
 use Rattle.sign_core.specs.inner.Cases.{repeated_sound, requested_of}
-use Rattle.sign_core.specs.Textbook.{Trees, damaged_in, digest_at, secret_at, signature_at, signing_of_bound, signing_with, signings_above, tree_before, trees_of}
+use Rattle.sign_core.specs.Textbook.{Trees, damaged_in, digest_at, secret_at, signature_at, signing_with, signings_above, tree_before, trees_of}
 use Rattle.sign_core.proofs.Bindings.{binding_stands}
 use Rattle.sign_core.proofs.Refusals.{never_such}
 use Rattle.sign_core.proofs.ChainParts.{bound_tree, key_chain, xmss_damaged, xmss_leaf_inside, xmss_signed}

@@ -22,8 +22,9 @@ use Rattle.state_file.specs.declared.record.Key.{Key}
 use Rattle.state_file.specs.declared.record.Record.{Record}
 use Rattle.state_file.specs.declared.record.Record.TheVariants.{Key as KeyRecord, Extend as ExtendRecord, Bound as BoundRecord}
 use Rattle.sign_core.specs.Records.{current}
-use Rattle.sign_core.specs.Textbook.{AllHaveSizes, Trees, secret_at, secret_by, signing_of_bound, trees_of}
+use Rattle.sign_core.specs.Textbook.{AllHaveSizes, Trees, secret_at, secret_by, trees_of}
 use Rattle.sign_core.proofs.Chains.{AreChained, SignsNext, chained, current_made}
+use Rattle.sign_core.specs.inner.Links.{signing_of_bound}
 
 -- ---- what the levels of a textbook signature sign
 

@@ -43,11 +43,12 @@ use Rattle.sign_core.specs.Records.{current}
 use Rattle.sign_core.specs.Headline.{IsBoundTo, IsLast}
 use Rattle.sign_core.specs.Headline.{LeafUse, MakesUses, lms_use, xmss_use}
 use Rattle.sign_core.specs.Textbook.{AllHaveSizes, AreSound, Trees, damaged_in, lms_public_in, public_by, public_in, secret_at, secret_by}
-use Rattle.sign_core.specs.Textbook.{signature_at, signing_of_bound, signings_above, tree_before}
+use Rattle.sign_core.specs.Textbook.{signature_at, signings_above, tree_before}
 use Rattle.sign_core.proofs.Chains.{SignsNext, current_made}
 use Rattle.sign_core.proofs.TreeSteps.{current_before}
 use Rattle.sign_core.proofs.Valid.{AreLevelsOf, IsSoundlyBound, hss_levels, hss_trees, key_with, soundly_bound, undamaged}
 use Rattle.sign_core.proofs.TextbookSpelling.{textbook_spelled}
+use Rattle.sign_core.specs.inner.Links.{signing_of_bound}
 
 -- ---- uses and records
 

@@ -38,7 +38,7 @@ use Rattle.sign_core.specs.Records.{current, key_in}
 use Rattle.sign_core.specs.Headline.{IsBoundTo, IsValidUnder}
 use Rattle.sign_core.specs.Key.{KeyVerdict}
 use Rattle.sign_core.specs.Textbook.{AllHaveSizes, AreSound, Trees, chain, damaged_in, digest_at, is_sound_at, is_sound_record, lms_public_in}
-use Rattle.sign_core.specs.Textbook.{lms_secret, public_by, public_in, root_by, signature_at, signing_of_bound, signings_above, tree_before}
+use Rattle.sign_core.specs.Textbook.{lms_secret, public_by, public_in, root_by, signature_at, signings_above, tree_before}
 use Rattle.sign_core.proofs.Bindings.{binding_stands}
 use Rattle.sign_core.proofs.Keys.{key_stands, legal_key}
 use Rattle.sign_core.proofs.TreeSteps.{before_current}
@@ -46,6 +46,7 @@ use Rattle.sign_core.proofs.Chains.{AreChained, chained, current_made, none_of_b
 use Rattle.sign_core.proofs.Textbook.{HasTrees, bound_sized, chain_signs, link_sized}
 use Rattle.sign_core.proofs.TextbookSpelling.{textbook_spelled}
 use Rattle.xmss.proofs.TextbookBytes.{textbook_spelled as xmss_textbook_spelled}
+use Rattle.sign_core.specs.inner.Links.{signing_of_bound}
 
 -- ---- what is known of a binding
 

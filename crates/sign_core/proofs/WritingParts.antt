@@ -22,10 +22,10 @@ use Rattle.state_file.specs.declared.record.Secret.{Secret}
 use Rattle.state_file.specs.declared.record.Secret.TheVariants.{Lms, Hss, Xmss}
 use Rattle.sign_core.specs.declared.links.Link.{Link}
 use Rattle.sign_core.specs.Records.{key_in}
-use Rattle.sign_core.specs.inner.Links.{IsTreeAt, signing_of_link, signings_of}
+use Rattle.sign_core.specs.inner.Links.{IsTreeAt, signing_of_link, signings_of, signing_of_bound}
 use Rattle.sign_core.specs.inner.Signing.{WritesChain, pairs_of as link_pairs}
 use Rattle.sign_core.specs.inner.Writing.{AreLevelsOf, IsLevelOf, chain_bytes, types_by, types_of}
-use Rattle.sign_core.specs.Textbook.{Trees, secret_at, secret_by, signature_at, signature_by, signing_by, signing_of_bound}
+use Rattle.sign_core.specs.Textbook.{Trees, secret_at, secret_by, signature_at, signature_by, signing_by}
 use Rattle.sign_core.specs.Textbook.{signings_above, tree_before, trees_of}
 use Rattle.sign_core.proofs.Chains.{got_in-take, named_by}
 use Rattle.sign_core.proofs.Keys.{key_stands}

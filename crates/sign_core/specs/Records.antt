@@ -117,7 +117,7 @@ wanted_count secret level = levels_of secret - level
 abbrev pub are_same : List ℕ → List ℕ → Bool
 are_same a b = pointwise nat_eq a b
 
--- a name's binding, with its place: of the first record from place k on that binds it
+-- a name's binding in records that begin at place k: the first that binds it, with its place
 abbrev pub bound_from : (name : List ℕ) (k : ℕ) → List Record → Option (ℕ × Bound)
 bound_from name k [] = None
 bound_from name k (BoundRecord bound ∷ rest) =
@@ -132,7 +132,7 @@ binding_in records name = bound_from name 0 records
 abbrev pub is_long : Key → (name : List ℕ) → Bool
 is_long key name = nat_lt (name_most key.version) (length name)
 
--- whether a record brings this I
+-- whether one of these records brings this I
 abbrev pub has_identifier : List Record → (identifier : List ℕ) → Bool
 has_identifier records identifier =
     is_some (find (λ entry. option_map_or (λ own. are_same own identifier) (identifier_of entry) false) records)

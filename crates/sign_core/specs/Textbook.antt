@@ -74,10 +74,6 @@ signings_above trees (suc level) records tree =
     let parent = tree_before level records tree in
     signings_above trees level records parent ++ signing_by trees records parent (slice_get records tree)
 
-abbrev pub signing_of_bound : Trees → List Record → (tree : ℕ) → Bound → Signing
-signing_of_bound trees records tree bound =
-    signing_with (secret_at trees records tree) bound.leaf bound.randomizer bound.digest
-
 -- ---- by scheme
 
 -- The LMS trees of a key; XMSS has none.
@@ -131,8 +127,9 @@ signature_by (Lms secret) records k bound =
 signature_by (Hss levels identifier seed) records k bound =
     let bottom = length levels - 1 in
     let tree = tree_before bottom records k in
-    by_trees (Hss levels identifier seed) (λ trees. hss_signature_bytes
-    (hss_textbook (signings_above trees bottom records tree) (signing_of_bound trees records tree bound)))
+    by_trees (Hss levels identifier seed) (λ trees. hss_signature_bytes (hss_textbook
+    (signings_above trees bottom records tree)
+    (signing_with (secret_at trees records tree) bound.leaf bound.randomizer bound.digest)))
 signature_by (Xmss secret) records k bound = xmss_signature_bytes (xmss_textbook secret bound.leaf bound.digest)
 
 abbrev pub signature_at : Key → List Record → (k : ℕ) → Bound → List ℕ

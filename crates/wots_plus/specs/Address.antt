@@ -5,11 +5,11 @@ use Rattle.wots_plus.specs.declared.address.Address.{Address}
 use Rattle.wots_plus.specs.declared.address.Address.TheVariants.{OneTime, LTree, HashTree}
 use Rattle.wots_plus.specs.Hashes.{Adrs, to_byte}
 
--- an address: layer, tree (two words), type, and the type's four words, the last of them keyAndMask
+-- the words of an address: layer, tree (two words), type, and the type's four words, the last of them keyAndMask
 abbrev pub words : ℕ → ℕ → ℕ → ℕ → ℕ → List ℕ
 words kind first second third mask = 0 ∷ 0 ∷ 0 ∷ kind ∷ first ∷ second ∷ third ∷ mask ∷ []
 
--- its words' bytes
+-- an address: the bytes of its words
 unfoldable pub address : ℕ → ℕ → ℕ → ℕ → Adrs
 address kind first second third mask = flat_map (λ word. to_byte word 4) (words kind first second third mask)
 

@@ -8,7 +8,7 @@ use Rattle.typecodes.specs.Layout.{Spells}
 use Rattle.winternitz.specs.Chain.{Steps, walk_on}
 use Rattle.merkle.specs.Tree.{node, sibling}
 use Rattle.wots_plus.specs.LTree.{LTreeJoins, at_height, l_tree_join, next_height}
-use Rattle.wots_plus.specs.Key.{chain_value, ends_of_secret, private_value, step_of, public_hash}
+use Rattle.wots_plus.specs.Key.{chain_value, ends_of_secret, private_value, public_hash, step_of}
 use Rattle.typecodes.specs.declared.secret.XmssSecret.{XmssSecret}
 use Rattle.xmss.specs.Secret.{joins_of, leaves_of, path_in}
 use Rattle.xmss.specs.Signature.{signature}

@@ -32,7 +32,7 @@ signature tree = do
   path ← values (xmss_height_of tree)
   done (record { index = index; randomizer = randomizer; chains = chains; path = path })
 
--- a signature of these parts
+-- what a view shows: a signature of these parts
 abbrev pub signature_with : ℕ → List ℕ → List (List ℕ) → List (List ℕ) → Signature
 signature_with index randomizer chains path =
     record { index = index; randomizer = randomizer; chains = chains; path = path }

@@ -6,10 +6,6 @@ use Rattle.sign_core.specs.Uses.{LeafUse as Use, MakesUses}
 use Rattle.hss.specs.Signature.{Signature as HssSignature, key_at, message_at, signature_at}
 use Rattle.lms.specs.declared.key.LmsPublic.{LmsPublic}
 use Rattle.sign_core.specs.Uses.{lms_use}
-use Rattle.xmss.specs.declared.key.XmssPublic.{XmssPublic}
-use Rattle.xmss.specs.Digest.{message_digest_of}
-use Rattle.xmss.specs.Signature.{Signature as XmssSignature}
-use Rattle.xmss.specs.Writing.{public_bytes}
 use Rattle.key_audit.specs.declared.uses.LeafUse.{LeafUse}
 
 -- the bytes that name a leaf: its number in 4 bytes, then its tree's identifier
@@ -28,10 +24,3 @@ AreUsesOf public message bytes kept =
 abbrev pub hss_use_at : LmsPublic → (message : List ℕ) → HssSignature → (level : ℕ) → LeafUse
 hss_use_at top message s level =
     kept_use (lms_use (key_at top s level) (message_at message s level) (signature_at s level))
-
-abbrev pub xmss_use : XmssPublic → (message : List ℕ) → XmssSignature → Use
-xmss_use key message s = record {
-  identifier = public_bytes key;
-  leaf = s.index;
-  digest = message_digest_of s.randomizer key.root s.index message;
-}

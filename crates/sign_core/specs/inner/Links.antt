@@ -7,6 +7,7 @@ use Rattle.typecodes.specs.declared.secret.LmsSecret.{LmsSecret}
 use Rattle.lms.specs.Secret.{path_in, root_in}
 use Rattle.lms.specs.Writing.{public_bytes}
 use Rattle.hss.specs.Secret.{Signing}
+use Rattle.state_file.specs.declared.record.Bound.{Bound}
 use Rattle.state_file.specs.declared.record.Extend.{Extend}
 use Rattle.state_file.specs.declared.record.Key.{Key}
 use Rattle.state_file.specs.declared.record.Record.{Record}
@@ -19,7 +20,7 @@ use Rattle.sign_core.specs.declared.key_trees.SecretTrees.TheVariants.{Chain, Xm
 use Rattle.sign_core.specs.declared.links.Link.{Link}
 use Rattle.sign_core.specs.declared.links.SigningTree.{SigningTree}
 use Rattle.sign_core.specs.Records.{are_same}
-use Rattle.sign_core.specs.Textbook.{Trees, signing_with, trees_of}
+use Rattle.sign_core.specs.Textbook.{Trees, secret_at, signing_with, trees_of}
 
 abbrev pub trees_in : KeyTrees → Trees
 trees_in trees = record { top = trees.top; pairs = trees.levels }
@@ -38,6 +39,11 @@ abbrev pub IsTreeAt : List Record → (level place : ℕ) → Type 0
 IsTreeAt records zero place = place ≡ 0
 IsTreeAt records (suc level) place =
     (extend : Extend) × (slice_get records place ≡ Some (ExtendRecord extend)) × (extend.level ≡ suc level)
+
+-- what the binding of a tree's leaf signs
+abbrev pub signing_of_bound : Trees → List Record → (tree : ℕ) → Bound → Signing
+signing_of_bound trees records tree bound =
+    signing_with (secret_at trees records tree) bound.leaf bound.randomizer bound.digest
 
 abbrev pub signing_of_link : Link → Signing
 signing_of_link link = signing_with link.tree.secret link.tree.leaf link.randomizer link.digest

@@ -18,7 +18,7 @@ use Rattle.sign_core.specs.declared.links.Link.{Link}
 use Rattle.sign_core.specs.declared.signer.bind.TreeSeeds.{TreeSeeds}
 use Rattle.sign_core.specs.Source.{Provides}
 use Rattle.sign_core.specs.Records.{binding_in, free_at, has_identifier, has_moved, has_randomizer, is_long, key_in}
-use Rattle.sign_core.specs.inner.Links.{signings_of}
+use Rattle.sign_core.specs.inner.Links.{signings_of, signing_of_bound}
 use Rattle.sign_core.specs.Events.{AreFields, randomizer_sizes, tree_sizes}
 use Rattle.sign_core.specs.Signer.{Ends, IsRead, LacksTree, RefusesAfterDraws, UnlessAppended}
 use Rattle.sign_core.specs.Signer.{UsesMemory, View, is_before_draws, is_before_repeat, is_fault}
@@ -27,7 +27,7 @@ use Rattle.sign_core.specs.World.{Chance, Draw, Outcome, State, acked, answered}
 use Rattle.sign_core.specs.inner.Cases.{extended, bound_below}
 use Rattle.sign_core.specs.World.{open_on, randomizer_from}
 use Rattle.sign_core.specs.inner.Cases.{requested_of}
-use Rattle.sign_core.specs.Textbook.{Trees, damaged_in, signature_at, signature_by, signing_of_bound}
+use Rattle.sign_core.specs.Textbook.{Trees, damaged_in, signature_at, signature_by}
 use Rattle.sign_core.specs.Textbook.{signings_above}
 use Rattle.sign_core.specs.Textbook.{tree_before, trees_of}
 use Rattle.typecodes.specs.declared.types.LmsPair.{LmsPair}

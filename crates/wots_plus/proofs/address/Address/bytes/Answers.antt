@@ -1,8 +1,7 @@
 use Rattle.std.proofs.Common.{◌≡◌, ◌∙◌, sym, ap, arith, rules, length, ◌*◌, ◌≤◌}
 use Rattle.std.proofs.lemmas.List.{take_all}
 use Rattle.std.proofs.lemmas.Slice.{overwrites}
-use Rattle.wots_plus.proofs.Bytes.{bytes_of_words}
-use Rattle.wots_plus.proofs.Bytes.{bytes_are, word_more, words_count}
+use Rattle.wots_plus.proofs.Bytes.{bytes_are, bytes_of_words, word_more, words_count}
 use Rattle.wots_plus.proofs.address.Address.bytes.Goals as goal
 
 pub loop-i-preserved : goal.loop-i-preserved
