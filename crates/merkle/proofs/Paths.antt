@@ -21,3 +21,10 @@ path_leads leaves joins h q inside =
           ∙ climbed_nodes_at joins q (leaves q) path h (omega (arith, long))
           ∙ climbed_to_root leaves joins h q (leaves q) path inside refl refl;
     }
+
+-- paths and roots of equal trees are equal
+pub path_along : (leaves leaves' : Leaves) (join join' : Joins) (h h' q : ℕ) → leaves ≡ leaves' → join ≡ join' → h ≡ h' → path_of leaves join h q ≡ path_of leaves' join' h' q
+path_along leaves leaves' join join' h h' q e f g = λ i. path_of (e i) (f i) (g i) q
+
+pub root_along : (leaves : Leaves) (join join' : Joins) (h h' : ℕ) → join ≡ join' → h ≡ h' → root_of leaves join h ≡ root_of leaves join' h'
+root_along leaves join join' h h' f g = λ i. root_of leaves (f i) (g i)

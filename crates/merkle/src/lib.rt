@@ -4,9 +4,10 @@
 //! `specs/Ascent.antt` has the nodes through which a path leads, `specs/Nodes.antt` and `specs/Cache.antt` the nodes
 //! that a cache keeps.
 //!
-//! What the crates above rely on: `root` and `path` are the model's, and make as many leaves as they need. A
-//! `PathCache` gives the same. It makes each leaf once, and then for a path the leaves of at most one block.
-//! `root_from_path` gives the last node of the ascent, and the path of leaf q leads from it to the root.
+//! What the crates above rely on: `root` and `path` are the model's, and make as many leaves as they need.
+//! `root_and_path` gives both, and makes each leaf once. A `PathCache` gives the same. It makes each leaf once, and
+//! then for a path the leaves of at most one block. `root_from_path` gives the last node of the ascent, and the path of
+//! leaf q leads from it to the root.
 //!
 //! Where eight leaves stand under one node of height 3, `TreeHash::leaves_in_lanes` makes them. A tree may make these
 //! together; by default it makes them one by one. Fewer leaves are made one by one: in a tree or block of height less
@@ -45,7 +46,7 @@ mod out_of_memory;
 mod progress;
 mod tree;
 
-pub use crate::ascent::root_from_path;
+pub use crate::ascent::{root_and_path, root_from_path};
 pub use crate::cache::PathCache;
 pub use crate::out_of_memory::OutOfMemory;
 pub use crate::progress::{Progress, Silent, Told};
