@@ -7,7 +7,8 @@
 //! first refusal, unless the message can't be read. `LmsSigView::verify` does the same for a decoded signature, such as
 //! one level of HSS. `verify_bytes_by` takes a message in memory, `verify_digest_by` a message's digest; both take a
 //! way to climb chains, and `OneByOne` needs little stack. `write_signature` writes the textbook signature of
-//! `specs/Writing.antt`, which is valid. No call takes memory.
+//! `specs/Writing.antt`, which is valid. A `SigningTree` has what that needs of a tree, and writes the same. No call
+//! takes memory.
 //!
 //! Keys and signatures are spelled in one way (`spelling_laws`), and `verify` has one answer, unless the message can't
 //! be read (`verdict_laws`).
@@ -28,6 +29,7 @@ mod laws;
 mod nodes;
 mod secret;
 mod signature;
+mod signing_tree;
 mod verification;
 mod writing;
 
@@ -35,5 +37,6 @@ pub use crate::key::LmsPublic;
 pub use crate::laws::{spelling_laws, verdict_laws};
 pub use crate::secret::LmsTree;
 pub use crate::signature::LmsSigView;
+pub use crate::signing_tree::SigningTree;
 pub use crate::verification::{message_prefix, verify, verify_bytes_by, verify_digest_by};
 pub use crate::writing::{write_public, write_signature};
