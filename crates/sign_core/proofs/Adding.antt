@@ -1,6 +1,6 @@
 -- What an append does to a signer, and to its store at any moment.
 use Rattle.std.proofs.Common.{◌≡◌, ◌⊎◌, ℕ, ◌+◌, ◌<◌, ◌≤◌, Bool, true, false, not, List, [], ◌∷◌, ◌++◌, length, Some, Ok, Err, refl}
-use Rattle.std.proofs.Common.{sym, ap, ◌∙◌, subst, arith, ⊎_elim, inl, inr, IsTrue, true≢false, ltb-false}
+use Rattle.std.proofs.Common.{Result, sym, ap, ◌∙◌, subst, arith, ⊎_elim, inl, inr, IsTrue, true≢false, ltb-false}
 use Rattle.std.specs.Prelude.{take}
 use Rattle.std.proofs.Math.Seq.{take-length}
 use Rattle.std.proofs.lemmas.List.{take_at}
@@ -289,3 +289,8 @@ pub name_fits : (records : List Record) (key : Key) (bound : Bound) → key_in r
     → FitsVersion (version_in records) (BoundRecord bound)
 name_fits records key bound keyed short =
     subst (λ v. length bound.name ≤ name_most v) (sym (version_of_key records key keyed)) (ltb-false (name_most key.version) (length bound.name) short)
+
+-- the same answer
+pub adds_by : {S R : Type 0} (g : store.Ghosts S) (old new : View S R) (entry : Record) (answer other : Result (Unit {0}) SignFault) → answer ≡ other
+    → Adds g old new entry other → Adds g old new entry answer
+adds_by g old new entry answer other same adds = subst (Adds g old new entry) (sym same) adds

@@ -21,14 +21,17 @@ use Rattle.sign_core.specs.declared.fault.SignFault.TheVariants.{Unreadable, Key
 use Rattle.sign_core.specs.declared.source.Source as source
 use Rattle.sign_core.specs.Source.{Provides}
 use Rattle.sign_core.specs.Cuts.{IsBeginning}
-use Rattle.sign_core.specs.inner.Signer.{DrawsSecret, IsAppended, IsAnsweredByKey, LooksForKey}
-use Rattle.sign_core.specs.Signer.{KeepsStore, LeavesOld, LeavesSource, LoadFails, MakesKey}
+use Rattle.state_file.specs.declared.refused.Refused.{Refused}
+use Rattle.sign_core.specs.inner.Signer.{DrawsSecret, Holds, IsAppended, IsTakenUp, LooksForKey}
+use Rattle.sign_core.specs.Ledger.{Table}
+use Rattle.sign_core.specs.Records.{key_in}
+use Rattle.sign_core.specs.Signer.{Creates, IsAnswered, KeepsStore, LeavesOld, LeavesSource, LoadFails, MakesKey, View}
 use Rattle.sign_core.specs.Signer.{is_fault, is_store_failed, is_random_failed, is_out_of_memory, unreadable_slot}
 use Rattle.sign_core.specs.World.{Creation, Fate, Outcome, acked, answered, appended, closed_on, created, cut, cut_new, cut_old, drawing}
 use Rattle.sign_core.specs.inner.Cases.{begun}
 use Rattle.sign_core.specs.World.{new_key, no_memory, open_on, refused, secret_from}
 use Rattle.sign_core.specs.inner.Cases.{published}
-use Rattle.sign_core.specs.Textbook.{public_in}
+use Rattle.sign_core.specs.Textbook.{public_in, public_of_key}
 use Rattle.sign_core.proofs.Adding.{moments_kept, moments_left}
 use Rattle.sign_core.proofs.Drawing.{provides_none}
 use Rattle.sign_core.proofs.Sizes.{spec_public}
@@ -64,7 +67,7 @@ refused_first : {S R : Type 0} (g : store.Ghosts S) (r : source.Ghosts R) (versi
     ≡ refused (closed_on (g.list old)) fault
     → Counts {A = AnyPublic} is_store_failed (g.failures old) (g.failures new) (Err fault)
     → Counts {A = AnyPublic} is_random_failed (r.failures random) (r.failures random) (Err fault)
-    → MakesKey g r version spec old new random random (IsAnsweredByKey (Err fault))
+    → MakesKey g r version spec old new random random (IsTakenUp (Err fault))
 refused_first g r version spec old new random fault failed is load step failures unfailed = record {
   chance = record { version = version; failed_load = failed; fields = []; has_room = true; fate = acked };
   of_version = refl;
@@ -93,7 +96,7 @@ there_step version list spec some =
     ap (λ (is : Bool). if is then refused {A = AnyPublic} state KeyThere else drawing [] (begun state chance (secret_from spec []))) there
 
 pub looked : {S R : Type 0} (g : store.Ghosts S) (r : source.Ghosts R) (version : Version) (spec : Spec) (old new : S) (random : R) (fault : SignFault)
-    → LooksForKey {A = Unit {0}} g old new (Err fault) → MakesKey g r version spec old new random random (IsAnsweredByKey (Err fault))
+    → LooksForKey {A = Unit {0}} g old new (Err fault) → MakesKey g r version spec old new random random (IsTakenUp (Err fault))
 looked g r version spec old new random KeyThere is =
     refused_first g r version spec old new random KeyThere None is is.finds.0 (there_step version (g.list old) spec is.finds.1) is.finds.2 refl
 looked g r version spec old new random Stopped is = refused_first g r version spec old new random Stopped (Some Stopped) is is.finds.0 refl is.finds.1 refl
@@ -128,7 +131,7 @@ empty_step version (first ∷ rest) spec fields fate secret none is = absurd (om
 
 undrawn_random : {S R : Type 0} (g : store.Ghosts S) (r : source.Ghosts R) (version : Version) (spec : Spec) (old mid : S) (before after : R)
     → LooksForKey {A = Unit {0}} g old mid (Ok tt) → DrawsSecret r spec before after (Err RandomFailed)
-    → MakesKey g r version spec old mid before after (IsAnsweredByKey (Err RandomFailed))
+    → MakesKey g r version spec old mid before after (IsTakenUp (Err RandomFailed))
 undrawn_random g r version spec old mid before after is draws = record {
   chance = record { version = version; failed_load = None; fields = draws.fields; has_room = true; fate = acked };
   of_version = refl;
@@ -150,7 +153,7 @@ undrawn_random g r version spec old mid before after is draws = record {
 
 pub undrawn : {S R : Type 0} (g : store.Ghosts S) (r : source.Ghosts R) (version : Version) (spec : Spec) (old mid : S) (before after : R) (fault : SignFault)
     → LooksForKey {A = Unit {0}} g old mid (Ok tt) → DrawsSecret r spec before after (Err fault)
-    → MakesKey g r version spec old mid before after (IsAnsweredByKey (Err fault))
+    → MakesKey g r version spec old mid before after (IsTakenUp (Err fault))
 undrawn g r version spec old mid before after RandomFailed is draws = undrawn_random g r version spec old mid before after is draws
 undrawn g r version spec old mid before after Changed is draws = absurd draws.drawn
 undrawn g r version spec old mid before after Exhausted is draws = absurd draws.drawn
@@ -231,17 +234,19 @@ alone : (list : List Record) (entry : Record) → length list ≡ 0 → list ++ 
 alone [] entry none = refl
 alone (first ∷ rest) entry none = absurd (omega (arith, none))
 
-pub made : {S R : Type 0} (g : store.Ghosts S) (r : source.Ghosts R) (version : Version) (spec : Spec) (old mid new : S) (before after : R) (secret : Secret) → IsSpec spec
+pub made : {S R : Type 0} (g : store.Ghosts S) (r : source.Ghosts R) (version : Version) (spec : Spec) (old mid new : S) (before after : R) (secret : Secret)
+    (table : Table) → table.records ≡ KeyRecord (new_key version secret) ∷ [] → IsSpec spec
     → DrawsSecret r spec before after (Ok secret) → HasAppended {A = Unit {0}} g old mid new (KeyRecord (new_key version secret)) (Ok tt)
-    → MakesKey g r version spec old new before after (IsAnsweredByKey (Ok (new_key version secret)))
-made g r version spec old mid new before after secret can draws has =
+    → MakesKey g r version spec old new before after (IsTakenUp (Ok table))
+made g r version spec old mid new before after secret table records can draws has =
     let entry = KeyRecord (new_key version secret) in
     let list = g.list old ++ entry ∷ [] in
     let (public, is) = spec_public spec draws.fields secret can draws.drawn in
     let loaded = has.looked in
     let stored = has.appended in
-    made_by_fate g r version spec old mid new before after secret acked (answered (open_on list) public) (Ok tt) (IsAnsweredByKey (Ok (new_key version secret))) has draws
-    (ap (published list) is) refl (public, refl, is, alone (g.list old) entry loaded.finds.1)
+    made_by_fate g r version spec old mid new before after secret acked (answered (open_on list) public) (Ok tt) (IsTakenUp (Ok table)) has draws
+    (ap (published list) is) refl
+    (public, refl, ap (λ l. public_of_key (key_in l)) records ∙ is, records ∙ sym (alone (g.list old) entry loaded.finds.1))
     (record {
       list = record { more = entry ∷ []; list = stored.stored.0 ∙ ap (λ l. l ++ entry ∷ []) loaded.list; records = refl };
       moments = both_moments g old mid new entry (Ok tt) _ has (append-nil _);
@@ -253,12 +258,12 @@ made g r version spec old mid new before after secret can draws has =
 made_cut : {S R : Type 0} (g : store.Ghosts S) (r : source.Ghosts R) (version : Version) (spec : Spec) (old mid new : S) (before after : R) (secret : Secret)
     → (draws : DrawsSecret r spec before after (Ok secret)) → (has : HasAppended {A = Unit {0}} g old mid new (KeyRecord (new_key version secret)) (Err StoreFailed))
     → (g.list new ≡ g.list mid) ⊎ (g.list new ≡ g.list mid ++ KeyRecord (new_key version secret) ∷ [])
-    → MakesKey g r version spec old new before after (IsAnsweredByKey (Err StoreFailed))
+    → MakesKey g r version spec old new before after (IsTakenUp (Err StoreFailed))
 made_cut g r version spec old mid new before after secret draws has (inl same) =
     let entry = KeyRecord (new_key version secret) in
     let loaded = has.looked in
     let stored = has.appended in
-    made_by_fate g r version spec old mid new before after secret cut_old (cut (g.list old) entry (g.list old)) (Err StoreFailed) (IsAnsweredByKey (Err StoreFailed)) has draws
+    made_by_fate g r version spec old mid new before after secret cut_old (cut (g.list old) entry (g.list old)) (Err StoreFailed) (IsTakenUp (Err StoreFailed)) has draws
     refl refl refl
     (record {
       list = record { more = []; list = same ∙ loaded.list ∙ sym (append-nil _); records = sym (append-nil _) };
@@ -272,7 +277,7 @@ made_cut g r version spec old mid new before after secret draws has (inr more) =
     let loaded = has.looked in
     let stored = has.appended in
     made_by_fate g r version spec old mid new before after secret cut_new (cut (g.list old) entry (g.list old ++ entry ∷ [])) (Err StoreFailed)
-    (IsAnsweredByKey (Err StoreFailed)) has draws refl refl refl
+    (IsTakenUp (Err StoreFailed)) has draws refl refl refl
     (record {
       list = record { more = entry ∷ []; list = more ∙ ap (λ l. l ++ entry ∷ []) loaded.list; records = refl };
       moments = both_moments g old mid new entry (Err StoreFailed) _ has refl;
@@ -283,7 +288,7 @@ made_cut g r version spec old mid new before after secret draws has (inr more) =
 
 pub unmade : {S R : Type 0} (g : store.Ghosts S) (r : source.Ghosts R) (version : Version) (spec : Spec) (old mid new : S) (before after : R) (secret : Secret) (fault : SignFault)
     → DrawsSecret r spec before after (Ok secret) → HasAppended {A = Unit {0}} g old mid new (KeyRecord (new_key version secret)) (Err fault)
-    → MakesKey g r version spec old new before after (IsAnsweredByKey (Err fault))
+    → MakesKey g r version spec old new before after (IsTakenUp (Err fault))
 unmade g r version spec old mid new before after secret StoreFailed draws has =
     made_cut g r version spec old mid new before after secret draws has has.appended.stored.0
 unmade g r version spec old mid new before after secret OutOfMemory draws has =
@@ -291,7 +296,7 @@ unmade g r version spec old mid new before after secret OutOfMemory draws has =
     let loaded = has.looked in
     let stored = has.appended in
     made_by_fate g r version spec old mid new before after secret no_memory (refused (closed_on (g.list old)) OutOfMemory) (Err OutOfMemory)
-    (IsAnsweredByKey (Err OutOfMemory)) has draws refl refl refl
+    (IsTakenUp (Err OutOfMemory)) has draws refl refl refl
     (record {
       list = record { more = []; list = stored.stored.0 ∙ loaded.list ∙ sym (append-nil _); records = sym (append-nil _) };
       moments = old_moments g old mid new entry (Err OutOfMemory) has (stored.refused refl) _ refl;
@@ -317,3 +322,35 @@ unmade g r version spec old mid new before after secret (Damaged k) draws has = 
 unmade g r version spec old mid new before after secret (Unreadable k) draws has = absurd has.appended.stored
 unmade g r version spec old mid new before after secret (Illegal k) draws has = absurd has.appended.stored
 unmade g r version spec old mid new before after secret RandomFailed draws has = absurd has.appended.stored
+
+-- ---- the signer of a new key
+
+-- another answer of the same outcome
+made_with : {S R : Type 0} (g : store.Ghosts S) (r : source.Ghosts R) (version : Version) (spec : Spec) (old new : S) (before after : R)
+    (P Q : Outcome AnyPublic → Type 0) → ((outcome : Outcome AnyPublic) → P outcome → Q outcome)
+    → MakesKey g r version spec old new before after P → MakesKey g r version spec old new before after Q
+made_with g r version spec old new before after P Q to makes = record {
+  chance = makes.chance;
+  of_version = makes.of_version;
+  outcome = makes.outcome;
+  step = makes.step;
+  answer = to makes.outcome makes.answer;
+  store = makes.store;
+  stopped = makes.stopped;
+  load = makes.load;
+  possible = makes.possible;
+  source = makes.source;
+  leaves = makes.leaves;
+  failures = makes.failures;
+  room = makes.room;
+  refusals = makes.refusals;
+  unreadable = makes.unreadable;
+  stays = makes.stays;
+}
+
+pub held_new : {S R : Type 0} (g : store.Ghosts S) (r : source.Ghosts R) (version : Version) (spec : Spec) (old new : S) (before after : R)
+    (made : Result Table SignFault) (result : Result (View S R) (Refused (S × R) SignFault))
+    → MakesKey g r version spec old new before after (IsTakenUp made) → Holds new after made result → Creates g r version spec old before result
+held_new {S = S} {R = R} g r version spec old new before after made result makes holds =
+    subst (λ (p : S × R). MakesKey g r version spec old p.0 before p.1 (IsAnswered result)) (λ i. (sym holds.store_is i, sym holds.random_is i))
+    (made_with g r version spec old new before after (IsTakenUp made) (IsAnswered result) holds.answer makes)

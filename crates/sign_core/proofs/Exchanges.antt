@@ -1,6 +1,6 @@
 -- Serving requests: heads that are read, requests that are answered, turns, and a whole exchange.
 use Rattle.std.proofs.Common.{◌≡◌, ◌∙◌, inl, inr, refl, sym, ap, ap₂, subst, arith, ℕ, ◌+◌, ◌<◌, ◌^◌, Bool, true, false, true≢false}
-use Rattle.std.proofs.Common.{List, [], ◌∷◌, ◌++◌, length, append_assoc, append-nil, length-append, map, slice_index, Option, Some, None, Result, Ok, Err, IsSome}
+use Rattle.std.proofs.Common.{List, [], ◌∷◌, ◌++◌, length, append_assoc, append-nil, length-append, map, slice_index, Option, Some, None, Result, Ok, Err, IsSome, IsOkAnd, MatchResult}
 use Rattle.std.specs.List.{concat}
 use Rattle.std.specs.Io.KnownBytes.{Appends}
 use Rattle.std.proofs.KnownBytes.{Appends-nil, Appends-trans}
@@ -135,6 +135,17 @@ pub head_read : {M : Type 0} (m : message.Ghosts M) (first : List ℕ) (found : 
     → ReadsField m (after_size (slice_index first 0)) said_by middle new (Ok found) → ReadsHead m old new (Ok (Some found))
 head_read m first found old middle new is reads (rest, spelled, more) =
     (first ++ rest, head_said first rest (said_by found) is spelled, reads_then m first rest going old middle new reads more)
+
+-- the rest of a head was read, or not
+pub head_after : {M : Type 0} (m : message.Ghosts M) (first : List ℕ) (old middle new : M) (found : Result Head ServeFault)
+    (mapped : Result (Option Head) ServeFault) → length first ≡ 1 → ReadsInput m first going old middle
+    → ReadsField m (after_size (slice_index first 0)) said_by middle new found
+    → MatchResult found (λ read. IsOkAnd mapped (λ o. o ≡ Some read)) (λ e. mapped ≡ Err e) → ReadsHead m old new mapped
+head_after m first old middle new (Ok read) (Ok o) is reads field same =
+    subst (λ o. ReadsHead m old new (Ok o)) (sym same) (head_read m first read old middle new is reads field)
+head_after m first old middle new (Ok read) (Err e) is reads field same = absurd same
+head_after m first old middle new (Err e) mapped is reads field same =
+    subst (ReadsHead m old new) (sym same) (head_ends m first old middle new e is reads field)
 
 -- the input ends before a head
 pub head_over : {M : Type 0} (m : message.Ghosts M) (first : List ℕ) (old new : M) → length first ≡ 1 → FillsBuffer m first old new (Err FrameCut)

@@ -20,7 +20,7 @@ use Rattle.state_file.specs.declared.record.Secret.TheVariants.{Lms, Hss, Xmss}
 use Rattle.state_file.specs.Laws.{bottom_of, leaves_at, leaves_in, levels_of}
 use Rattle.sign_core.specs.Records.{are_same, binding_in, can_follow, can_follow_legal, current, has_identifier, has_moved, has_randomizer, is_free}
 use Rattle.sign_core.specs.Ledger.{ByPlace, ByText, IsTableOf, made_at, made_by, of_place, of_text}
-use Rattle.sign_core.specs.inner.Trees.{FollowsBound, FollowsExtend}
+use Rattle.sign_core.specs.inner.Trees.{FollowsBound, FollowsExtend, place_of}
 use Rattle.sign_core.specs.Trees.{HasTrees, with_next}
 use Rattle.sign_core.specs.Trees.{kept_at as tree_kept}
 use Rattle.sign_core.specs.Textbook.{HasSizes, tree_before}
@@ -105,10 +105,6 @@ extend_inside records key extend follows =
     (low, high, omega (arith, inside, few))
 
 -- ---- the tree that is current before a new record
-
-abbrev pub place_of : Option Tree → ℕ
-place_of None = 0
-place_of (Some tree) = tree.place
 
 place_with_next : (secret : Secret) (records : List Record) (found : Option ℕ) → place_of (with_next secret records found) ≡ unwrap_or found 0
 place_with_next secret records None = refl

@@ -1,6 +1,6 @@
 -- Each end of an opening is a step of the world.
 use Rattle.std.proofs.Common.{◌≡◌, ◌⊎◌, ℕ, zero, suc, ◌+◌, ◌<◌, ◌≤◌, Bool, true, false, List, [], ◌∷◌, ◌++◌, length, Some, None, Ok, Err, refl, sym}
-use Rattle.std.proofs.Common.{ap, ◌∙◌, subst, arith, inl, inr, IsTrue, true≢false, take, drop, ◌||◌}
+use Rattle.std.proofs.Common.{Result, ap, ◌∙◌, subst, arith, inl, inr, IsTrue, true≢false, take, drop, ◌||◌}
 use Rattle.std.proofs.lemmas.Bool.Decides.{nat_tests}
 use Rattle.std.proofs.lemmas.List.{append-nil, append_assoc, take-append-drop, take_all, take_at}
 use Rattle.std.specs.Option.{ok_or, option_or}
@@ -20,12 +20,14 @@ use Rattle.sign_core.specs.declared.fault.SignFault.TheVariants.{Changed, Exhaus
 use Rattle.sign_core.specs.declared.fault.SignFault.TheVariants.{Unreadable, KeyThere}
 use Rattle.sign_core.specs.Records.{can_follow, first_illegal, illegal_from, key_in}
 use Rattle.sign_core.specs.Textbook.{public_of_key}
-use Rattle.sign_core.specs.inner.Signer.{IsTakenUp, LoadsRecord, TakesUpLoaded}
+use Rattle.state_file.specs.declared.refused.Refused.{Refused}
+use Rattle.sign_core.specs.inner.Signer.{Holds, IsTakenUp, LoadsRecord, TakesUpLoaded}
+use Rattle.sign_core.specs.Signer.{IsAnswered, Opens, View}
 use Rattle.sign_core.specs.Signer.{IsTied, LeavesOld, LoadsAll, RefusesToOpen, StopsOpening, is_device_failed, unreadable_slot}
 use Rattle.sign_core.specs.Signer.{GoesTo, slots_below}
 use Rattle.sign_core.specs.inner.Ledger.{LacksRoom}
 use Rattle.sign_core.specs.Ledger.{RunsOutOfMemory, Table}
-use Rattle.sign_core.specs.World.{answered, closed_on, open_on, opened, refused}
+use Rattle.sign_core.specs.World.{Outcome, answered, closed_on, open_on, opened, refused}
 use Rattle.sign_core.specs.inner.Cases.{opened_by, opened_on, published}
 use Rattle.sign_core.specs.Textbook.{HasSizes, SecretHasSizes, public_in}
 use Rattle.sign_core.proofs.Adding.{LeavesItsList, length_one_more, some_records}
@@ -559,3 +561,42 @@ none_there g old next only loads =
       most = kept.most;
       stays = kept.stays;
     }
+
+-- ---- the signer of the records
+
+-- another answer of the same outcome
+loaded_with : {S : Type 0} (g : store.Ghosts S) (old new : S) (P Q : Outcome AnyPublic → Type 0)
+    → ((outcome : Outcome AnyPublic) → P outcome → Q outcome) → LoadsAll g old new P → LoadsAll g old new Q
+loaded_with g old new P Q to loads = record {
+  records = loads.records;
+  long = loads.long;
+  same = loads.same;
+  chance = loads.chance;
+  outcome = loads.outcome;
+  step = loads.step;
+  answer = to loads.outcome loads.answer;
+  load = loads.load;
+  stopped = loads.stopped;
+  list = loads.list;
+  moments = loads.moments;
+  failures = loads.failures;
+  refusals = loads.refusals;
+  unreadable = loads.unreadable;
+  loads = loads.loads;
+  given = loads.given;
+  asked = loads.asked;
+  gave = loads.gave;
+  order = loads.order;
+  honest = loads.honest;
+  most = loads.most;
+  stays = loads.stays;
+}
+
+pub held_old : {S R : Type 0} (g : store.Ghosts S) (old new : S) (random : R) (ledger : Result Table SignFault)
+    (result : Result (View S R) (Refused (S × R) SignFault)) → LoadsAll g old new (IsTakenUp ledger) → Holds new random ledger result
+    → Opens g old random result
+held_old g old new random ledger result loads holds = record {
+  loads = subst (λ s. LoadsAll g old s (IsAnswered result)) (sym holds.store_is)
+      (loaded_with g old new (IsTakenUp ledger) (IsAnswered result) holds.answer loads);
+  same_random = holds.random_is;
+}

@@ -60,12 +60,8 @@ pub(crate) fn read_head<I: Message>(input: &mut I) -> Result<Option<Head>, Serve
 {
     let mut first = [0; 1];
     match fill(input, &mut first) {
-        Ok(()) => {}
-        Err(ServeFault::FrameCut) => return Ok(None),
-        Err(fault) => return Err(fault),
-    }
-    match read_after(input, first[0]) {
-        Ok(head) => Ok(Some(head)),
+        Ok(()) => read_after(input, first[0]).map(Some),
+        Err(ServeFault::FrameCut) => Ok(None),
         Err(fault) => Err(fault),
     }
 }

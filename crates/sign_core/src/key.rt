@@ -43,18 +43,13 @@ impl AnyPublic {
         ensures err { IfErr result (KeyHasFault bytes.now) }
         ensures spelled { (key : Key) → SpellsKey key bytes.now → result ≡ Ok key }
     {
-        match bytes.len() {
-            56 => LmsPublic::read(bytes)
-                .map(AnyPublic::Lms)
-                .map_err(KeyFault::Unreadable),
-            60 => HssPublic::read(bytes)
-                .map(AnyPublic::Hss)
-                .map_err(KeyFault::Unreadable),
-            68 => XmssPublic::read(bytes)
-                .map(AnyPublic::Xmss)
-                .map_err(KeyFault::Unreadable),
-            length => Err(KeyFault::Length(length)),
-        }
+        let key = match bytes.len() {
+            56 => LmsPublic::read(bytes).map(AnyPublic::Lms),
+            60 => HssPublic::read(bytes).map(AnyPublic::Hss),
+            68 => XmssPublic::read(bytes).map(AnyPublic::Xmss),
+            length => return Err(KeyFault::Length(length)),
+        };
+        key.map_err(KeyFault::Unreadable)
     }
 
     /// The key's 56, 60 or 68 bytes.

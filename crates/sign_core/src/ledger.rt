@@ -66,6 +66,23 @@ pub(crate) struct Binding {
     pub(crate) tree: u32,
 }
 
+impl Binding {
+    ghost use Rattle.sign_core.specs.inner.Ledger.{binding_of};
+
+    /// What is kept of a Bound at a place, under this tree.
+    pub(crate) fn of(bound: &Bound, place: u32, tree: u32) -> Self
+        ensures { result ≡ binding_of bound.now place tree }
+    {
+        Binding {
+            place,
+            leaf: bound.leaf,
+            randomizer: bound.randomizer,
+            digest: bound.digest,
+            tree,
+        }
+    }
+}
+
 fn can_move(version: Version) -> bool
     ensures { result ≡ can_move version }
 {
@@ -188,25 +205,14 @@ impl Ledger {
         ensures refused { IfErr result (IsRefused records.now) }
     {
         let (first, rest) = records.split_first().ok_or(LedgerFault::Empty)?;
-        let mut ledger = Ledger::begin(alloc, first)?;
+        let Record::Key(key) = first else {
+            return Err(LedgerFault::Illegal(0));
+        };
+        let mut ledger = Ledger::new(alloc, key.copied());
         for entry in rest {
             ledger.take_up(entry)?;
         }
         Ok(ledger)
-    }
-
-    // The ledger of a first record, if it is a Key.
-    fn begin(alloc: Global, first: &Record) -> Result<Self, LedgerFault>
-        ensures records { IfOk result (λ ledger. ledger.records ≡ first.now ∷ []) }
-        ensures key { IfOk result (λ ledger. key_in (first.now ∷ []) ≡ Some ledger.key) }
-        ensures refused { IfErr result (λ fault. (fault ≡ Illegal 0) × (key_in (first.now ∷ []) ≡ None)) }
-    {
-        match first {
-            Record::Key(key) => Ok(Ledger::new(alloc, key.copied())),
-            Record::Extend(_) | Record::Bound(_) | Record::Retire { .. } | Record::Moved => {
-                Err(LedgerFault::Illegal(0))
-            }
-        }
     }
 
     pub(crate) fn key(&self) -> &Key
@@ -414,75 +420,26 @@ impl Ledger {
         requires { CanPush entry self.old }
         ensures grows { Grows entry self.old self.new }
     {
+        let place = self.count;
+        let bottom = usize::from(self.key.secret.levels() - 1);
+        self.records.push(&entry);
+        self.count += 1;
         match entry {
-            Record::Extend(extend) => self.push_extend(extend),
-            Record::Bound(bound) => self.push_bound(bound),
-            Record::Retire { upto } => self.push_retire(upto),
-            Record::Moved => self.push_moved(),
+            Record::Extend(extend) => {
+                let level = usize::from(extend.level);
+                let parent = self.trees.place(level - 1);
+                let _ = self.made.insert(place, Made { extend, parent });
+                let _ = self.identifiers.insert(extend.identifier, place);
+                self.trees.extend(level, extend.parent_leaf, place);
+            }
+            Record::Bound(bound) => {
+                let binding = Binding::of(&bound, place, self.trees.place(bottom));
+                let _ = self.bindings.insert(bound.name, binding);
+                self.trees.bind(bottom, bound.leaf);
+            }
+            Record::Retire { upto } => self.trees.retire(bottom, upto),
+            Record::Moved => self.moved = true,
             Record::Key(_) => {}
         }
-    }
-
-    fn push_extend(&mut self, extend: Extend)
-        requires { CanPush (ExtendRecord extend) self.old }
-        ensures grows { Grows (ExtendRecord extend) self.old self.new }
-    {
-        let level = usize::from(extend.level);
-        let parent = match self.trees.get(level - 1) {
-            Some(tree) => tree.place,
-            None => 0,
-        };
-        let _ = self.made.insert(self.count, Made { extend, parent });
-        let _ = self.identifiers.insert(extend.identifier, self.count);
-        self.trees.extend(level, extend.parent_leaf, self.count);
-        self.records.push(&Record::Extend(extend));
-        self.count += 1;
-    }
-
-    fn push_bound(&mut self, bound: Bound)
-        requires { CanPush (BoundRecord bound) self.old }
-        ensures grows { Grows (BoundRecord bound) self.old self.new }
-    {
-        let bottom = usize::from(self.key.secret.levels() - 1);
-        let tree = match self.trees.get(bottom) {
-            Some(tree) => tree.place,
-            None => 0,
-        };
-        let Bound {
-            name,
-            leaf,
-            randomizer,
-            digest,
-        } = bound;
-        self.trees.bind(bottom, leaf);
-        let binding = Binding {
-            place: self.count,
-            leaf,
-            randomizer,
-            digest,
-            tree,
-        };
-        let _ = self.bindings.insert(name, binding);
-        self.records.push(&Record::Bound(bound));
-        self.count += 1;
-    }
-
-    fn push_retire(&mut self, upto: u32)
-        requires { CanPush (RetireRecord upto) self.old }
-        ensures grows { Grows (RetireRecord upto) self.old self.new }
-    {
-        let bottom = usize::from(self.key.secret.levels() - 1);
-        self.trees.retire(bottom, upto);
-        self.records.push(&Record::Retire { upto });
-        self.count += 1;
-    }
-
-    fn push_moved(&mut self)
-        requires { CanPush MovedRecord self.old }
-        ensures grows { Grows MovedRecord self.old self.new }
-    {
-        self.moved = true;
-        self.records.push(&Record::Moved);
-        self.count += 1;
     }
 }

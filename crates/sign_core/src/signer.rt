@@ -4,7 +4,7 @@ ghost use Rattle.std.specs.Prelude.{◌≡◌, ◌<◌, ◌≤◌, ◌-◌, ◌^
 ghost use Rattle.std.specs.Prelude.{IfSome, IsTrue, None, OnOk};
 ghost use Rattle.merkle.specs.Tree.{root_of as tree_root};
 ghost use Rattle.state_file.specs.Store.{CanFollow, is_key};
-ghost use Rattle.sign_core.specs.inner.Signer.{DrawsSecret, Hinders, IsAnsweredByKey, IsAppended, IsTakenUp};
+ghost use Rattle.sign_core.specs.inner.Signer.{DrawsSecret, Hinders, IsAppended, IsTakenUp};
 ghost use Rattle.sign_core.specs.Signer.{IsTied, LoadsAll, MakesKey};
 ghost use Rattle.sign_core.specs.inner.Signer.{LoadsRecord, LooksForKey, TakesUpLoaded};
 ghost use Rattle.sign_core.specs.Textbook.{HasSizes, root_by};
@@ -71,19 +71,18 @@ fn append<S: Store>(store: &mut S, entry: &Record) -> Result<(), SignFault>
 fn load_first<S: Store>(store: &mut S) -> Result<(), SignFault>
     ensures { LooksForKey S.Store store.old store.new result }
 {
-    match store.load(0) {
+    match load_at(store, 0) {
         Ok(None) => Ok(()),
         Ok(Some(_)) => Err(SignFault::KeyThere),
-        Err(StoreFault::Stopped) => Err(SignFault::Stopped),
-        Err(StoreFault::Damaged(_)) => Err(SignFault::Unreadable(0)),
-        Err(StoreFault::DeviceFailed) => Err(SignFault::StoreFailed),
-        Err(StoreFault::OutOfMemory) => Err(SignFault::OutOfMemory),
-        Err(StoreFault::Full) => unreachable!(),
+        Err(SignFault::DeviceFailed) => Err(SignFault::StoreFailed),
+        Err(SignFault::NoMemoryToOpen) => Err(SignFault::OutOfMemory),
+        Err(fault) => Err(fault),
     }
 }
 
 fn draw_secret<R: Source>(spec: &Spec, random: &mut R) -> Result<Secret, SignFault>
-    ensures { DrawsSecret R.Source spec.now random.old random.new result }
+    ensures draws { DrawsSecret R.Source spec.now random.old random.new result }
+    ensures spec { OnOk result (IsSpec spec.now) }
 {
     match spec {
         Spec::Lms(pair) => Ok(Secret::Lms(LmsSecret {
@@ -124,43 +123,29 @@ fn top_root<X: TreeSecret, P: TreeProgress>(secret: X, progress: &P) -> [u8; 32]
     root(&mut Told::new(secret.tree(), leaves), height)
 }
 
-// The number of a key's levels, 1 to 8 by their type.
-fn level_count(spec: &Spec) -> usize
-    ensures spec { IsSpec spec.now }
-    ensures few { result ≤ 8 }
-{
-    match spec {
-        Spec::Lms(_) | Spec::Xmss(_) => 1,
-        Spec::Hss(levels) => levels.as_slice().len(),
-    }
-}
-
 // Makes a key in a store without records, and appends its record.
 fn create_key<S: Store, R: Source, P: TreeProgress>(
+    alloc: Global,
     version: Version,
     spec: &Spec,
     store: &mut S,
     random: &mut R,
     progress: &P,
-) -> Result<Key, SignFault>
+) -> Result<Ledger, SignFault>
     requires room { 1 ≤ S.most store.old }
     ensures makes { MakesKey S.Store R.Source version spec.now store.old store.new random.old random.new
-        (IsAnsweredByKey result) }
-    ensures sizes { IfOk result (λ key. HasSizes (KeyRecord key)) }
-    ensures list { IfOk result (λ key. S.list store.new ≡ KeyRecord key ∷ []) }
-    ensures running { OnOk result (S.stopped store.new ≡ false) }
+        (IsTakenUp result) }
+    ensures tied { IfOk result (λ table. IsTied S.Store store.new table.records) }
 {
     load_first(store)?;
     let secret = draw_secret(spec, random)?;
-    // For the prover: its levels are 1 to 8.
-    prove!(level_count(spec) <= 8);
     let key = Key {
         version,
         root: root_of(&secret, progress),
         secret,
     };
     append(store, &Record::Key(key.copied()))?;
-    Ok(key)
+    Ok(Ledger::new(alloc, key))
 }
 
 // Loads record `slot`, None after the last, with an opening's faults.
@@ -183,18 +168,9 @@ fn load_key<S: Store>(store: &mut S) -> Result<Key, SignFault>
     ensures refuses { IfErr result (λ fault. LoadsAll S.Store store.old store.new (IsTakenUp (Err fault))) }
 {
     match load_at(store, 0)? {
-        Some(entry) => key_of(entry).ok_or(SignFault::Illegal(0)),
+        Some(Record::Key(key)) => Ok(key),
+        Some(_) => Err(SignFault::Illegal(0)),
         None => Err(SignFault::NoKey),
-    }
-}
-
-fn key_of(entry: Record) -> Option<Key>
-    ensures key { IfSome result (λ key. entry ≡ KeyRecord key) }
-    ensures other { result ≡ None → is_key entry ≡ false }
-{
-    match entry {
-        Record::Key(key) => Some(key),
-        Record::Extend(_) | Record::Bound(_) | Record::Retire { .. } | Record::Moved => None,
     }
 }
 
@@ -227,7 +203,7 @@ impl<S: Store, R: Source> Signer<S, R> {
     ghost use Rattle.sign_core.specs.Records.{can_follow, free_counts, has_moved, key_in};
     ghost use Rattle.state_file.specs.declared.record.Key.{Key as K};
     ghost use Rattle.sign_core.specs.Textbook.{public_of_key};
-    ghost use Rattle.sign_core.specs.inner.Signer.{Adds, IsBottom};
+    ghost use Rattle.sign_core.specs.inner.Signer.{Adds, Holds, IsBottom};
     ghost use Rattle.sign_core.specs.Signer.{Creates, Opens, Retires};
     ghost use Rattle.sign_core.specs.Ledger.{TakesMemory};
     ghost use Rattle.state_file.specs.Slot.{FitsVersion, version_in};
@@ -280,19 +256,8 @@ impl<S: Store, R: Source> Signer<S, R> {
     {
         let mut store = store;
         let mut random = random;
-        match create_key(version, &spec, &mut store, &mut random, progress) {
-            Ok(key) => Ok(Signer {
-                store,
-                random,
-                ledger: Ledger::new(alloc, key),
-                caches: Caches::new(alloc),
-                is_open: true,
-            }),
-            Err(fault) => Err(Refused {
-                fault,
-                given: (store, random),
-            }),
-        }
+        let made = create_key(alloc, version, &spec, &mut store, &mut random, progress);
+        Signer::holding(alloc, store, random, made)
     }
 
     /// Opens the signer on the records of a store, loaded in their order. A refusal gives back the store and the
@@ -305,7 +270,21 @@ impl<S: Store, R: Source> Signer<S, R> {
         ensures { Opens S.Store store random result }
     {
         let mut store = store;
-        match load_all(alloc, &mut store) {
+        let loaded = load_all(alloc, &mut store);
+        Signer::holding(alloc, store, random, loaded)
+    }
+
+    // The open signer of a store's records in memory; or the refusal, with what was given.
+    fn holding(
+        alloc: Global,
+        store: S,
+        random: R,
+        ledger: Result<Ledger, SignFault>,
+    ) -> Result<Self, Refused<(S, R), SignFault>>
+        requires tied { IfOk ledger (λ table. IsTied S.Store store table.records) }
+        ensures { Holds store random ledger result }
+    {
+        match ledger {
             Ok(ledger) => Ok(Signer {
                 store,
                 random,
@@ -362,16 +341,12 @@ impl<S: Store, R: Source> Signer<S, R> {
         ensures adds { Adds S.Store self.old self.new entry result }
         ensures cached { self.new.cached ≡ self.old.cached }
     {
-        match append(&mut self.store, &entry) {
-            Ok(()) => {
-                self.ledger.push(entry);
-                Ok(())
-            }
-            Err(fault) => {
-                self.is_open = !fault.closes();
-                Err(fault)
-            }
+        let appended = append(&mut self.store, &entry);
+        match appended {
+            Ok(()) => self.ledger.push(entry),
+            Err(fault) => self.is_open = !fault.closes(),
         }
+        appended
     }
 
     // The current bottom tree's next leaf, and its number of leaves; both 0 where there is none.
@@ -411,13 +386,7 @@ impl<S: Store, R: Source + Drop> Signer<S, R> {
     pub fn into_store(self) -> S
         ensures { result ≡ self.store }
     {
-        let Signer {
-            store,
-            random: _,
-            ledger: _,
-            caches: _,
-            is_open: _,
-        } = self;
+        let Signer { store, .. } = self;
         store
     }
 }

@@ -19,7 +19,7 @@ pub(crate) struct CurrentTrees {
 }
 
 impl CurrentTrees {
-    ghost use Rattle.sign_core.specs.inner.Trees.{AreAbove, IsBegun, IsRaised};
+    ghost use Rattle.sign_core.specs.inner.Trees.{AreAbove, IsBegun, IsRaised, place_of};
     ghost use Rattle.sign_core.specs.Trees.{kept_at};
     ghost use Rattle.sign_core.specs.inner.Trees.{FollowsBound, FollowsExtend, FollowsRetire};
     ghost use Rattle.sign_core.specs.Trees.{HasTrees};
@@ -39,6 +39,17 @@ impl CurrentTrees {
     {
         let levels = &self.levels[..];
         levels[level]
+    }
+
+    /// The place of a level's tree; 0 where it has none.
+    pub(crate) fn place(&self, level: usize) -> u32
+        requires { level < 8 }
+        ensures { result ≡ place_of (kept_at self.now.levels level) }
+    {
+        match self.get(level) {
+            Some(tree) => tree.place,
+            None => 0,
+        }
     }
 
     // The trees above this level, and none from it downwards.

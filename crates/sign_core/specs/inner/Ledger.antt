@@ -1,12 +1,24 @@
 -- What private functions alone cite of `Ledger.antt`'s subject.
-use Rattle.std.specs.Prelude.{◌≡◌, ◌⊎◌, ◌+◌, ◌-◌, ◌^◌, ◌<◌, ◌≤◌, true, false, [], ◌∷◌, ◌++◌, length, Some, Result, Ok}
+use Rattle.std.specs.Prelude.{◌≡◌, ◌⊎◌, ℕ, ◌+◌, ◌-◌, ◌^◌, ◌<◌, ◌≤◌, true, false, [], ◌∷◌, ◌++◌, length, Some, Result, Ok}
 use Rattle.std.specs.Prelude.{Err}
+use Rattle.state_file.specs.declared.record.Bound.{Bound}
 use Rattle.state_file.specs.declared.record.Record.{Record}
+use Rattle.sign_core.specs.declared.ledger.Binding.{Binding}
 use Rattle.sign_core.specs.declared.ledger.LedgerFault.{LedgerFault}
 use Rattle.sign_core.specs.declared.ledger.LedgerFault.TheVariants.{Empty, Illegal, OutOfMemory}
 use Rattle.sign_core.specs.Records.{can_follow}
 use Rattle.sign_core.specs.Textbook.{HasSizes}
 use Rattle.sign_core.specs.Ledger.{Table, TakesMemory}
+
+-- what is kept of a Bound at a place, under this tree
+abbrev pub binding_of : Bound → (place tree : ℕ) → Binding
+binding_of bound place tree = record {
+  place = place;
+  leaf = bound.leaf;
+  randomizer = bound.randomizer;
+  digest = bound.digest;
+  tree = tree;
+}
 
 -- A record was added: the key stays, and the memory for one more record may be used, if it takes any.
 pub record Grows (entry : Record) (old new : Table) : Type 0 where

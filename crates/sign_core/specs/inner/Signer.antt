@@ -5,8 +5,8 @@ use Rattle.std.specs.List.{concat}
 use Rattle.typecodes.specs.declared.spec.Spec.{Spec}
 use Rattle.state_file.specs.declared.record.Key.{Key}
 use Rattle.state_file.specs.declared.record.Record.{Record}
-use Rattle.state_file.specs.declared.record.Record.TheVariants.{Key as KeyRecord}
 use Rattle.state_file.specs.declared.record.Secret.{Secret}
+use Rattle.state_file.specs.declared.refused.Refused.{Refused}
 use Rattle.state_file.specs.declared.store.Store as store
 use Rattle.state_file.specs.Disk.{Counts, LeavesOnly}
 use Rattle.state_file.specs.Laws.{bottom_of}
@@ -24,9 +24,9 @@ use Rattle.sign_core.specs.Textbook.{public_of_key}
 use Rattle.sign_core.specs.World.{Fate, Outcome, State, answered, appended, open_on, secret_from}
 use Rattle.sign_core.specs.inner.Ledger.{LacksRoom}
 use Rattle.sign_core.specs.Ledger.{Table, TakesMemory}
-use Rattle.sign_core.specs.Textbook.{public_in}
 use Rattle.sign_core.specs.Signer.{View, is_random_failed, UsesMemory, unreadable_slot, state_of, is_store_failed}
-use Rattle.sign_core.specs.Signer.{is_out_of_memory, is_device_failed, LeavesOld, Ends}
+use Rattle.sign_core.specs.Signer.{is_out_of_memory, is_device_failed, LeavesOld, Ends, IsAnswered, random_after}
+use Rattle.sign_core.specs.Signer.{store_after}
 
 abbrev pub is_stopped : SignFault → Bool
 is_stopped Stopped = true
@@ -131,12 +131,6 @@ pub record DrawsSecret {R : Type 0} (r : source.Ghosts R) (spec : Spec) (old new
   pub source : Provides (r.upcoming old) (concat fields) (r.upcoming new)
   pub failures : Counts is_random_failed (r.failures old) (r.failures new) answer
 
--- A key is made, with its public key, and its record is the only one; or the fault is answered.
-abbrev pub IsAnsweredByKey : Result Key SignFault → Outcome AnyPublic → Type 0
-IsAnsweredByKey (Ok key) outcome = (public : AnyPublic) × (outcome.answer ≡ Ok public) × (public_in key ≡ Some public)
-    × (outcome.acknowledged ≡ KeyRecord key ∷ [])
-IsAnsweredByKey (Err fault) outcome = outcome.answer ≡ Err fault
-
 -- What the load of record k gives in an opening, by the answer.
 abbrev pub LoadsAt : (honest : Bool) (list : List Record) (old_stopped : Bool) (k : ℕ) (new_stopped : Bool)
     (failures_before failures_after : ℕ) → Result (Option Record) SignFault → Type 0
@@ -186,3 +180,10 @@ abbrev pub IsTakenUp : Result Table SignFault → Outcome AnyPublic → Type 0
 IsTakenUp (Ok table) outcome = (public : AnyPublic) × (outcome.answer ≡ Ok public)
     × (public_of_key (key_in table.records) ≡ Some public) × (table.records ≡ outcome.acknowledged)
 IsTakenUp (Err fault) outcome = outcome.answer ≡ Err fault
+
+-- A signer has the store and the source, or its refusal gives them back; and its answer is that of its records.
+pub record Holds {S R : Type 0} (store : S) (random : R) (records : Result Table SignFault)
+    (result : Result (View S R) (Refused (S × R) SignFault)) : Type 0 where
+  pub store_is : store_after result ≡ store
+  pub random_is : random_after result ≡ random
+  pub answer : (outcome : Outcome AnyPublic) → IsTakenUp records outcome → IsAnswered result outcome

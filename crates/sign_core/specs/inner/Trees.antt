@@ -13,6 +13,11 @@ use Rattle.sign_core.specs.Records.{current}
 use Rattle.sign_core.specs.declared.trees.Tree.{Tree}
 use Rattle.sign_core.specs.Trees.{HasTrees, kept_at}
 
+-- the place of a current tree; 0 where there is none
+abbrev pub place_of : Option Tree → ℕ
+place_of None = 0
+place_of (Some tree) = tree.place
+
 -- The levels above one keep their trees, and no other has one.
 abbrev pub AreAbove : (old : List (Option Tree)) (level : ℕ) (new : List (Option Tree)) → Type 0
 AreAbove old level new = (k : ℕ) → kept_at new k ≡ (if nat_lt k level then kept_at old k else None)

@@ -4,8 +4,8 @@ use Rattle.state_file.specs.declared.record.Secret.TheVariants as secret
 use Rattle.sign_core.proofs.Drawing.{all_drawn, draw_stops, draws_along, more_drawn, none_drawn}
 use Rattle.sign_core.proofs.signer.draw_secret.Goals as goal
 
-pub returns-in_err-draw-in-Lms-2 : goal.returns-in_err-draw-in-Lms-2
-returns-in_err-draw-in-Lms-2 g c =
+pub returns-in_err-draw-in-Lms-2-clause-draws : goal.returns-in_err-draw-in-Lms-2-clause-draws
+returns-in_err-draw-in-Lms-2-clause-draws g c =
     let r = g.R.Source in
     let drawn_1 = more_drawn r c.args.random.now c.args.random.now c.draw.new.random [] c.in_ok-draw-in-Lms.field-0 (none_drawn r c.args.random.now)
     c.in_ok-draw-in-Lms.ensures.drawn in
@@ -13,8 +13,8 @@ returns-in_err-draw-in-Lms-2 g c =
     draws_along r _ _ (Lms c.in-Lms.pair) _ _ _ (sym c.in-Lms.is) (sym answer)
     (draw_stops r (Lms c.in-Lms.pair) _ _ _ _ _ drawn_1 (c.in_ok-draw-in-Lms.ensures.field.0, c.in_ok-draw-in-Lms.ensures.field.1, tt) refl c.in_err-draw-in-Lms-2.ensures.drawn)
 
-pub returns-in_ok-draw-in-Lms-2 : goal.returns-in_ok-draw-in-Lms-2
-returns-in_ok-draw-in-Lms-2 g c =
+pub returns-in_ok-draw-in-Lms-2-clause-draws : goal.returns-in_ok-draw-in-Lms-2-clause-draws
+returns-in_ok-draw-in-Lms-2-clause-draws g c =
     let r = g.R.Source in
     let drawn_1 = more_drawn r c.args.random.now c.args.random.now c.draw.new.random [] c.in_ok-draw-in-Lms.field-0 (none_drawn r c.args.random.now)
     c.in_ok-draw-in-Lms.ensures.drawn in
@@ -23,8 +23,8 @@ returns-in_ok-draw-in-Lms-2 g c =
     draws_along r _ _ (Lms c.in-Lms.pair) _ _ _ (sym c.in-Lms.is) refl
     (all_drawn r (Lms c.in-Lms.pair) _ _ _ _ drawn_2 (c.in_ok-draw-in-Lms.ensures.field.0, c.in_ok-draw-in-Lms.ensures.field.1, (c.in_ok-draw-in-Lms-2.ensures.field.0, c.in_ok-draw-in-Lms-2.ensures.field.1, tt)) refl)
 
-pub returns-in_err-draw-in-Hss-2 : goal.returns-in_err-draw-in-Hss-2
-returns-in_err-draw-in-Hss-2 g c =
+pub returns-in_err-draw-in-Hss-2-clause-draws : goal.returns-in_err-draw-in-Hss-2-clause-draws
+returns-in_err-draw-in-Hss-2-clause-draws g c =
     let r = g.R.Source in
     let drawn_1 = more_drawn r c.args.random.now c.args.random.now c.draw-in-Hss.new.random [] c.in_ok-draw-in-Hss.field-0 (none_drawn r c.args.random.now)
     c.in_ok-draw-in-Hss.ensures.drawn in
@@ -32,8 +32,8 @@ returns-in_err-draw-in-Hss-2 g c =
     draws_along r _ _ (Hss c.in-Hss.levels) _ _ _ (sym c.in-Hss.is) (sym answer)
     (draw_stops r (Hss c.in-Hss.levels) _ _ _ _ _ drawn_1 (c.in_ok-draw-in-Hss.ensures.field.0, c.in_ok-draw-in-Hss.ensures.field.1, tt) refl c.in_err-draw-in-Hss-2.ensures.drawn)
 
-pub returns-in_ok-draw-in-Hss-2 : goal.returns-in_ok-draw-in-Hss-2
-returns-in_ok-draw-in-Hss-2 g c =
+pub returns-in_ok-draw-in-Hss-2-clause-draws : goal.returns-in_ok-draw-in-Hss-2-clause-draws
+returns-in_ok-draw-in-Hss-2-clause-draws g c =
     let r = g.R.Source in
     let drawn_1 = more_drawn r c.args.random.now c.args.random.now c.draw-in-Hss.new.random [] c.in_ok-draw-in-Hss.field-0 (none_drawn r c.args.random.now)
     c.in_ok-draw-in-Hss.ensures.drawn in
@@ -42,8 +42,8 @@ returns-in_ok-draw-in-Hss-2 g c =
     draws_along r _ _ (Hss c.in-Hss.levels) _ _ _ (sym c.in-Hss.is) (λ i. Ok (secret.Hss (sym c.copied.ensures i) c.in_ok-draw-in-Hss.field-0 c.in_ok-draw-in-Hss-2.field-0))
     (all_drawn r (Hss c.in-Hss.levels) _ _ _ _ drawn_2 (c.in_ok-draw-in-Hss.ensures.field.0, c.in_ok-draw-in-Hss.ensures.field.1, (c.in_ok-draw-in-Hss-2.ensures.field.0, c.in_ok-draw-in-Hss-2.ensures.field.1, tt)) refl)
 
-pub returns-in_err-draw-in-Xmss-2 : goal.returns-in_err-draw-in-Xmss-2
-returns-in_err-draw-in-Xmss-2 g c =
+pub returns-in_err-draw-in-Xmss-2-clause-draws : goal.returns-in_err-draw-in-Xmss-2-clause-draws
+returns-in_err-draw-in-Xmss-2-clause-draws g c =
     let r = g.R.Source in
     let drawn_1 = more_drawn r c.args.random.now c.args.random.now c.draw-in-Xmss.new.random [] c.in_ok-draw-in-Xmss.field-0 (none_drawn r c.args.random.now)
     c.in_ok-draw-in-Xmss.ensures.drawn in
@@ -51,8 +51,8 @@ returns-in_err-draw-in-Xmss-2 g c =
     draws_along r _ _ (Xmss c.in-Xmss.tree) _ _ _ (sym c.in-Xmss.is) (sym answer)
     (draw_stops r (Xmss c.in-Xmss.tree) _ _ _ _ _ drawn_1 (c.in_ok-draw-in-Xmss.ensures.field.0, c.in_ok-draw-in-Xmss.ensures.field.1, tt) refl c.in_err-draw-in-Xmss-2.ensures.drawn)
 
-pub returns-in_err-draw-in-Xmss-3 : goal.returns-in_err-draw-in-Xmss-3
-returns-in_err-draw-in-Xmss-3 g c =
+pub returns-in_err-draw-in-Xmss-3-clause-draws : goal.returns-in_err-draw-in-Xmss-3-clause-draws
+returns-in_err-draw-in-Xmss-3-clause-draws g c =
     let r = g.R.Source in
     let drawn_1 = more_drawn r c.args.random.now c.args.random.now c.draw-in-Xmss.new.random [] c.in_ok-draw-in-Xmss.field-0 (none_drawn r c.args.random.now)
     c.in_ok-draw-in-Xmss.ensures.drawn in
@@ -62,8 +62,8 @@ returns-in_err-draw-in-Xmss-3 g c =
     draws_along r _ _ (Xmss c.in-Xmss.tree) _ _ _ (sym c.in-Xmss.is) (sym answer)
     (draw_stops r (Xmss c.in-Xmss.tree) _ _ _ _ _ drawn_2 (c.in_ok-draw-in-Xmss.ensures.field.0, c.in_ok-draw-in-Xmss.ensures.field.1, (c.in_ok-draw-in-Xmss-2.ensures.field.0, c.in_ok-draw-in-Xmss-2.ensures.field.1, tt)) refl c.in_err-draw-in-Xmss-3.ensures.drawn)
 
-pub returns-in_ok-draw-in-Xmss-3 : goal.returns-in_ok-draw-in-Xmss-3
-returns-in_ok-draw-in-Xmss-3 g c =
+pub returns-in_ok-draw-in-Xmss-3-clause-draws : goal.returns-in_ok-draw-in-Xmss-3-clause-draws
+returns-in_ok-draw-in-Xmss-3-clause-draws g c =
     let r = g.R.Source in
     let drawn_1 = more_drawn r c.args.random.now c.args.random.now c.draw-in-Xmss.new.random [] c.in_ok-draw-in-Xmss.field-0 (none_drawn r c.args.random.now)
     c.in_ok-draw-in-Xmss.ensures.drawn in

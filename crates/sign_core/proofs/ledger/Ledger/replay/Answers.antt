@@ -1,4 +1,4 @@
-use Rattle.std.proofs.Common.{◌≡◌, ◌+◌, ◌∙◌, ap, sym, subst, length, arith}
+use Rattle.std.proofs.Common.{rules, ◌≡◌, ◌+◌, ◌∙◌, ◌∷◌, [], Some, ap, sym, subst, length, arith}
 use Rattle.std.specs.List.{IsFirstAndRest}
 use Rattle.std.specs.Prelude.{MatchOption}
 use Rattle.state_file.specs.Laws.{IsLegal}
@@ -19,8 +19,10 @@ all c =
 
 pub loop-entry-init : goal.loop-entry-init
 loop-entry-init c =
-    holds_first c.args.records.now c.in_ok-first.first.now c.in_ok-first.rest.now c.in_ok-ledger.ledger
-    (begins (goal.at.loop-entry-init c).In_ok-first).0 c.in_ok-ledger.ensures.records c.in_ok-ledger.ensures.key
+    let alone : c.new-ledger.result.records ≡ c.in_ok-first.first.now ∷ [] = search rules in
+    let keyed : key_in (c.in_ok-first.first.now ∷ []) ≡ Some c.new-ledger.result.key = search rules in
+    holds_first c.args.records.now c.in_ok-first.first.now c.in_ok-first.rest.now c.new-ledger.result
+    (begins (goal.at.loop-entry-init c).In_ok-first).0 alone keyed
 
 pub returns-in_err-take_up-clause-refused : goal.returns-in_err-take_up-clause-refused
 returns-in_err-take_up-clause-refused c =
