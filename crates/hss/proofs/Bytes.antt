@@ -101,19 +101,19 @@ part-more above i level within is =
     (sum ∙ ap (λ l. sum_by part_size (take i above) + part_size l) (sym is), sum_by-take-le part_size above (i + 1))
 
 -- the parts and the bottom's signature are as long as the levels' types say
-pub size-parts : (above : List Level) (bottom : Level) → signature_size (pairs_of above bottom) ≡ 4 + sum_by part_size above + lms_signature_len_of bottom.secret.pair
+pub size-parts : (above : List Level) (bottom : Level) → signature_size (pairs_of above bottom) ≡ 4 + sum_by part_size above + lms_signature_len_of bottom.tree.secret.pair
 size-parts above bottom =
-    let pair : Level → LmsPair = λ level. level.secret.pair in
+    let pair : Level → LmsPair = λ level. level.tree.secret.pair in
     let levels = levels_in above bottom in
     let count : length (map pair levels) ≡ length above + 1 = omega (arith, length-map levels pair, length-append above (bottom ∷ [])) in
-    let sum : sum_by lms_signature_len_of (map pair levels) ≡ sum_by lms_signature_len_of (map pair above) + lms_signature_len_of bottom.secret.pair =
-    ap (sum_by lms_signature_len_of) (map-append pair above (bottom ∷ [])) ∙ sum_by_push lms_signature_len_of (map pair above) (bottom.secret.pair) in
+    let sum : sum_by lms_signature_len_of (map pair levels) ≡ sum_by lms_signature_len_of (map pair above) + lms_signature_len_of bottom.tree.secret.pair =
+    ap (sum_by lms_signature_len_of) (map-append pair above (bottom ∷ [])) ∙ sum_by_push lms_signature_len_of (map pair above) (bottom.tree.secret.pair) in
     omega (arith, count, sum, parts above)
   where
-    parts : (above : List Level) → sum_by part_size above ≡ sum_by lms_signature_len_of (map (λ level. level.secret.pair) above) + 56 * length above
+    parts : (above : List Level) → sum_by part_size above ≡ sum_by lms_signature_len_of (map (λ level. level.tree.secret.pair) above) + 56 * length above
     parts [] = refl
     parts (level ∷ above) =
-        omega (arith, parts above, sum_by-cons part_size level above, sum_by-cons lms_signature_len_of level.secret.pair (map (λ level. level.secret.pair) above))
+        omega (arith, parts above, sum_by-cons part_size level above, sum_by-cons lms_signature_len_of level.tree.secret.pair (map (λ level. level.tree.secret.pair) above))
 
 -- ---- one more part is written
 

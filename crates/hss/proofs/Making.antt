@@ -7,6 +7,7 @@ use Rattle.std.proofs.lemmas.Slice.Zip.{firsts-zip, get_or-zip, length-zip, seco
 use Rattle.lms.specs.declared.key.LmsPublic.{LmsPublic}
 use Rattle.lms.specs.Signature.{Signature as LmsSignature}
 use Rattle.lms.specs.Secret.{path_in, public_of as lms_public_of}
+use Rattle.lms.specs.SigningTree.{path_of_tree}
 use Rattle.lms.specs.Writing.{signed as lms_signed, textbook as lms_textbook}
 use Rattle.lms.specs.Verification.{IsValid as IsLmsValid}
 use Rattle.lms.proofs.Signing.{signed_valid}
@@ -84,9 +85,9 @@ public_at level = lms_public_of level.secret
 -- ---- levels with their roots and paths
 
 -- a level's key is its secret's, if its root is
-key-from_secret : (level : Level) → level.root ≡ (lms_public_of level.secret).root → lms_public_of level.secret ≡ key_of level
+key-from_secret : (level : Level) → level.tree.root ≡ (lms_public_of level.tree.secret).root → lms_public_of level.tree.secret ≡ key_of level
 key-from_secret level root =
-    let with : List ℕ → LmsPublic = λ root. record { pair = level.secret.pair; identifier = level.secret.identifier; root = root } in
+    let with : List ℕ → LmsPublic = λ root. record { pair = level.tree.secret.pair; identifier = level.tree.secret.identifier; root = root } in
     ap with (sym root)
 
 -- A signature of levels with their secrets' roots and paths, and with the digests of what they sign, is valid.
@@ -97,7 +98,7 @@ made_valid above bottom message theirs digests =
     let level = level_in above bottom i in
     let signed = message_at message (signed_by above bottom) i in
     subst (λ k. IsLmsValid k signed (signature_by level)) (key-from_secret level (theirs.roots i inside))
-    (signed_valid level.secret level.leaf level.randomizer signed level.digest level.path.now level.is_leaf (digests i inside) (theirs.paths i inside)))
+    (signed_valid level.tree.secret level.tree.leaf level.randomizer signed level.digest (path_of_tree level.tree) level.tree.is_leaf (digests i inside) (theirs.paths i inside)))
 
 zip-map : {A B : Type 0} (f : A → B) (xs ys : List A) → zip (map f xs) (map f ys) ≡ map (λ pair. (f pair.0, f pair.1)) (zip xs ys)
 zip-map f [] ys = refl
@@ -118,8 +119,8 @@ signed-at {L = L} signature key above bottom i other within =
     ∙ ap₂ (λ first second. made (first, second)) (sym (get_or_append_left above (bottom ∷ []) bottom i within)) next
 
 -- a level's signature is the textbook's, if its path is
-signature-from_secret : (level : Level) → level.path.now ≡ path_in level.secret level.leaf → signature_by level ≡ signature_of (signing_of level)
-signature-from_secret level path = ap (lms_signed level.secret level.leaf level.randomizer level.digest) path
+signature-from_secret : (level : Level) → path_of_tree level.tree ≡ path_in level.tree.secret level.tree.leaf → signature_by level ≡ signature_of (signing_of level)
+signature-from_secret level path = ap (lms_signed level.tree.secret level.tree.leaf level.randomizer level.digest) path
 
 -- what level i signs with
 level_in-signing : (above : List Level) (bottom : Level) (i : ℕ) → i < length above + 1 → level_in (map signing_of above) (signing_of bottom) i ≡ signing_of (level_in above bottom i)
@@ -153,5 +154,5 @@ made_textbook above bottom theirs =
     ∙ sym (signed-at signature_of public_at signings (signing_of bottom) k d there) in
     let last : level_in above bottom n ≡ bottom = get_or_at above bottom [] bottom n refl in
     let bottom_is : signature_by bottom ≡ signature_of (signing_of bottom) =
-    signature-from_secret bottom (subst (λ level. level.path.now ≡ path_in level.secret level.leaf) last (theirs.paths n (omega arith))) in
+    signature-from_secret bottom (subst (λ level. path_of_tree level.tree ≡ path_in level.tree.secret level.tree.leaf) last (theirs.paths n (omega arith))) in
     ap₂ whole (same_lists made.signed standard.signed lengths each) bottom_is

@@ -3,6 +3,7 @@ use Rattle.std.specs.Prelude.{ℕ, List}
 use Rattle.lms.specs.declared.key.LmsPublic.{LmsPublic}
 use Rattle.typecodes.specs.declared.secret.LmsSecret.{LmsSecret}
 use Rattle.lms.specs.Signature.{Signature as LmsSignature}
+use Rattle.lms.specs.SigningTree.{key_of as key_of_tree, path_of_tree}
 use Rattle.lms.specs.Writing.{signed as lms_signed}
 use Rattle.hss.specs.declared.secret.Level.{Level}
 
@@ -15,12 +16,17 @@ pub record Signing : Type 0 where
 
 -- what a level signs with
 abbrev pub signing_of : Level → Signing
-signing_of level =
-    record { secret = level.secret; leaf = level.leaf; randomizer = level.randomizer; digest = level.digest }
+signing_of level = record {
+  secret = level.tree.secret;
+  leaf = level.tree.leaf;
+  randomizer = level.randomizer;
+  digest = level.digest;
+}
 
 -- a level's public key, and its signature
 abbrev pub key_of : Level → LmsPublic
-key_of level = record { pair = level.secret.pair; identifier = level.secret.identifier; root = level.root }
+key_of level = key_of_tree level.tree
 
 abbrev pub signature_by : Level → LmsSignature
-signature_by level = lms_signed level.secret level.leaf level.randomizer level.digest level.path.now
+signature_by level =
+    lms_signed level.tree.secret level.tree.leaf level.randomizer level.digest (path_of_tree level.tree)

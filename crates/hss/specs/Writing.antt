@@ -8,6 +8,7 @@ use Rattle.lmots.specs.Hashes.{u32str}
 use Rattle.lms.specs.declared.key.LmsPublic.{LmsPublic}
 use Rattle.lms.specs.Signature.{Signature as LmsSignature}
 use Rattle.lms.specs.Secret.{path_in, public_of as lms_public_of}
+use Rattle.lms.specs.SigningTree.{path_of_tree}
 use Rattle.lms.specs.Writing.{public_bytes as lms_public_bytes, signature_bytes as lms_signature_bytes}
 use Rattle.lms.specs.Writing.{textbook as lms_textbook}
 use Rattle.hss.specs.declared.key.HssPublic.{HssPublic}
@@ -80,7 +81,7 @@ pub record AreSigning (above : List Signing) (bottom : Signing) (message : List 
 
 -- the bytes of a level's signature with the next level's key
 abbrev pub part_size : Level → ℕ
-part_size level = lms_signature_len_of level.secret.pair + 56
+part_size level = lms_signature_len_of level.tree.secret.pair + 56
 
 abbrev pub signed_key_by : Level → LmsPublic → SignedKey
 signed_key_by level next = record { signature = signature_by level; key = next }
@@ -93,18 +94,18 @@ abbrev pub public_by : List Level → Level → HssPublic
 public_by above bottom = record { levels = length above + 1; top = key_of (level_in above bottom 0) }
 
 abbrev pub pairs_of : List Level → Level → List LmsPair
-pairs_of above bottom = map (λ level. level.secret.pair) (levels_in above bottom)
+pairs_of above bottom = map (λ level. level.tree.secret.pair) (levels_in above bottom)
 
 -- each level has its secret's root and its leaf's path
 pub record FromSecrets (above : List Level) (bottom : Level) : Type 0 where
   pub roots : (i : ℕ) → i < length above + 1 → let level = level_in above bottom i in
-      level.root ≡ (lms_public_of level.secret).root
+      level.tree.root ≡ (lms_public_of level.tree.secret).root
   pub paths : (i : ℕ) → i < length above + 1 → let level = level_in above bottom i in
-      level.path.now ≡ path_in level.secret level.leaf
+      path_of_tree level.tree ≡ path_in level.tree.secret level.tree.leaf
 
 -- each level's digest is the digest of what it signs, and the bottom signs the message
 abbrev pub AreDigests : List Level → Level → List ℕ → Type 0
 AreDigests above bottom message =
     (i : ℕ) → i < length above + 1 → let level = level_in above bottom i in
-    level.digest ≡ message_digest_of level.secret.identifier level.leaf level.randomizer
+    level.digest ≡ message_digest_of level.tree.secret.identifier level.tree.leaf level.randomizer
     (message_at message (signed_by above bottom) i)

@@ -7,7 +7,7 @@
 //! first refusal, unless the message can't be read. `verify_bytes_by` takes a message in memory, `verify_digest_by` a
 //! message's digest; both take a way to climb chains, and `OneByOne` needs little stack. `write_signature` writes the
 //! textbook signature if roots and paths are the secrets'. It is valid if also each digest is the digest of what its
-//! level signs. No call takes memory.
+//! level signs. `Level::write` writes one level's LMS signature alone. No call takes memory.
 //!
 //! The laws are `spelling_laws`, `verdict_laws`, `textbook_laws` and `joining_laws`.
 //!

@@ -42,8 +42,8 @@ pub fn write_public(public: &HssPublic, into: &mut [u8])
 }
 
 /// Writes the signature of a level above the bottom, then the next level's public key, which it signs (RFC 8554 6.2).
-pub fn write_signed_key(level: &Level<'_>, next: &LmsPublic, into: &mut [u8])
-    requires { length into.old ≡ lms_signature_len_of level.now.secret.pair + 56 }
+pub fn write_signed_key(level: &Level, next: &LmsPublic, into: &mut [u8])
+    requires { length into.old ≡ lms_signature_len_of level.now.tree.secret.pair + 56 }
     ensures bytes { into.new ≡ signed_key_bytes (signed_key_by level.now next.now) }
     ensures spells { Spells signed_key (signed_key_by level.now next.now) into.new }
 {
@@ -55,7 +55,7 @@ pub fn write_signed_key(level: &Level<'_>, next: &LmsPublic, into: &mut [u8])
 
 /// Writes the signature of levels (RFC 8554 6.2): the number of levels above the bottom, their signed keys from the top
 /// down, and the bottom's signature. The caller gives at most 7 levels above the bottom, and `signature_len` bytes.
-pub fn write_signature(above: &[Level<'_>], bottom: &Level<'_>, into: &mut [u8])
+pub fn write_signature(above: &[Level], bottom: &Level, into: &mut [u8])
     requires at_most_7 { length above.now ≤ 7 }
     requires room { length into.old ≡ signature_size (pairs_of above.now bottom.now) }
     ensures bytes { into.new ≡ signature_bytes (signed_by above.now bottom.now) }
@@ -74,10 +74,10 @@ pub fn write_signature(above: &[Level<'_>], bottom: &Level<'_>, into: &mut [u8])
 }
 
 // Writes the signed keys of a signature after the first 4 bytes, and returns the offset after them.
-fn write_above(above: &[Level<'_>], bottom: &Level<'_>, into: &mut [u8]) -> usize
+fn write_above(above: &[Level], bottom: &Level, into: &mut [u8]) -> usize
     requires at_most_7 { length above.now ≤ 7 }
     requires exact_length { length into.old
-        ≡ 4 + sum_by part_size above.now + lms_signature_len_of bottom.now.secret.pair }
+        ≡ 4 + sum_by part_size above.now + lms_signature_len_of bottom.now.tree.secret.pair }
     ensures offset { result ≡ 4 + sum_by part_size above.now }
     ensures bytes { take result into.new
         ≡ take 4 into.old ++ flat_map signed_key_bytes (signed_by above.now bottom.now).signed }
@@ -87,7 +87,7 @@ fn write_above(above: &[Level<'_>], bottom: &Level<'_>, into: &mut [u8]) -> usiz
     let mut offset = 4;
     for (i, level) in above.iter().enumerate() {
         let next = key_below(above, bottom, i);
-        let end = offset + level.secret.pair.signature_len() as usize + 56;
+        let end = offset + level.tree.secret.pair.signature_len() as usize + 56;
         write_signed_key(level, &next, &mut into[offset..end]);
         offset = end;
     }
@@ -95,7 +95,7 @@ fn write_above(above: &[Level<'_>], bottom: &Level<'_>, into: &mut [u8]) -> usiz
 }
 
 // The public key of the level below level i.
-fn key_below(above: &[Level<'_>], bottom: &Level<'_>, i: usize) -> LmsPublic
+fn key_below(above: &[Level], bottom: &Level, i: usize) -> LmsPublic
     requires { i < length above.now }
     ensures { result ≡ key_of (level_in above.now bottom.now (i + 1)) }
 {

@@ -21,7 +21,7 @@ use Rattle.state_file.specs.declared.record.Record.{Record}
 use Rattle.state_file.specs.declared.record.Record.TheVariants.{Key as KeyRecord, Extend as ExtendRecord, Bound as BoundRecord, Retire, Moved}
 use Rattle.state_file.specs.declared.record.Secret.{Secret}
 use Rattle.state_file.specs.declared.record.Secret.TheVariants.{Lms, Hss, Xmss}
-use Rattle.sign_core.specs.declared.links.Link.{Link}
+use Rattle.hss.specs.declared.secret.Level.{Level}
 use Rattle.sign_core.specs.Records.{current, key_in}
 use Rattle.sign_core.specs.inner.Links.{IsTreeAt, signings_of}
 use Rattle.sign_core.specs.Signing.{IsXmssKey}
@@ -144,13 +144,13 @@ signings_pairs records key trees (suc level) place legal keyed these (extend, st
     ∙ ap (λ p. take level trees.pairs ++ p ∷ []) (pair_at key trees records level parent (key_stands records key keyed) these there)
     ∙ take_one_more trees.pairs level trees.top.pair (omega (arith, few))
 
-pairs_of_links : (links : List Link) → pairs_of links ≡ map pair_of (signings_of links)
+pairs_of_links : (links : List Level) → pairs_of links ≡ map pair_of (signings_of links)
 unfolding pair_of
 pairs_of_links [] = refl
 pairs_of_links (link ∷ links) = ap (λ l. link.tree.secret.pair ∷ l) (pairs_of_links links)
 
 -- links that sign as a chain of trees does, down to the bottom, have the types of the levels
-pub links_pairs : (records : List Record) (key : Key) (trees other : Trees) (level place : ℕ) (links : List Link) (last : Signing) → IsLegal records
+pub links_pairs : (records : List Record) (key : Key) (trees other : Trees) (level place : ℕ) (links : List Level) (last : Signing) → IsLegal records
     → key_in records ≡ Some key → trees_of key.secret ≡ Some trees → trees_of key.secret ≡ Some other → IsTreeAt records (bottom_of key.secret) place
     → level ≡ bottom_of key.secret → signings_of links ≡ signings_above trees level records place ++ last ∷ [] → last.secret ≡ secret_at trees records place
     → pairs_of links ≡ other.pairs

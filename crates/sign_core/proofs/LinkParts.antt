@@ -8,6 +8,8 @@ use Rattle.std.proofs.lemmas.Option.{same_Some, slice_get_within}
 use Rattle.typecodes.specs.declared.types.LmsPair.{LmsPair}
 use Rattle.typecodes.specs.Types.{height_of}
 use Rattle.typecodes.specs.declared.secret.LmsSecret.{LmsSecret}
+use Rattle.lms.specs.declared.signing_tree.SigningTree.{SigningTree}
+use Rattle.hss.specs.declared.secret.Level.{Level}
 use Rattle.hss.specs.Secret.{Signing}
 use Rattle.state_file.specs.Laws.{IsCurrent, IsLegal, leaves_at, leaves_in, levels_of}
 use Rattle.state_file.specs.declared.record.Extend.{Extend}
@@ -17,10 +19,8 @@ use Rattle.state_file.specs.declared.record.Record.TheVariants.{Key as KeyRecord
 use Rattle.state_file.specs.declared.record.Secret.{Secret}
 use Rattle.state_file.specs.declared.record.Secret.TheVariants.{Lms, Hss, Xmss}
 use Rattle.sign_core.specs.declared.ledger.Made.{Made}
-use Rattle.sign_core.specs.declared.links.Link.{Link}
-use Rattle.sign_core.specs.declared.links.SigningTree.{SigningTree}
 use Rattle.sign_core.specs.Records.{current, key_in}
-use Rattle.sign_core.specs.inner.Links.{AreMade, IsMade, IsTreeAt, IsTreeBy, signing_of_link}
+use Rattle.sign_core.specs.inner.Links.{AreMade, IsMade, IsTreeAt, IsTreeBy}
 use Rattle.sign_core.specs.Ledger.{made_at, made_by}
 use Rattle.sign_core.specs.Textbook.{Trees, chain, damaged_in, is_sound_at, secret_at, secret_by, tree_before}
 use Rattle.sign_core.specs.Textbook.{signing_by, signing_with, signings_above, trees_of}
@@ -172,25 +172,22 @@ pub above_damaged : (key : Key) (records : List Record) (level place k : ℕ) �
 above_damaged key records level place k above =
     found_front (λ j. not (is_sound_at key records j)) (chain level records (tree_before level records place)) (place ∷ []) k above
 
--- ---- links
+-- ---- the levels of a chain
 
-pub more_made : (links : List Link) (link : Link) → AreMade links → IsMade link.tree → AreMade (links ++ link ∷ [])
-more_made links link before made i other at =
-    let inside : i < length (links ++ link ∷ []) = slice_get_within (links ++ link ∷ []) i other at in
-    let count : length (links ++ link ∷ []) ≡ length links + 1 = length-append links (link ∷ []) in
-    elim (cases_order i (length links)) [
-      | inl same ↦ subst (λ (l : Link). IsMade l.tree) (same_Some link other (sym (got_last links link i same) ∙ at)) made
-      | inr (inl below) ↦ before i other (sym (got_front links (link ∷ []) i below) ∙ at)
+pub more_made : (levels : List Level) (last : Level) → AreMade levels → IsMade last.tree → AreMade (levels ++ last ∷ [])
+more_made levels last before made i other at =
+    let inside : i < length (levels ++ last ∷ []) = slice_get_within (levels ++ last ∷ []) i other at in
+    let count : length (levels ++ last ∷ []) ≡ length levels + 1 = length-append levels (last ∷ []) in
+    elim (cases_order i (length levels)) [
+      | inl same ↦ subst (λ (l : Level). IsMade l.tree) (same_Some last other (sym (got_last levels last i same) ∙ at)) made
+      | inr (inl below) ↦ before i other (sym (got_front levels (last ∷ []) i below) ∙ at)
       | inr (inr beyond) ↦ absurd (omega (arith, inside, count, beyond))
     ]
 
--- the signing of a link whose tree was just made
-pub link_signs : (link : Link) (tree : SigningTree) (secret : LmsSecret) (leaf : ℕ) (randomizer digest : List ℕ) → link.tree ≡ tree → IsTreeBy secret leaf tree
-    → link.randomizer ≡ randomizer → link.digest ≡ digest → signing_of_link link ≡ signing_with secret leaf randomizer digest
-link_signs link tree secret leaf randomizer digest same by of_randomizer of_digest =
-    let secret_is : link.tree.secret ≡ secret = ap (λ (t : SigningTree). t.secret) same ∙ by.secret_is in
-    let leaf_is : link.tree.leaf ≡ leaf = ap (λ (t : SigningTree). t.leaf) same ∙ by.leaf_is in
-    λ i. record { secret = secret_is i; leaf = leaf_is i; randomizer = of_randomizer i; digest = of_digest i }
+-- the signing of a tree that was just made
+pub tree_signs : (tree : SigningTree) (secret : LmsSecret) (leaf : ℕ) (randomizer digest : List ℕ) → IsTreeBy secret leaf tree
+    → signing_with tree.secret tree.leaf randomizer digest ≡ signing_with secret leaf randomizer digest
+tree_signs tree secret leaf randomizer digest by = λ i. signing_with (by.secret_is i) (by.leaf_is i) randomizer digest
 
 -- ---- one more level
 

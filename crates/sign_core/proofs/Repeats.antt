@@ -7,7 +7,7 @@ use Rattle.std.proofs.lemmas.List.{map-append}
 use Rattle.std.proofs.lemmas.Option.{same_Some}
 use Rattle.typecodes.specs.declared.message.Message as message
 use Rattle.typecodes.specs.Types.{height_of, xmss_height_of}
-use Rattle.hss.specs.Secret.{Signing}
+use Rattle.hss.specs.Secret.{Signing, signing_of}
 use Rattle.typecodes.specs.declared.secret.XmssSecret.{XmssSecret}
 use Rattle.xmss.specs.Writing.{signature_bytes as xmss_signature_bytes, textbook as xmss_textbook}
 use Rattle.typecodes.specs.Message.{CantBeRead, ReadWhole}
@@ -20,8 +20,8 @@ use Rattle.state_file.specs.declared.record.Secret.{Secret}
 use Rattle.sign_core.specs.declared.fault.SignFault.{SignFault}
 use Rattle.sign_core.specs.declared.fault.SignFault.TheVariants.{Changed, Damaged, MessageRead, OutOfMemory}
 use Rattle.sign_core.specs.declared.ledger.Binding.{Binding}
-use Rattle.sign_core.specs.declared.links.Link.{Link}
-use Rattle.sign_core.specs.inner.Links.{AreMade, IsTreeAt, signing_of_link, signings_of, signing_of_bound}
+use Rattle.hss.specs.declared.secret.Level.{Level}
+use Rattle.sign_core.specs.inner.Links.{AreMade, IsTreeAt, signings_of, signing_of_bound}
 use Rattle.sign_core.specs.Records.{are_same, binding_in, key_in}
 use Rattle.sign_core.specs.Caches.{Cached, LacksCache}
 use Rattle.sign_core.specs.Signer.{View, is_before_repeat, is_fault, signature_size, state_of}
@@ -246,11 +246,9 @@ bound_chain key trees records name binding legal keyed these kept =
       subst (λ (b : Binding). b.leaf < 2 ^ height_of (secret_at trees records b.tree).pair.tree) found.is inside,
     )
 
-pub links_signs : (links above old : List Link) (link : Link) (rest : List Signing) → signings_of above ≡ signings_of old ++ rest
-    → links ≡ above ++ link ∷ [] → old ≡ [] → signings_of links ≡ rest ++ signing_of_link link ∷ []
-links_signs links above old link rest signs same none =
-    ap signings_of same ∙ map-append signing_of_link above (link ∷ [])
-    ∙ ap (λ l. l ++ signing_of_link link ∷ []) (signs ∙ ap (λ l. signings_of l ++ rest) none)
+pub links_signs : (above : List Level) (last : Level) (rest : List Signing) → signings_of above ≡ rest
+    → signings_of (above ++ last ∷ []) ≡ rest ++ signing_of last ∷ []
+links_signs above last rest signs = map-append signing_of above (last ∷ []) ∙ ap (λ l. l ++ signing_of last ∷ []) signs
 
 -- links that sign as a binding's chain does
 pub links_bound : (trees : Trees) (records : List Record) (level : ℕ) (secret : Secret) (k : ℕ) (bound : Bound) (binding : Binding) (signings : List Signing)

@@ -11,4 +11,3 @@ pub mod Signer
 pub mod Signing
 pub mod Source
 pub mod Trees
-pub mod Writing

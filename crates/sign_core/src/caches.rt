@@ -11,9 +11,9 @@ ghost use Rattle.sign_core.specs.Signing.{IsXmssKey};
 ghost use Rattle.sign_core.specs.Textbook.{damaged_in};
 
 use crate::fault::SignFault;
-use crate::links::SigningTree;
 use crate::progress::{TreeLeaves, TreeProgress};
 use crate::tree_secret::TreeSecret;
+use lms::SigningTree;
 use merkle::{PathCache, Told, TreeHash, path, root_from_path};
 use std::alloc::Global;
 use std::marker::Model;

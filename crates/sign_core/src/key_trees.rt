@@ -5,6 +5,8 @@ ghost use Rattle.std.specs.Prelude.{◌≡◌, ◌<◌, ◌+◌, ◌^◌, ◌++�
 ghost use Rattle.std.specs.Prelude.{IfErr, OnOk, IfOk, OnErr};
 ghost use Rattle.arrayvec.specs.ArrayVec.{array_vec_len};
 ghost use Rattle.typecodes.specs.Types.{height_of};
+ghost use Rattle.lmots.specs.Key.{message_digest_of};
+ghost use Rattle.lms.specs.Writing.{public_bytes};
 ghost use Rattle.state_file.specs.Laws.{levels_of};
 ghost use Rattle.sign_core.specs.Records.{free_at};
 ghost use Rattle.sign_core.specs.Textbook.{damaged_in, tree_before};
@@ -12,9 +14,11 @@ ghost use Rattle.sign_core.specs.Textbook.{damaged_in, tree_before};
 use crate::caches::Caches;
 use crate::fault::SignFault;
 use crate::ledger::{Binding, Ledger};
-use crate::links::{Link, SigningTree};
 use crate::progress::TreeProgress;
 use arrayvec::ArrayVec;
+use hss::Level;
+use lmots::LmOts;
+use lms::{LmsPublic, SigningTree, write_public};
 use state_file::{Extend, Secret};
 use typecodes::{Levels, LmsPair, LmsSecret, XmssSecret};
 
@@ -108,13 +112,13 @@ impl KeyTrees {
         requires made { IsMade tree.now }
         ensures { result ≡ is_sound_at ledger.now.key ledger.now.records place }
     {
-        match ledger.made(place) {
-            Some(made) => tree.is_said_by(
-                &made.extend,
-                self.secret_at(ledger, made.parent).identifier,
-            ),
-            None => ledger.key().root == tree.root,
-        }
+        let Some(made) = ledger.made(place) else {
+            return ledger.key().root == tree.root;
+        };
+        let extend = made.extend;
+        let parent = self.secret_at(ledger, made.parent).identifier;
+        let digest = key_digest(parent, extend.parent_leaf, &extend.randomizer, &tree.public());
+        extend.root == tree.root && extend.digest == digest
     }
 
     // The tree at a place, ready to sign by a leaf; or the place, if its record isn't sound.
@@ -154,7 +158,7 @@ impl KeyTrees {
         level: u8,
         place: u32,
         leaf: u32,
-        above: &mut ArrayVec<Link, 8>,
+        above: &mut ArrayVec<Level, 8>,
         progress: &P,
     ) -> Result<SigningTree, u32>
         requires legal { IsLegal ledger.now.records }
@@ -179,7 +183,7 @@ impl KeyTrees {
         let extend = made.extend;
         let (randomizer, digest) = (extend.randomizer, extend.digest);
         let parent_leaf = extend.parent_leaf;
-        let parent = self.chain_to(
+        let tree = self.chain_to(
             ledger,
             caches,
             level - 1,
@@ -188,9 +192,27 @@ impl KeyTrees {
             above,
             progress,
         )?;
-        above.push(parent.signing(randomizer, digest));
+        above.push(Level {
+            tree,
+            randomizer,
+            digest,
+        });
         self.sound_tree(ledger, caches, level, place, leaf, progress)
     }
+}
+
+/// Q, the digest of a public key, for a leaf of the tree with this I, and this C.
+pub(crate) fn key_digest(
+    identifier: [u8; 16],
+    leaf: u32,
+    randomizer: &[u8; 32],
+    public: &LmsPublic,
+) -> [u8; 32]
+    ensures { result ≡ message_digest_of identifier leaf randomizer.now (public_bytes public.now) }
+{
+    let mut bytes = [0; 56];
+    write_public(public, &mut bytes);
+    LmOts { identifier, leaf }.message_digest(randomizer, &bytes)
 }
 
 impl SecretTrees {

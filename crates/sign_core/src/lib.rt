@@ -41,7 +41,6 @@ mod key;
 mod key_trees;
 mod laws;
 mod ledger;
-mod links;
 mod migration;
 mod progress;
 mod rng_source;

@@ -9,8 +9,8 @@ use hss::{
     write_signed_key,
 };
 use lmots::LmOts;
-use lms::{LmsPublic, LmsTree};
-use merkle::{TreeHash, root_from_path};
+use lms::{LmsPublic, LmsTree, SigningTree};
+use merkle::root_and_path;
 use sha2::{Digest, Sha256};
 use std::process::Abort;
 use typecodes::{
@@ -61,42 +61,38 @@ const BOTTOM_RANDOMIZER: [u8; 32] = [
     0x66, 0xa6, 0x42, 0x1a, 0x1f, 0x2f, 0xf3, 0x1b, 0x94, 0xba, 0xd9, 0x25, 0x77, 0x64, 0x78, 0x19,
 ];
 
-// The root of a secret's tree, and leaf 1's path.
-fn tree_of(secret: LmsSecret) -> ([u8; 32], [[u8; 32]; 5]) {
-    let mut tree = LmsTree::new(secret);
-    let mut path = [[0; 32]; 5];
-    merkle::path(&mut tree, 5, 1, &mut path);
-    let leaf = tree.leaf(1);
-    (root_from_path(&tree, 1, &leaf, &path), path)
+// A secret's tree, whose leaf 1 is to sign.
+fn tree_of(secret: &LmsSecret) -> SigningTree
+    ensures { result.secret.pair ≡ PAIR }
+{
+    let secret = LmsSecret {
+        pair: PAIR,
+        identifier: secret.identifier,
+        seed: secret.seed,
+    };
+    let mut path = [[0; 32]; 25];
+    let root = root_and_path(&mut LmsTree::new(secret), 5, 1, &mut path[..5]);
+    SigningTree {
+        secret,
+        root,
+        leaf: 1,
+        path,
+    }
 }
 
 // A level whose leaf 1 signs a message.
-fn level<'a>(
-    secret: &LmsSecret,
-    randomizer: [u8; 32],
-    root: [u8; 32],
-    path: &'a [[u8; 32]; 5],
-    message: &[u8],
-) -> Level<'a>
-    ensures { result.secret.pair ≡ PAIR }
+fn level(secret: &LmsSecret, randomizer: [u8; 32], message: &[u8]) -> Level
+    ensures { result.tree.secret.pair ≡ PAIR }
 {
     let key = LmOts {
         identifier: secret.identifier,
         leaf: 1,
     };
     let digest = key.message_digest(&randomizer, message);
-    let secret = LmsSecret {
-        pair: PAIR,
-        identifier: secret.identifier,
-        seed: secret.seed,
-    };
     Level {
-        secret,
-        root,
-        leaf: 1,
+        tree: tree_of(secret),
         randomizer,
         digest,
-        path,
     }
 }
 
@@ -117,12 +113,10 @@ fn signed() -> (HssPublic, [u8; 2644]) {
 
 // The same for another message.
 fn signed_text(text: &[u8]) -> (HssPublic, [u8; 2644]) {
-    let (top_root, top_path) = tree_of(TOP);
-    let (bottom_root, bottom_path) = tree_of(BOTTOM);
-    let bottom = level(&BOTTOM, BOTTOM_RANDOMIZER, bottom_root, &bottom_path, text);
+    let bottom = level(&BOTTOM, BOTTOM_RANDOMIZER, text);
     let mut key = [0; 56];
     lms::write_public(&bottom.public(), &mut key);
-    let top = level(&TOP, TOP_RANDOMIZER, top_root, &top_path, &key);
+    let top = level(&TOP, TOP_RANDOMIZER, &key);
     let mut signature = [0; 2644];
     write_signature(&[top], &bottom, &mut signature);
     let public = HssPublic {
@@ -410,11 +404,23 @@ fn a_signed_key_is_written(rt: HostRuntime) {
     let Ok(key) = LmsPublic::read(bytes) else {
         panic!(rt; "it is not read")
     };
-    let (root, path) = tree_of(TOP);
-    let top = level(&TOP, TOP_RANDOMIZER, root, &path, bytes);
+    let top = level(&TOP, TOP_RANDOMIZER, bytes);
     let mut part = [0; 1348];
     write_signed_key(&top, &key, &mut part);
     assert!(rt; part.as_slice() == &signature[4..1352]);
+}
+
+// The same signature alone, by the level and by its tree.
+#[test]
+fn a_level_is_written_alone(rt: HostRuntime) {
+    let (_, signature) = signed();
+    let top = level(&TOP, TOP_RANDOMIZER, &signature[1296..1352]);
+    let mut by_level = [0; 1292];
+    top.write(&mut by_level);
+    assert!(rt; by_level.as_slice() == &signature[4..1296]);
+    let mut by_tree = [0; 1292];
+    top.tree.write(&top.randomizer, &top.digest, &mut by_tree);
+    assert!(rt; by_tree == by_level);
 }
 
 const OTHER: LmsPair = LmsPair {

@@ -6,7 +6,10 @@ use Rattle.lms.specs.declared.key.LmsPublic.{LmsPublic}
 use Rattle.typecodes.specs.declared.secret.LmsSecret.{LmsSecret}
 use Rattle.lms.specs.Secret.{path_in, root_in}
 use Rattle.lms.specs.Writing.{public_bytes}
-use Rattle.hss.specs.Secret.{Signing}
+use Rattle.lms.specs.declared.signing_tree.SigningTree.{SigningTree}
+use Rattle.lms.specs.SigningTree.{path_of_tree}
+use Rattle.hss.specs.declared.secret.Level.{Level}
+use Rattle.hss.specs.Secret.{Signing, signing_of}
 use Rattle.state_file.specs.declared.record.Bound.{Bound}
 use Rattle.state_file.specs.declared.record.Extend.{Extend}
 use Rattle.state_file.specs.declared.record.Key.{Key}
@@ -17,8 +20,6 @@ use Rattle.state_file.specs.declared.record.Secret.TheVariants.{Xmss}
 use Rattle.sign_core.specs.declared.key_trees.KeyTrees.{KeyTrees}
 use Rattle.sign_core.specs.declared.key_trees.SecretTrees.{SecretTrees}
 use Rattle.sign_core.specs.declared.key_trees.SecretTrees.TheVariants.{Chain, Xmss as XmssTree}
-use Rattle.sign_core.specs.declared.links.Link.{Link}
-use Rattle.sign_core.specs.declared.links.SigningTree.{SigningTree}
 use Rattle.sign_core.specs.Records.{are_same}
 use Rattle.sign_core.specs.Textbook.{Trees, secret_at, signing_with, trees_of}
 
@@ -45,20 +46,17 @@ abbrev pub signing_of_bound : Trees → List Record → (tree : ℕ) → Bound �
 signing_of_bound trees records tree bound =
     signing_with (secret_at trees records tree) bound.leaf bound.randomizer bound.digest
 
-abbrev pub signing_of_link : Link → Signing
-signing_of_link link = signing_with link.tree.secret link.tree.leaf link.randomizer link.digest
-
-abbrev pub signings_of : List Link → List Signing
-signings_of links = map signing_of_link links
+abbrev pub signings_of : List Level → List Signing
+signings_of levels = map signing_of levels
 
 -- The root of a tree is its secret's, and the path its leaf's.
 pub record IsMade (tree : SigningTree) : Type 0 where
   pub root : tree.root ≡ root_in tree.secret
-  pub path : take (height_of tree.secret.pair.tree) tree.path ≡ path_in tree.secret tree.leaf
+  pub path : path_of_tree tree ≡ path_in tree.secret tree.leaf
 
--- The same of the trees of all links.
-abbrev pub AreMade : List Link → Type 0
-AreMade links = (i : ℕ) (link : Link) → slice_get links i ≡ Some link → IsMade link.tree
+-- The same of the trees of all levels.
+abbrev pub AreMade : List Level → Type 0
+AreMade levels = (i : ℕ) (level : Level) → slice_get levels i ≡ Some level → IsMade level.tree
 
 -- A tree is made from a secret, and this leaf of it is to sign.
 pub record IsTreeBy (secret : LmsSecret) (leaf : ℕ) (tree : SigningTree) : Type 0 where

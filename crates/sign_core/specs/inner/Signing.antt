@@ -14,7 +14,7 @@ use Rattle.state_file.specs.declared.record.Secret.{Secret}
 use Rattle.sign_core.specs.declared.fault.SignFault.{SignFault}
 use Rattle.sign_core.specs.declared.fault.SignFault.TheVariants.{RandomFailed, RandomRepeated}
 use Rattle.sign_core.specs.declared.source.Source as source
-use Rattle.sign_core.specs.declared.links.Link.{Link}
+use Rattle.hss.specs.declared.secret.Level.{Level}
 use Rattle.sign_core.specs.declared.signer.bind.TreeSeeds.{TreeSeeds}
 use Rattle.sign_core.specs.Source.{Provides}
 use Rattle.sign_core.specs.Records.{binding_in, free_at, has_identifier, has_moved, has_randomizer, is_long, key_in}
@@ -36,8 +36,8 @@ use Rattle.sign_core.specs.Caches.{Cached, LacksCache}
 use Rattle.sign_core.specs.Ledger.{binding_kept, kept_of}
 use Rattle.sign_core.specs.Signing.{UnderKey, answered_with, KeepsCapacity}
 
-abbrev pub pairs_of : List Link → List LmsPair
-pairs_of links = map (λ link. link.tree.secret.pair) links
+abbrev pub pairs_of : List Level → List LmsPair
+pairs_of levels = map (λ level. level.tree.secret.pair) levels
 
 -- A level's current tree has a free leaf, and the chain of trees down to it is sound.
 pub record Stands (records : List Record) (level : ℕ) (key : Key) : Type 0 where
@@ -202,11 +202,11 @@ pub record RepeatsBy {M Z A : Type 0} (m : message.Ghosts M) (state : State) (bi
   pub capacity : KeepsCapacity state.records (vec_capacity old) (vec_capacity new)
   pub early : is_fault is_before_repeat result ≡ true → new_caches ≡ old_caches
 
--- If the links sign as the chain of a binding at place k in a key's records, the bytes are the binding's textbook
+-- If the levels sign as the chain of a binding at place k in a key's records, the bytes are the binding's textbook
 -- signature.
-abbrev pub WritesChain : Secret → List Link → (bytes : List ℕ) → Type 0
-WritesChain secret links bytes = (trees : Trees) (records : List Record) (k : ℕ) (bound : Bound)
+abbrev pub WritesChain : Secret → List Level → (bytes : List ℕ) → Type 0
+WritesChain secret levels bytes = (trees : Trees) (records : List Record) (k : ℕ) (bound : Bound)
     → (key : Key) × (key_in records ≡ Some key) → trees_of secret ≡ Some trees
-    → signings_of links ≡ signings_above trees (bottom_of secret) records (tree_before (bottom_of secret) records k)
+    → signings_of levels ≡ signings_above trees (bottom_of secret) records (tree_before (bottom_of secret) records k)
     ++ signing_of_bound trees records (tree_before (bottom_of secret) records k) bound ∷ []
     → bytes ≡ signature_by secret records k bound

@@ -11,9 +11,8 @@ ghost use Rattle.sign_core.specs.Signing.{KeepsCapacity, UnderKey, answered_with
 
 use super::Signer;
 use crate::fault::SignFault;
-use crate::key_trees::SecretTrees;
+use crate::key_trees::{SecretTrees, key_digest};
 use crate::ledger::{Binding, Ledger};
-use crate::links::key_digest;
 use crate::progress::TreeProgress;
 use crate::source::{Source, draw};
 use crate::writing::make_room;

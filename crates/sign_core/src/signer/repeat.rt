@@ -14,6 +14,7 @@ use crate::progress::TreeProgress;
 use crate::source::Source;
 use crate::writing::{make_room, write_chain};
 use arrayvec::ArrayVec;
+use hss::Level;
 use state_file::Store;
 use typecodes::Message;
 
@@ -53,10 +54,14 @@ impl SecretTrees {
         match self {
             SecretTrees::Chain(trees) => {
                 let level = key.secret.levels() - 1;
-                let mut links = ArrayVec::new();
-                let last = trees.chain_to(ledger, caches, level, tree, leaf, &mut links, progress)?;
-                links.push(last.signing(binding.randomizer, digest));
-                write_chain(&key.secret, &links, out);
+                let mut above = ArrayVec::new();
+                let tree = trees.chain_to(ledger, caches, level, tree, leaf, &mut above, progress)?;
+                let last = Level {
+                    tree,
+                    randomizer: binding.randomizer,
+                    digest,
+                };
+                write_chain(&key.secret, &above, &last, out);
                 Ok(())
             }
             SecretTrees::Xmss(secret) => {

@@ -1,15 +1,15 @@
-use Rattle.std.proofs.Common.{rules, ◌≡◌, ◌∙◌, ◌-◌, [], ◌∷◌, ◌++◌, None, Some, sym, ap, subst, arith}
+use Rattle.std.proofs.Common.{rules, List, ◌≡◌, ◌∙◌, ◌-◌, [], ◌∷◌, ◌++◌, None, Some, sym, ap, subst, arith}
 use Rattle.std.specs.Prelude.{length}
 use Rattle.state_file.specs.Laws.{bottom_of}
 use Rattle.state_file.specs.declared.record.Key.{Key}
-use Rattle.sign_core.specs.declared.links.SigningTree.{SigningTree}
+use Rattle.hss.specs.declared.secret.Level.{Level}
 use Rattle.sign_core.specs.Signer.{signature_size}
-use Rattle.sign_core.specs.inner.Links.{AreMade, IsMade, IsTreeAt, MakesTrees, trees_in}
+use Rattle.sign_core.specs.inner.Links.{AreMade, IsTreeAt, MakesTrees, signings_of, trees_in}
 use Rattle.sign_core.specs.inner.Signing.{WritesChain}
 use Rattle.sign_core.specs.Textbook.{damaged_in, signings_above, trees_of}
 use Rattle.sign_core.proofs.ChainParts.{links_pairs}
 use Rattle.sign_core.proofs.LedgerReading.{key_levels}
-use Rattle.sign_core.proofs.LinkParts.{link_signs, more_made}
+use Rattle.sign_core.proofs.LinkParts.{more_made, tree_signs}
 use Rattle.sign_core.proofs.Repeats.{bound_chain, bound_xmss_leaf, links_bound, links_signs, none_made, xmss_bound_chain, xmss_bound_signed}
 use Rattle.sign_core.proofs.key_trees.SecretTrees.write_bound.Goals as goal
 
@@ -45,18 +45,19 @@ chain_to-requires-clause-inside g c =
 pub chain_to-requires-clause-room : goal.chain_to-requires-clause-room
 chain_to-requires-clause-room g c =
     let (some, few) = key_levels c.args.ledger.now.records c.key-key.result.now c.key-key.ensures.sizes c.key-key.ensures.first in
-    omega (arith, some, few, c.levels-level.ensures, ap length c.new-links.ensures)
-
-pub push-requires : goal.push-requires
-push-requires g c =
-    let (some, few) = key_levels c.args.ledger.now.records c.key-key.result.now c.key-key.ensures.sizes c.key-key.ensures.first in
-    (omega arith, omega (arith, some, few, c.in_ok-last-in-Chain.ensures.len, c.levels-level.ensures, ap length c.new-links.ensures))
+    omega (arith, some, few, c.levels-level.ensures, ap length c.new-above.ensures)
 
 pub write_chain-requires-clause-made : goal.write_chain-requires-clause-made
 write_chain-requires-clause-made g c =
-    let made = c.in_ok-last-in-Chain.ensures.made (subst AreMade (sym c.new-links.ensures) none_made) in
-    subst AreMade (sym (c.deref.ensures.0 ∙ c.push.ensures.items))
-    (more_made c.chain_to.new.above.items c.signing.result made (subst IsMade (sym c.signing.ensures.tree) c.in_ok-last-in-Chain.ensures.tree.made))
+    let made = c.in_ok-tree-in-Chain.ensures.made (subst AreMade (sym c.new-above.ensures) none_made) in
+    let bottom : Level = record { tree = c.in_ok-tree-in-Chain.tree; randomizer = c.args.binding.now.randomizer; digest = c.args.binding.now.digest } in
+    subst (λ (l : List Level). AreMade (l ++ bottom ∷ [])) (sym c.deref.ensures.0)
+    (more_made c.chain_to.new.above.items bottom made c.in_ok-tree-in-Chain.ensures.tree.made)
+
+pub write_chain-requires-clause-few : goal.write_chain-requires-clause-few
+write_chain-requires-clause-few g c =
+    let (some, few) = key_levels c.args.ledger.now.records c.key-key.result.now c.key-key.ensures.sizes c.key-key.ensures.first in
+    omega (arith, some, few, ap length c.deref.ensures.0, c.in_ok-tree-in-Chain.ensures.len, c.levels-level.ensures, ap length c.new-above.ensures)
 
 pub write_chain-requires-clause-trees : goal.write_chain-requires-clause-trees
 write_chain-requires-clause-trees g c =
@@ -75,37 +76,39 @@ write_chain-requires-clause-pairs g c other others =
     let these = subst (λ (k : Key). trees_of k.secret ≡ Some T) (sym c.key-key.ensures.key)
     (subst (MakesTrees c.args.ledger.now.key.secret) c.in-Chain.is c.requires.trees) in
     let (name, kept) = c.requires.kept own c.key-key.ensures.first in
-    links_pairs L own T other (c.levels-level.result - 1) c.args.binding.now.tree c.deref.result.now _ c.key-key.ensures.legal c.key-key.ensures.first these others
+    let bottom : Level = record { tree = c.in_ok-tree-in-Chain.tree; randomizer = c.args.binding.now.randomizer; digest = c.args.binding.now.digest } in
+    links_pairs L own T other (c.levels-level.result - 1) c.args.binding.now.tree (c.deref.result.now ++ bottom ∷ []) _ c.key-key.ensures.legal c.key-key.ensures.first these others
     (bound_chain own T L name c.args.binding.now c.key-key.ensures.legal c.key-key.ensures.first these kept).0 (ap (λ n. n - 1) c.levels-level.ensures)
-    (links_signs c.deref.result.now c.chain_to.new.above.items c.new-links.result.items c.signing.result _ c.in_ok-last-in-Chain.ensures.signings
-    (c.deref.ensures.0 ∙ c.push.ensures.items) c.new-links.ensures)
-    (ap (λ (t : SigningTree). t.secret) c.signing.ensures.tree ∙ c.in_ok-last-in-Chain.ensures.tree.secret_is)
+    (links_signs c.deref.result.now bottom _ (ap signings_of c.deref.ensures.0 ∙ c.in_ok-tree-in-Chain.ensures.signings
+    ∙ ap (λ (l : List Level). signings_of l ++ signings_above T (c.levels-level.result - 1) L c.args.binding.now.tree) c.new-above.ensures))
+    c.in_ok-tree-in-Chain.ensures.tree.secret_is
 
-pub returns-in_err-last-in-Chain-clause-damaged : goal.returns-in_err-last-in-Chain-clause-damaged
-returns-in_err-last-in-Chain-clause-damaged g c =
+pub returns-in_err-tree-in-Chain-clause-damaged : goal.returns-in_err-tree-in-Chain-clause-damaged
+returns-in_err-tree-in-Chain-clause-damaged g c =
     let l = c.args.ledger.now in
     let level = ap (λ n. n - 1) c.levels-level.ensures ∙ ap (λ (k : Key). bottom_of k.secret) c.key-key.ensures.key in
-    let damaged = subst (λ n. damaged_in l.key n l.records c.args.binding.now.tree ≡ Some c.in_err-last-in-Chain.field-0.0) level c.in_err-last-in-Chain.ensures.damaged in
+    let damaged = subst (λ n. damaged_in l.key n l.records c.args.binding.now.tree ≡ Some c.in_err-tree-in-Chain.field-0.0) level c.in_err-tree-in-Chain.ensures.damaged in
     search (rules, damaged)
 
-pub returns-in_ok-last-in-Chain-clause-sound : goal.returns-in_ok-last-in-Chain-clause-sound
-returns-in_ok-last-in-Chain-clause-sound g c =
+pub returns-in_ok-tree-in-Chain-clause-sound : goal.returns-in_ok-tree-in-Chain-clause-sound
+returns-in_ok-tree-in-Chain-clause-sound g c =
     let l = c.args.ledger.now in
     let level = ap (λ n. n - 1) c.levels-level.ensures ∙ ap (λ (k : Key). bottom_of k.secret) c.key-key.ensures.key in
-    subst (λ n. damaged_in l.key n l.records c.args.binding.now.tree ≡ None) level c.in_ok-last-in-Chain.ensures.sound
+    subst (λ n. damaged_in l.key n l.records c.args.binding.now.tree ≡ None) level c.in_ok-tree-in-Chain.ensures.sound
 
-pub returns-in_ok-last-in-Chain-clause-signature : goal.returns-in_ok-last-in-Chain-clause-signature
-returns-in_ok-last-in-Chain-clause-signature g c k bound is =
+pub returns-in_ok-tree-in-Chain-clause-signature : goal.returns-in_ok-tree-in-Chain-clause-signature
+returns-in_ok-tree-in-Chain-clause-signature g c k bound is =
     let l = c.args.ledger.now in
     let b = c.args.binding.now in
     let T = trees_in c.in-Chain.trees in
     let these = subst (MakesTrees l.key.secret) c.in-Chain.is c.requires.trees in
     let level = ap (λ n. n - 1) c.levels-level.ensures ∙ ap (λ (k : Key). bottom_of k.secret) c.key-key.ensures.key in
-    let signs = links_signs c.deref.result.now c.chain_to.new.above.items c.new-links.result.items c.signing.result _ c.in_ok-last-in-Chain.ensures.signings
-    (c.deref.ensures.0 ∙ c.push.ensures.items) c.new-links.ensures
-    ∙ ap (λ s. signings_above T (c.levels-level.result - 1) l.records b.tree ++ s ∷ [])
-    (link_signs c.signing.result c.in_ok-last-in-Chain.last _ _ _ _ c.signing.ensures.tree c.in_ok-last-in-Chain.ensures.tree c.signing.ensures.randomizer c.signing.ensures.digest) in
-    subst (λ (k : Key). WritesChain k.secret c.deref.result.now c.write_chain.new.into) c.key-key.ensures.key c.write_chain.ensures T l.records k bound
+    let bottom : Level = record { tree = c.in_ok-tree-in-Chain.tree; randomizer = b.randomizer; digest = b.digest } in
+    let above = signings_above T (c.levels-level.result - 1) l.records b.tree in
+    let signs = links_signs c.deref.result.now bottom above (ap signings_of c.deref.ensures.0 ∙ c.in_ok-tree-in-Chain.ensures.signings
+    ∙ ap (λ (l : List Level). signings_of l ++ above) c.new-above.ensures)
+    ∙ ap (λ s. above ++ s ∷ []) (tree_signs c.in_ok-tree-in-Chain.tree _ _ b.randomizer b.digest c.in_ok-tree-in-Chain.ensures.tree) in
+    subst (λ (k : Key). WritesChain k.secret (c.deref.result.now ++ bottom ∷ []) c.write_chain.new.into) c.key-key.ensures.key c.write_chain.ensures T l.records k bound
     (l.key, c.key-key.ensures.first ∙ ap Some c.key-key.ensures.key) these
     (links_bound T l.records (c.levels-level.result - 1) l.key.secret k bound b _ level is signs)
 
