@@ -14,11 +14,41 @@ use crate::fault::SignFault;
 use crate::progress::{TreeLeaves, TreeProgress};
 use crate::tree_secret::TreeSecret;
 use lms::SigningTree;
-use merkle::{PathCache, Told, TreeHash, path, root_from_path};
+use merkle::{PathCache, Told, root_and_path};
 use std::alloc::Global;
 use std::marker::Model;
 use std::mem;
 use typecodes::{LmsSecret, XmssSecret};
+
+/// What is asked of a cache: the tree of a secret at a level, which is to sign by a leaf. `progress` is told of it, if
+/// it is made.
+#[derive(Drop)]
+pub(crate) struct TreeRequest<'a, X, P> {
+    level: u8,
+    secret: X,
+    leaf: u32,
+    progress: &'a P,
+}
+
+impl<'a, X: TreeSecret, P: TreeProgress> TreeRequest<'a, X, P> {
+    pub(crate) fn new(level: u8, secret: X, leaf: u32, progress: &'a P) -> Self
+        ensures level { result.level ≡ level }
+        ensures secret { result.secret ≡ secret }
+        ensures leaf { result.leaf ≡ leaf }
+    {
+        TreeRequest {
+            level,
+            secret,
+            leaf,
+            progress,
+        }
+    }
+
+    // Tells that the tree is begun.
+    fn begin(&self) -> TreeLeaves<'a, P> {
+        TreeLeaves::begin(self.progress, self.level, self.secret.height())
+    }
+}
 
 #[derive(Drop)]
 pub(crate) struct TreeCache<X: TreeSecret> {
@@ -39,22 +69,15 @@ impl<X: TreeSecret> Model for TreeCache<X> {
 
 impl<X: TreeSecret> TreeCache<X> {
     // Makes each leaf of the tree, once. Keeps the block of `leaf`, or the last one if the tree has no such leaf.
-    fn new<P: TreeProgress>(
-        alloc: Global,
-        level: u8,
-        secret: X,
-        leaf: u32,
-        progress: &P,
-    ) -> Result<Self, SignFault>
-        ensures secret { IfOk result (λ cache. cache ≡ secret) }
+    fn new<P: TreeProgress>(alloc: Global, asked: TreeRequest<'_, X, P>) -> Result<Self, SignFault>
+        ensures secret { IfOk result (λ cache. cache ≡ asked.entry.secret) }
         ensures fault { IfErr result (λ fault. fault ≡ SignFault.OutOfMemory) }
     {
+        let secret = asked.secret;
         let height = secret.height();
-        let leaf = leaf_within(height, leaf);
-        let leaves = TreeLeaves::begin(progress, level, height);
-        let cache = PathCache::for_leaf_telling(alloc, secret.tree(), height, leaf, leaves).map_err(
-            |_| SignFault::OutOfMemory,
-        )?;
+        let leaf = leaf_within(height, asked.leaf);
+        let made = PathCache::for_leaf_telling(alloc, secret.tree(), height, leaf, asked.begin());
+        let cache = made.map_err(|_| SignFault::OutOfMemory)?;
         Ok(TreeCache { secret, cache })
     }
 
@@ -79,46 +102,6 @@ impl<X: TreeSecret> TreeCache<X> {
     }
 }
 
-// Writes the authentication path of a leaf, and answers the root. Each leaf is made once.
-fn root_and_path<T: TreeHash>(
-    tree: &mut T,
-    height: u8,
-    leaf: u32,
-    into: &mut [[u8; 32]],
-) -> [u8; 32]
-    requires height { height ≤ 25 }
-    requires inside { leaf < 2 ^ height }
-    requires room { length into.old ≡ height }
-    ensures path { into.new ≡ path_of (T.leaf_of tree.old) (T.join_of tree.old) height leaf }
-    ensures length { length into.new ≡ height }
-    ensures root { result ≡ root_of (T.leaf_of tree.old) (T.join_of tree.old) height }
-{
-    path(tree, height, leaf, into);
-    let value = tree.leaf(leaf);
-    root_from_path(tree, leaf, &value, into)
-}
-
-// Makes the cache of a secret's tree, which is to sign by this leaf, unless it is there.
-fn keep<X: TreeSecret, P: TreeProgress>(
-    kept: &mut Option<TreeCache<X>>,
-    alloc: Global,
-    level: u8,
-    secret: &X,
-    leaf: u32,
-    progress: &P,
-) -> Result<(), SignFault>
-    ensures there { OnOk result (kept.new ≡ Some secret.now) }
-    ensures fault { IfErr result (λ fault. fault ≡ SignFault.OutOfMemory) }
-    ensures lacking { OnErr result (kept.old ≢ Some secret.now) }
-{
-    if leaves_made(kept, secret).is_some() {
-        return Ok(());
-    }
-    *kept = None;
-    *kept = Some(TreeCache::new(alloc, level, *secret, leaf, progress)?);
-    Ok(())
-}
-
 // How many leaves the cache has made, if it is the secret's.
 fn leaves_made<X: TreeSecret>(kept: &Option<TreeCache<X>>, secret: &X) -> Option<u64>
     ensures { IsSome result ↔ (kept.now ≡ Some secret.now) }
@@ -129,31 +112,40 @@ fn leaves_made<X: TreeSecret>(kept: &Option<TreeCache<X>>, secret: &X) -> Option
     }
 }
 
-// Writes the authentication path of a leaf, and answers the root: from the cache, if that is the secret's. Else each
-// leaf is made once, and `progress` is told of a tree of this level.
-fn kept_root_and_path<X: TreeSecret, P: TreeProgress>(
-    kept: &mut Option<TreeCache<X>>,
-    level: u8,
-    secret: X,
-    leaf: u32,
-    into: &mut [[u8; 32]],
-    progress: &P,
-) -> [u8; 32]
-    requires inside { leaf < 2 ^ X.height_in secret }
-    requires room { length into.old ≡ X.height_in secret }
-    ensures path { into.new ≡ path_of (X.leaves_in secret) (X.joins_in secret) (X.height_in secret) leaf }
-    ensures length { length into.new ≡ X.height_in secret }
-    ensures root { result ≡ root_of (X.leaves_in secret) (X.joins_in secret) (X.height_in secret) }
-    ensures same { kept.new ≡ kept.old }
-{
-    if let Some(cache) = kept {
-        if cache.secret.is_same(&secret) {
-            return cache.root_and_path(leaf, into);
+impl<X: TreeSecret, P: TreeProgress> TreeRequest<'_, X, P> {
+    // Makes the cache of the tree, unless it is there.
+    fn keep(self, kept: &mut Option<TreeCache<X>>, alloc: Global) -> Result<(), SignFault>
+        ensures there { OnOk result (kept.new ≡ Some self.entry.secret) }
+        ensures fault { IfErr result (λ fault. fault ≡ SignFault.OutOfMemory) }
+        ensures lacking { OnErr result (kept.old ≢ Some self.entry.secret) }
+    {
+        if leaves_made(kept, &self.secret).is_some() {
+            return Ok(());
         }
+        *kept = None;
+        *kept = Some(TreeCache::new(alloc, self)?);
+        Ok(())
     }
-    let height = secret.height();
-    let leaves = TreeLeaves::begin(progress, level, height);
-    root_and_path(&mut Told::new(secret.tree(), leaves), height, leaf, into)
+
+    // Writes the authentication path of the leaf, and answers the root: from the cache, if that is the secret's. Else
+    // each leaf is made once.
+    fn root_and_path(self, kept: &mut Option<TreeCache<X>>, into: &mut [[u8; 32]]) -> [u8; 32]
+        requires inside { self.leaf < 2 ^ X.height_in self.secret }
+        requires room { length into.old ≡ X.height_in self.secret }
+        ensures path { into.new
+            ≡ path_of (X.leaves_in self.entry.secret) (X.joins_in self.entry.secret) (X.height_in self.entry.secret) self.entry.leaf }
+        ensures length { length into.new ≡ X.height_in self.entry.secret }
+        ensures root { result ≡ root_of (X.leaves_in self.entry.secret) (X.joins_in self.entry.secret) (X.height_in self.entry.secret) }
+        ensures same { kept.new ≡ kept.old }
+    {
+        if let Some(cache) = kept {
+            if cache.secret.is_same(&self.secret) {
+                return cache.root_and_path(self.leaf, into);
+            }
+        }
+        let mut tree = Told::new(self.secret.tree(), self.begin());
+        root_and_path(&mut tree, self.secret.height(), self.leaf, into)
+    }
 }
 
 // The leaf, or the last one of a tree of this height, if it has no such leaf.
@@ -209,62 +201,56 @@ impl Caches {
         mem::replace(self, none)
     }
 
-    // Makes a level's cache of a secret's tree, which is to sign by this leaf, unless it is there.
+    // Makes a level's cache of an LMS tree, unless it is there.
     pub(crate) fn keep<P: TreeProgress>(
         &mut self,
-        level: u8,
-        secret: &LmsSecret,
-        leaf: u32,
-        progress: &P,
+        asked: TreeRequest<'_, LmsSecret, P>,
     ) -> Result<(), SignFault>
-        requires { level < 8 }
-        ensures there { OnOk result (HasLevel self.new level secret.now) }
+        requires { asked.level < 8 }
+        ensures there { OnOk result (HasLevel self.new asked.entry.level asked.entry.secret) }
         ensures fault { IfErr result (λ fault. fault ≡ SignFault.OutOfMemory) }
-        ensures lacking { OnErr result (HasLevel self.old level secret.now → ⊥) }
-        ensures others { (k : ℕ) → k ≢ level → cache_at self.new.levels k ≡ cache_at self.old.levels k }
+        ensures lacking { OnErr result (HasLevel self.old asked.entry.level asked.entry.secret → ⊥) }
+        ensures others { (k : ℕ) → k ≢ asked.entry.level → cache_at self.new.levels k ≡ cache_at self.old.levels k }
         ensures xmss { self.new.xmss ≡ self.old.xmss }
     {
-        let kept = &mut self.levels[usize::from(level)];
-        keep(kept, self.alloc, level, secret, leaf, progress)
+        let kept = &mut self.levels[usize::from(asked.level)];
+        asked.keep(kept, self.alloc)
     }
 
-    /// Replaces a level's cache by a new tree's, which is to sign by its first leaf, and answers the tree's root.
+    /// Replaces a level's cache by a new tree's, and answers the tree's root.
     pub(crate) fn begin<P: TreeProgress>(
         &mut self,
-        level: u8,
-        secret: LmsSecret,
-        progress: &P,
+        asked: TreeRequest<'_, LmsSecret, P>,
     ) -> Result<[u8; 32], SignFault>
-        requires { level < 8 }
+        requires { asked.level < 8 }
         ensures fault { IfErr result (λ fault. fault ≡ SignFault.OutOfMemory) }
         ensures stays { OnErr result (self.new ≡ self.old) }
-        ensures root { IfOk result (λ root. root ≡ lms_root_in secret) }
+        ensures root { IfOk result (λ root. root ≡ lms_root_in asked.entry.secret) }
     {
-        let cache = TreeCache::new(self.alloc, level, secret, 0, progress)?;
+        let level = usize::from(asked.level);
+        let cache = TreeCache::new(self.alloc, asked)?;
         let root = cache.root();
-        self.levels[usize::from(level)] = Some(cache);
+        self.levels[level] = Some(cache);
         Ok(root)
     }
 
-    /// The tree of a secret, ready to sign by a leaf: from the level's cache, if that is the secret's, else made anew.
+    /// An LMS tree, ready to sign by the leaf: from the level's cache, if that is the secret's, else made anew.
     pub(crate) fn signing_tree<P: TreeProgress>(
         &mut self,
-        level: u8,
-        secret: LmsSecret,
-        leaf: u32,
-        progress: &P,
+        asked: TreeRequest<'_, LmsSecret, P>,
     ) -> SigningTree
-        requires few { level < 8 }
-        requires inside { leaf < 2 ^ height_of secret.pair.tree }
-        ensures secret { result.secret ≡ secret }
-        ensures leaf { result.leaf ≡ leaf }
+        requires few { asked.level < 8 }
+        requires inside { asked.leaf < 2 ^ height_of asked.secret.pair.tree }
+        ensures secret { result.secret ≡ asked.entry.secret }
+        ensures leaf { result.leaf ≡ asked.entry.leaf }
         ensures made { IsMade result }
         ensures same { self.new ≡ self.old }
     {
+        let (secret, leaf) = (asked.secret, asked.leaf);
         let mut path = [[0; 32]; 25];
         let nodes = &mut path[..usize::from(secret.height())];
-        let kept = &mut self.levels[usize::from(level)];
-        let root = kept_root_and_path(kept, level, secret, leaf, nodes, progress);
+        let kept = &mut self.levels[usize::from(asked.level)];
+        let root = asked.root_and_path(kept, nodes);
         SigningTree {
             secret,
             root,
@@ -288,42 +274,38 @@ impl Caches {
         leaves_made(&self.xmss, secret)
     }
 
-    /// Makes the cache of a secret's XMSS tree, which is to sign by this leaf, unless it is there.
+    /// Makes the cache of an XMSS tree, unless it is there.
     pub(crate) fn keep_xmss<P: TreeProgress>(
         &mut self,
-        secret: &XmssSecret,
-        leaf: u32,
-        progress: &P,
+        asked: TreeRequest<'_, XmssSecret, P>,
     ) -> Result<(), SignFault>
-        ensures there { OnOk result (self.new.xmss ≡ Some secret.now) }
+        ensures there { OnOk result (self.new.xmss ≡ Some asked.entry.secret) }
         ensures fault { IfErr result (λ fault. fault ≡ SignFault.OutOfMemory) }
-        ensures lacking { OnErr result (self.old.xmss ≢ Some secret.now) }
+        ensures lacking { OnErr result (self.old.xmss ≢ Some asked.entry.secret) }
         ensures levels { self.new.levels ≡ self.old.levels }
     {
-        keep(&mut self.xmss, self.alloc, 0, secret, leaf, progress)
+        asked.keep(&mut self.xmss, self.alloc)
     }
 
-    /// Writes the authentication path of an XMSS leaf. Err(0), record 0 is damaged, where the recorded root isn't the
-    /// tree's.
-    pub(crate) fn xmss_link<P: TreeProgress>(
+    /// Writes the authentication path of an XMSS tree's leaf. Err(0), record 0 is damaged, where the recorded root
+    /// isn't the tree's.
+    pub(crate) fn xmss_path<P: TreeProgress>(
         &mut self,
-        secret: XmssSecret,
+        asked: TreeRequest<'_, XmssSecret, P>,
         root: &[u8; 32],
-        leaf: u32,
         into: &mut [[u8; 32]],
-        progress: &P,
     ) -> Result<(), u32>
-        requires inside { leaf < 2 ^ xmss_height_of secret.tree }
-        requires room { length into.old ≡ xmss_height_of secret.tree }
-        ensures path { into.new ≡ xmss_path_in secret leaf }
-        ensures length { length into.new ≡ xmss_height_of secret.tree }
-        ensures sound { (key : K) (rest : List R) → IsXmssKey secret key → key.root ≡ root.now
+        requires inside { asked.leaf < 2 ^ xmss_height_of asked.secret.tree }
+        requires room { length into.old ≡ xmss_height_of asked.secret.tree }
+        ensures path { into.new ≡ xmss_path_in asked.entry.secret asked.entry.leaf }
+        ensures length { length into.new ≡ xmss_height_of asked.entry.secret.tree }
+        ensures sound { (key : K) (rest : List R) → IsXmssKey asked.entry.secret key → key.root ≡ root.now
             → OnOk result (damaged_in key 0 (KeyRecord key ∷ rest) 0 ≡ None) }
-        ensures damaged { (key : K) (rest : List R) → IsXmssKey secret key → key.root ≡ root.now
+        ensures damaged { (key : K) (rest : List R) → IsXmssKey asked.entry.secret key → key.root ≡ root.now
             → IfErr result (λ place. damaged_in key 0 (KeyRecord key ∷ rest) 0 ≡ Some place) }
         ensures same { self.new ≡ self.old }
     {
-        let made = kept_root_and_path(&mut self.xmss, 0, secret, leaf, into, progress);
+        let made = asked.root_and_path(&mut self.xmss, into);
         if *root == made { Ok(()) } else { Err(0) }
     }
 }

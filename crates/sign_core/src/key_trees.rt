@@ -11,7 +11,7 @@ ghost use Rattle.state_file.specs.Laws.{levels_of};
 ghost use Rattle.sign_core.specs.Records.{free_at};
 ghost use Rattle.sign_core.specs.Textbook.{damaged_in, tree_before};
 
-use crate::caches::Caches;
+use crate::caches::{Caches, TreeRequest};
 use crate::fault::SignFault;
 use crate::ledger::{Binding, Ledger};
 use crate::progress::TreeProgress;
@@ -142,7 +142,8 @@ impl KeyTrees {
         ensures tree { IfOk result (IsTreeBy (secret_at (trees_in self.now) ledger.now.records place) leaf) }
         ensures caches { caches.new ≡ caches.old }
     {
-        let tree = caches.signing_tree(level, self.secret_at(ledger, place), leaf, progress);
+        let secret = self.secret_at(ledger, place);
+        let tree = caches.signing_tree(TreeRequest::new(level, secret, leaf, progress));
         if !self.is_sound(ledger, level, place, &tree) {
             return Err(place);
         }
@@ -253,7 +254,8 @@ impl SecretTrees {
             SecretTrees::Xmss(secret) => {
                 let mut nodes = [[0; 32]; 20];
                 let path = &mut nodes[..usize::from(secret.tree.height())];
-                caches.xmss_link(*secret, &key.root, tree.next, path, progress)
+                let asked = TreeRequest::new(0, *secret, tree.next, progress);
+                caches.xmss_path(asked, &key.root, path)
             }
         }
     }
@@ -309,7 +311,7 @@ impl Caches {
             }
             SecretTrees::Xmss(secret) => {
                 let leaves = signing_leaves(ledger, lowest, bound);
-                self.keep_xmss(secret, leaves[0], progress)
+                self.keep_xmss(TreeRequest::new(0, *secret, leaves[0], progress))
             }
         }
     }
@@ -335,7 +337,8 @@ impl Caches {
             if let Some(tree) = ledger.current(level) {
                 if tree.place < before {
                     let leaf = leaves[usize::from(level)];
-                    self.keep(level, &trees.secret_at(ledger, tree.place), leaf, progress)?;
+                    let secret = trees.secret_at(ledger, tree.place);
+                    self.keep(TreeRequest::new(level, secret, leaf, progress))?;
                 }
             }
         }

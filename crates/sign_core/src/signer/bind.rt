@@ -10,6 +10,7 @@ ghost use Rattle.sign_core.specs.inner.Signing.{IsReady, Stands};
 ghost use Rattle.sign_core.specs.Signing.{KeepsCapacity, UnderKey, answered_with};
 
 use super::Signer;
+use crate::caches::TreeRequest;
 use crate::fault::SignFault;
 use crate::key_trees::{SecretTrees, key_digest};
 use crate::ledger::{Binding, Ledger};
@@ -129,7 +130,8 @@ impl<S: Store, R: Source> Signer<S, R> {
             identifier,
             seed,
         };
-        let root = self.caches.begin(below, secret, progress)?;
+        let asked = TreeRequest::new(below, secret, 0, progress);
+        let root = self.caches.begin(asked)?;
         let public = LmsPublic {
             pair,
             identifier,

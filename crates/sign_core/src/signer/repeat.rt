@@ -6,7 +6,7 @@ ghost use Rattle.sign_core.specs.inner.Signing.{IsSomeBinding, RepeatsBinding, R
 ghost use Rattle.sign_core.specs.Signing.{KeepsCapacity, answered_with};
 
 use super::Signer;
-use crate::caches::Caches;
+use crate::caches::{Caches, TreeRequest};
 use crate::fault::SignFault;
 use crate::key_trees::SecretTrees;
 use crate::ledger::{Binding, Ledger};
@@ -67,7 +67,7 @@ impl SecretTrees {
             SecretTrees::Xmss(secret) => {
                 let mut nodes = [[0; 32]; 20];
                 let path = &mut nodes[..usize::from(secret.tree.height())];
-                caches.xmss_link(*secret, &key.root, leaf, path, progress)?;
+                caches.xmss_path(TreeRequest::new(0, *secret, leaf, progress), &key.root, path)?;
                 let randomizer = xmss::randomizer(secret, leaf);
                 xmss::write_signature(secret, leaf, &randomizer, &digest, path, out);
                 Ok(())
