@@ -13,7 +13,7 @@ ghost use Rattle.sign_core.specs.Textbook.{damaged_in, tree_before};
 
 use crate::caches::{Caches, TreeRequest};
 use crate::fault::SignFault;
-use crate::ledger::{Binding, Ledger};
+use crate::ledger::Ledger;
 use crate::progress::TreeProgress;
 use arrayvec::ArrayVec;
 use hss::Level;
@@ -77,11 +77,8 @@ impl KeyTrees {
     pub(crate) fn pair(&self, level: u8) -> LmsPair
         ensures { result ≡ slice_index_or (trees_in self.now).pairs level (trees_in self.now).top.pair }
     {
-        *self
-            .levels
-            .as_slice()
-            .get(usize::from(level))
-            .unwrap_or(&self.top.pair)
+        let pairs = self.levels.as_slice();
+        *pairs.get(usize::from(level)).unwrap_or(&self.top.pair)
     }
 
     pub(crate) fn secret_of(&self, extend: &Extend) -> LmsSecret
@@ -181,18 +178,10 @@ impl KeyTrees {
         let Some(made) = ledger.made(place) else {
             return self.sound_tree(ledger, caches, level, place, leaf, progress);
         };
-        let extend = made.extend;
-        let (randomizer, digest) = (extend.randomizer, extend.digest);
-        let parent_leaf = extend.parent_leaf;
-        let tree = self.chain_to(
-            ledger,
-            caches,
-            level - 1,
-            made.parent,
-            parent_leaf,
-            above,
-            progress,
-        )?;
+        let (randomizer, digest) = (made.extend.randomizer, made.extend.digest);
+        let (parent, parent_leaf) = (made.parent, made.extend.parent_leaf);
+        let tree =
+            self.chain_to(ledger, caches, level - 1, parent, parent_leaf, above, progress)?;
         above.push(Level {
             tree,
             randomizer,
@@ -245,10 +234,9 @@ impl SecretTrees {
         };
         match self {
             SecretTrees::Chain(trees) => {
+                let (place, leaf) = (tree.place, tree.next);
                 let mut above = ArrayVec::new();
-                trees.chain_to(
-                    ledger, caches, level, tree.place, tree.next, &mut above, progress,
-                )?;
+                trees.chain_to(ledger, caches, level, place, leaf, &mut above, progress)?;
                 Ok(())
             }
             SecretTrees::Xmss(secret) => {
@@ -261,87 +249,70 @@ impl SecretTrees {
     }
 }
 
-// The leaf by which each tree of a chain signs, at the index of its level. At the lowest level it is the binding's
-// leaf, or without a binding the current tree's next one; above it, the leaf that signs the tree below.
-fn signing_leaves(ledger: &Ledger, lowest: u8, bound: Option<&Binding>) -> [u32; 8]
-    requires { lowest < 8 }
-{
-    let (mut place, mut leaf) = match bound {
-        Some(binding) => (binding.tree, binding.leaf),
-        None => match ledger.current(lowest) {
-            Some(tree) => (tree.place, tree.next),
-            None => (0, 0),
-        },
-    };
-    let mut leaves = [0; 8];
-    for level in (0..lowest + 1).rev() {
-        leaves[usize::from(level)] = leaf;
-        if let Some(made) = ledger.made(place) {
-            place = made.parent;
-            leaf = made.extend.parent_leaf;
-        }
-    }
-    leaves
-}
-
 impl Caches {
     ghost use Rattle.sign_core.specs.Caches.{LacksCache, LacksLevel};
+    ghost use Rattle.sign_core.specs.Caches.{cache_at};
+    ghost use Rattle.std.specs.Prelude.{ℕ};
     ghost use Rattle.sign_core.specs.inner.Links.{AreTreesOf, MakesTrees};
 
-    /// Makes the missing caches of the current trees from the top down to a level, for trees whose records stand before
-    /// a place.
+    /// Makes the missing caches of the current trees, from the top down to a level, where their records stand before a
+    /// place. The tree at `place` is to sign by this leaf.
     pub(crate) fn keep_trees<P: TreeProgress>(
         &mut self,
         trees: &SecretTrees,
         ledger: &Ledger,
-        lowest: u8,
+        level: u8,
+        place: u32,
+        leaf: u32,
         before: u32,
-        bound: Option<&Binding>,
         progress: &P,
     ) -> Result<(), SignFault>
         requires trees { MakesTrees ledger.now.key.secret trees.now }
-        requires few { lowest < 8 }
+        requires few { level < 8 }
         ensures fault { IfErr result (λ fault. fault ≡ SignFault.OutOfMemory) }
         ensures lacking { OnErr result
-            (LacksCache ledger.now.key ledger.now.records (Some lowest) before self.old) }
+            (LacksCache ledger.now.key ledger.now.records (Some level) before self.old) }
     {
         match trees {
             SecretTrees::Chain(trees) => {
-                self.keep_chain(trees, ledger, lowest, before, bound, progress)
+                self.keep_chain(trees, ledger, level, place, leaf, before, progress)
             }
             SecretTrees::Xmss(secret) => {
-                let leaves = signing_leaves(ledger, lowest, bound);
-                self.keep_xmss(TreeRequest::new(0, *secret, leaves[0], progress))
+                self.keep_xmss(TreeRequest::new(0, *secret, leaf, progress))
             }
         }
     }
 
-    // The same for LMS trees. A new cache keeps the block of the leaf by which its tree is to sign: for the binding, or
-    // without one for a new name.
+    // The same for LMS trees. A new cache keeps the block of the leaf by which its tree is to sign, or has signed the
+    // tree below.
     fn keep_chain<P: TreeProgress>(
         &mut self,
         trees: &KeyTrees,
         ledger: &Ledger,
-        lowest: u8,
+        level: u8,
+        place: u32,
+        leaf: u32,
         before: u32,
-        bound: Option<&Binding>,
         progress: &P,
     ) -> Result<(), SignFault>
         requires trees { AreTreesOf trees.now ledger.now.key }
-        requires few { lowest < 8 }
+        requires few { level < 8 }
         ensures fault { IfErr result (λ fault. fault ≡ SignFault.OutOfMemory) }
-        ensures lacking { OnErr result (LacksLevel ledger.now.key ledger.now.records lowest before self.old) }
+        ensures lacking { OnErr result (LacksLevel ledger.now.key ledger.now.records level before self.old) }
+        ensures others { (k : ℕ) → level < k → cache_at self.new.levels k ≡ cache_at self.old.levels k }
     {
-        let leaves = signing_leaves(ledger, lowest, bound);
-        for level in 0..lowest + 1 {
-            if let Some(tree) = ledger.current(level) {
-                if tree.place < before {
-                    let leaf = leaves[usize::from(level)];
-                    let secret = trees.secret_at(ledger, tree.place);
-                    self.keep(TreeRequest::new(level, secret, leaf, progress))?;
-                }
+        if let Some(made) = ledger.made(place) {
+            if level > 0 {
+                let leaf = made.extend.parent_leaf;
+                self.keep_chain(trees, ledger, level - 1, made.parent, leaf, before, progress)?;
             }
         }
-        Ok(())
+        match ledger.current(level) {
+            Some(tree) if tree.place < before => {
+                let secret = trees.secret_at(ledger, tree.place);
+                self.keep(TreeRequest::new(level, secret, leaf, progress))
+            }
+            _ => Ok(()),
+        }
     }
 }

@@ -83,18 +83,6 @@ impl Binding {
     }
 }
 
-fn can_move(version: Version) -> bool
-    ensures { result ≡ can_move version }
-{
-    matches!(version, Version::One)
-}
-
-fn takes_memory(entry: &Record) -> bool
-    ensures { TakesMemory entry.now ↔ (result ≡ true) }
-{
-    matches!(entry, Record::Extend(_) | Record::Bound(_))
-}
-
 fn public_of(key: &Key) -> AnyPublic
     ensures { public_in key.now ≡ Some result }
 {
@@ -235,16 +223,14 @@ impl Ledger {
     pub fn len(&self) -> u32
         ensures { result ≡ length self.now.records }
     {
-        let Ledger { count, .. } = self;
-        *count
+        self.count
     }
 
     /// Whether the last record is a Moved: the records go on in another file.
     pub fn has_moved(&self) -> bool
         ensures { result ≡ has_moved self.now.records }
     {
-        let Ledger { moved, .. } = self;
-        *moved
+        self.moved
     }
 
     pub(crate) fn made(&self, place: u32) -> Option<Made>
@@ -326,7 +312,7 @@ impl Ledger {
                 Record::Extend(extend) => self.takes_extend(extend),
                 Record::Bound(bound) => self.takes_bound(bound),
                 Record::Retire { upto } => self.takes_retire(*upto),
-                Record::Moved => can_move(self.key.version),
+                Record::Moved => matches!(self.key.version, Version::One),
             }
     }
 
@@ -395,7 +381,7 @@ impl Ledger {
         if self.count == u32::MAX {
             return Err(LedgerFault::OutOfMemory);
         }
-        if takes_memory(entry) {
+        if matches!(entry, Record::Extend(_) | Record::Bound(_)) {
             self.reserve(1).map_err(|_| LedgerFault::OutOfMemory)?;
         }
         Ok(())

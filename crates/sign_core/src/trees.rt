@@ -52,24 +52,15 @@ impl CurrentTrees {
         }
     }
 
-    // The trees above this level, and none from it downwards.
-    fn above(&self, level: usize) -> [Option<Tree>; 8]
-        requires { level < 8 }
-        ensures { AreAbove self.now.levels level result }
-    {
-        let mut levels = [None; 8];
-        for higher in 0..level {
-            levels[higher] = self.levels[higher];
-        }
-        levels
-    }
-
     // Begins a level's tree. The trees below it are no longer current.
     fn make(&mut self, level: usize, place: u32)
         requires { level < 8 }
         ensures { IsBegun self.old.levels level place self.new.levels }
     {
-        let mut levels = self.above(level);
+        let mut levels = [None; 8];
+        for higher in 0..level {
+            levels[higher] = self.levels[higher];
+        }
         levels[level] = Some(Tree { place, next: 0 });
         self.levels = levels;
     }

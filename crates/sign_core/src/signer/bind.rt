@@ -92,8 +92,12 @@ impl<S: Store, R: Source> Signer<S, R> {
             .map_err(|_| SignFault::OutOfMemory)?;
         let count = self.ledger.len();
         let trees = SecretTrees::of(&self.ledger.key().secret);
+        let (place, leaf) = match self.ledger.current(level) {
+            Some(tree) => (tree.place, tree.next),
+            None => (0, 0),
+        };
         self.caches
-            .keep_trees(&trees, &self.ledger, level, count, None, progress)
+            .keep_trees(&trees, &self.ledger, level, place, leaf, count, progress)
     }
 
     // Begins and records a tree below the current tree of a level, whose next leaf signs it.
@@ -177,19 +181,14 @@ impl<S: Store, R: Source> Signer<S, R> {
         let randomizer = trees.draw_randomizer(&mut self.random)?;
         let digest = trees.digest(&self.ledger, tree.place, leaf, &randomizer, message)?;
         // 29, 25
-        self.add(Record::Bound(Bound {
+        let bound = Bound {
             name: *name,
             leaf,
             randomizer,
             digest,
-        }))?;
-        Ok(Binding {
-            place,
-            leaf,
-            randomizer,
-            digest,
-            tree: tree.place,
-        })
+        };
+        self.add(Record::Bound(bound))?;
+        Ok(Binding::of(&bound, place, tree.place))
     }
 
     // Makes a new name's records, one after the other: an Extend for each level below one with a free leaf, and the

@@ -124,7 +124,7 @@ impl<S: Store, R: Source> Signer<S, R> {
         }
         // 29
         make_room(secret, out)?;
-        caches.keep_trees(&trees, &self.ledger, bottom, place, Some(binding), progress)?;
+        caches.keep_trees(&trees, &self.ledger, bottom, tree, leaf, place, progress)?;
         // 28
         trees
             .write_bound(&self.ledger, caches, binding, out, progress)

@@ -1,5 +1,6 @@
 use Rattle.std.proofs.Common.{◌≡◌, ◌∙◌, None, Some, ap, sym, subst, arith}
 use Rattle.std.specs.Prelude.{length, IfErr, OnOk}
+use Rattle.state_file.specs.declared.record.Secret.TheVariants.{Xmss}
 use Rattle.state_file.specs.Laws.{levels_of}
 use Rattle.sign_core.specs.inner.Links.{MakesTrees, trees_in}
 use Rattle.sign_core.specs.Textbook.{damaged_in, tree_before}
@@ -33,9 +34,9 @@ returns-in-Xmss-clause-sound g c =
     let of_key = subst (MakesTrees l.key.secret) c.in-Xmss.is c.requires.trees in
     let keyed = c.key-key.ensures.first ∙ ap Some c.key-key.ensures.key in
     let top : 0 ≡ c.args.level = omega (arith, c.requires.level, ap levels_of of_key) in
-    subst (λ n. OnOk c.xmss_link.result (damaged_in l.key n l.records (tree_before n l.records (length l.records)) ≡ None)) top
-    (key_chain l.records l.key (λ d. OnOk c.xmss_link.result (d ≡ None)) keyed
-    (λ rest. c.xmss_link.ensures.sound l.key rest of_key (ap (λ own. own.root) (sym c.key-key.ensures.key))))
+    subst (λ n. OnOk c.xmss_path.result (damaged_in l.key n l.records (tree_before n l.records (length l.records)) ≡ None)) top
+    (key_chain l.records l.key (λ d. OnOk c.xmss_path.result (d ≡ None)) keyed
+    (λ rest. c.xmss_path.ensures.sound l.key rest (of_key ∙ ap Xmss (sym c.new-asked.ensures.secret)) (ap (λ own. own.root) (sym c.key-key.ensures.key))))
 
 pub returns-in-Xmss-clause-damaged : goal.returns-in-Xmss-clause-damaged
 returns-in-Xmss-clause-damaged g c =
@@ -43,6 +44,6 @@ returns-in-Xmss-clause-damaged g c =
     let of_key = subst (MakesTrees l.key.secret) c.in-Xmss.is c.requires.trees in
     let keyed = c.key-key.ensures.first ∙ ap Some c.key-key.ensures.key in
     let top : 0 ≡ c.args.level = omega (arith, c.requires.level, ap levels_of of_key) in
-    subst (λ n. IfErr c.xmss_link.result (λ k. damaged_in l.key n l.records (tree_before n l.records (length l.records)) ≡ Some k)) top
-    (key_chain l.records l.key (λ d. IfErr c.xmss_link.result (λ k. d ≡ Some k)) keyed
-    (λ rest. c.xmss_link.ensures.damaged l.key rest of_key (ap (λ own. own.root) (sym c.key-key.ensures.key))))
+    subst (λ n. IfErr c.xmss_path.result (λ k. damaged_in l.key n l.records (tree_before n l.records (length l.records)) ≡ Some k)) top
+    (key_chain l.records l.key (λ d. IfErr c.xmss_path.result (λ k. d ≡ Some k)) keyed
+    (λ rest. c.xmss_path.ensures.damaged l.key rest (of_key ∙ ap Xmss (sym c.new-asked.ensures.secret)) (ap (λ own. own.root) (sym c.key-key.ensures.key))))

@@ -1,8 +1,12 @@
-use Rattle.std.proofs.Common.{rules, List, ◌≡◌, ◌∙◌, ◌-◌, [], ◌∷◌, ◌++◌, None, Some, sym, ap, subst, arith}
+use Rattle.std.proofs.Common.{rules, ℕ, List, ◌<◌, ◌^◌, ◌≡◌, ◌∙◌, ◌-◌, [], ◌∷◌, ◌++◌, None, Some, sym, ap, subst, arith}
 use Rattle.std.specs.Prelude.{length}
 use Rattle.state_file.specs.Laws.{bottom_of}
 use Rattle.state_file.specs.declared.record.Key.{Key}
+use Rattle.typecodes.specs.declared.secret.XmssSecret.{XmssSecret}
+use Rattle.typecodes.specs.Types.{xmss_height_of}
 use Rattle.hss.specs.declared.secret.Level.{Level}
+use Rattle.xmss.specs.Secret.{path_in}
+use Rattle.state_file.specs.declared.record.Secret.TheVariants.{Xmss}
 use Rattle.sign_core.specs.Signer.{signature_size}
 use Rattle.sign_core.specs.inner.Links.{AreMade, IsTreeAt, MakesTrees, signings_of, trees_in}
 use Rattle.sign_core.specs.inner.Signing.{WritesChain}
@@ -114,12 +118,13 @@ returns-in_ok-tree-in-Chain-clause-signature g c k bound is =
 
 -- ---- XMSS
 
-pub xmss_link-requires-clause-inside : goal.xmss_link-requires-clause-inside
-xmss_link-requires-clause-inside g c =
+pub xmss_path-requires-clause-inside : goal.xmss_path-requires-clause-inside
+xmss_path-requires-clause-inside g c =
     let l = c.args.ledger.now in
     let of_key = subst (MakesTrees l.key.secret) c.in-Xmss.is c.requires.trees in
     let keyed = c.key-key.ensures.first ∙ ap Some c.key-key.ensures.key in
-    bound_xmss_leaf l.key l.records _ c.args.binding.now _ c.key-key.ensures.legal keyed of_key (c.requires.kept l.key keyed).1
+    subst (λ (p : XmssSecret × ℕ). p.1 < 2 ^ xmss_height_of p.0.tree) (λ i. (sym c.new.ensures.secret i, sym c.new.ensures.leaf i))
+    (bound_xmss_leaf l.key l.records _ c.args.binding.now _ c.key-key.ensures.legal keyed of_key (c.requires.kept l.key keyed).1)
 
 pub write_signature-requires-clause-inside : goal.write_signature-requires-clause-inside
 write_signature-requires-clause-inside g c =
@@ -134,25 +139,25 @@ write_signature-requires-clause-room g c =
     let of_key = subst (MakesTrees l.key.secret) c.in-Xmss.is c.requires.trees in
     c.requires.room ∙ ap signature_size of_key
 
-pub returns-in_err-xmss_link-in-Xmss-clause-damaged : goal.returns-in_err-xmss_link-in-Xmss-clause-damaged
-returns-in_err-xmss_link-in-Xmss-clause-damaged g c =
+pub returns-in_err-xmss_path-in-Xmss-clause-damaged : goal.returns-in_err-xmss_path-in-Xmss-clause-damaged
+returns-in_err-xmss_path-in-Xmss-clause-damaged g c =
     let l = c.args.ledger.now in
     let of_key = subst (MakesTrees l.key.secret) c.in-Xmss.is c.requires.trees in
     let keyed = c.key-key.ensures.first ∙ ap Some c.key-key.ensures.key in
-    let damaged = xmss_bound_chain l.records l.key _ _ c.args.binding.now (λ d. d ≡ Some c.in_err-xmss_link-in-Xmss.field-0.0) keyed of_key (c.requires.kept l.key keyed).1
-    (λ rest. c.in_err-xmss_link-in-Xmss.ensures.damaged l.key rest of_key (ap (λ own. own.root) (sym c.key-key.ensures.key))) in
+    let damaged = xmss_bound_chain l.records l.key _ _ c.args.binding.now (λ d. d ≡ Some c.in_err-xmss_path-in-Xmss.field-0.0) keyed of_key (c.requires.kept l.key keyed).1
+    (λ rest. c.in_err-xmss_path-in-Xmss.ensures.damaged l.key rest (of_key ∙ ap Xmss (sym c.new.ensures.secret)) (ap (λ own. own.root) (sym c.key-key.ensures.key))) in
     search (rules, damaged)
 
-pub returns-in_ok-xmss_link-in-Xmss-clause-sound : goal.returns-in_ok-xmss_link-in-Xmss-clause-sound
-returns-in_ok-xmss_link-in-Xmss-clause-sound g c =
+pub returns-in_ok-xmss_path-in-Xmss-clause-sound : goal.returns-in_ok-xmss_path-in-Xmss-clause-sound
+returns-in_ok-xmss_path-in-Xmss-clause-sound g c =
     let l = c.args.ledger.now in
     let of_key = subst (MakesTrees l.key.secret) c.in-Xmss.is c.requires.trees in
     let keyed = c.key-key.ensures.first ∙ ap Some c.key-key.ensures.key in
     xmss_bound_chain l.records l.key _ _ c.args.binding.now (λ d. d ≡ None) keyed of_key (c.requires.kept l.key keyed).1
-    (λ rest. c.in_ok-xmss_link-in-Xmss.ensures.sound l.key rest of_key (ap (λ own. own.root) (sym c.key-key.ensures.key)))
+    (λ rest. c.in_ok-xmss_path-in-Xmss.ensures.sound l.key rest (of_key ∙ ap Xmss (sym c.new.ensures.secret)) (ap (λ own. own.root) (sym c.key-key.ensures.key)))
 
-pub returns-in_ok-xmss_link-in-Xmss-clause-signature : goal.returns-in_ok-xmss_link-in-Xmss-clause-signature
-returns-in_ok-xmss_link-in-Xmss-clause-signature g c k bound is =
+pub returns-in_ok-xmss_path-in-Xmss-clause-signature : goal.returns-in_ok-xmss_path-in-Xmss-clause-signature
+returns-in_ok-xmss_path-in-Xmss-clause-signature g c k bound is =
     let l = c.args.ledger.now in
     let of_key = subst (MakesTrees l.key.secret) c.in-Xmss.is c.requires.trees in
-    xmss_bound_signed l.records l.key _ k bound c.args.binding.now _ of_key is (c.write_signature.ensures.textbook c.xmss_link.ensures.path)
+    xmss_bound_signed l.records l.key _ k bound c.args.binding.now _ of_key is (c.write_signature.ensures.textbook (c.xmss_path.ensures.path ∙ (λ i. path_in (c.new.ensures.secret i) (c.new.ensures.leaf i))))

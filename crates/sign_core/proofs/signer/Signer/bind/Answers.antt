@@ -204,19 +204,13 @@ returns g c key keyed =
     c.args.message.now c.digest.new.message key c.add.new.self bound text c.add.result (Ok sig) opened drawn whole is c.add.ensures.adds
     (ap (λ a. answered_with a sig) (sym c.in_ok-add.was)) in
     let unbound : binding_in records c.args.name.now ≡ None = ap (λ w. binding_in w.records c.args.name.now) c.self.view_is ∙ c.requires.unbound in
-    let binding : Binding = record {
-      place = c.len-place.result;
-      leaf = c.in-Some.tree.next;
-      randomizer = c.in_ok-randomizer.randomizer;
-      digest = c.in_ok-digest.digest;
-      tree = c.in-Some.tree.place;
-    } in
-    subst (λ w. BindsNext g.S.Store g.R.Source g.M.Message c.args.name.now w c.add.new.self c.args.message.now c.digest.new.message (Ok binding) key) c.self.view_is (
+    subst (λ w. BindsNext g.S.Store g.R.Source g.M.Message c.args.name.now w c.add.new.self c.args.message.now c.digest.new.message (Ok c.of.result) key) c.self.view_is (
       bound,
       binds_below,
       record {
         grown = grown;
         named = ap (λ l. binding_in l c.args.name.now) grown ∙ binding_new records bound unbound;
-        kept = kept_last K key records c.add.new.self.records c.in-Some.tree.place c.len-place.result bound has.current_is c.len-place.ensures grown own;
+        kept = kept_last K key records c.add.new.self.records c.in-Some.tree.place c.len-place.result bound has.current_is c.len-place.ensures grown own
+            ∙ sym c.of.ensures;
       },
     )

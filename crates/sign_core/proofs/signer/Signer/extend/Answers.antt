@@ -1,4 +1,5 @@
 use Rattle.std.proofs.Common.{rules, ◌≡◌, ◌∙◌, ◌+◌, true, false, List, [], ◌∷◌, ◌++◌, Some, Err, refl, sym, ap, subst, arith}
+use Rattle.lms.specs.Secret.{root_in}
 use Rattle.state_file.specs.Laws.{levels_of}
 use Rattle.state_file.specs.declared.record.Extend.{Extend}
 use Rattle.state_file.specs.declared.record.Key.{Key}
@@ -76,7 +77,7 @@ begin-requires g c =
     let i = c.self.inside in
     let kept : key_in c.args.self.now.records ≡ Some i.ledger.key = ap (λ w. key_in w.records) (sym c.self.view_is) ∙ c.self.invariant.1 in
     let most = (levels_range i.ledger.records i.ledger.key (levels_of i.ledger.key.secret) c.self.invariant.0.sizes c.self.invariant.1 refl).1 in
-    omega (arith, c.requires.below i.ledger.key kept, most)
+    omega (arith, c.requires.below i.ledger.key kept, most, c.new-asked.ensures.level)
 
 pub returns-in_err-root-clause-step : goal.returns-in_err-root-clause-step
 returns-in_err-root-clause-step g c key keyed =
@@ -145,7 +146,7 @@ returns-clause-step g c key keyed =
       digest = c.key_digest-digest.result;
       root = c.in_ok-root.root;
     }) has c.secret_at.ensures refl refl refl refl
-    (λ j. record { pair = c.pair-pair.result; identifier = seeds.identifier; root = c.in_ok-root.ensures.root j }) c.key_digest-digest.ensures refl c.pair-pair.ensures in
+    (λ j. record { pair = c.pair-pair.result; identifier = seeds.identifier; root = (c.in_ok-root.ensures.root ∙ ap root_in c.new-asked.ensures.secret) j }) c.key_digest-digest.ensures refl c.pair-pair.ensures in
     let step = drawn_below g.S.Store g.R.Source K T i.store i.random c.draw_tree.new.random i.ledger i.is_open a.self.now c.add.new.self (a.level + 1) seeds _
     c.add.result c.self.view_is c.requires.ready.is_open these entry c.in_ok-identifier.ensures c.add.ensures.adds in
     subst (λ (k : Key). Extends g.S.Store g.R.Source (a.level + 1) a.self.now c.add.new.self (answered_with c.add.result []) k) own step
@@ -173,7 +174,7 @@ returns-clause-stands g c =
     let entry = entry_is K T i.ledger.records a.level c.in-Some.parent.place c.in-Some.parent.next c.secret_at.result
     (record { pair = c.pair-pair.result; identifier = seeds.identifier; seed = seeds.seed })
     (record { pair = c.pair-pair.result; identifier = seeds.identifier; root = c.in_ok-root.root }) extend has c.secret_at.ensures refl refl refl refl
-    (λ j. record { pair = c.pair-pair.result; identifier = seeds.identifier; root = c.in_ok-root.ensures.root j }) c.key_digest-digest.ensures refl c.pair-pair.ensures in
+    (λ j. record { pair = c.pair-pair.result; identifier = seeds.identifier; root = (c.in_ok-root.ensures.root ∙ ap root_in c.new-asked.ensures.secret) j }) c.key_digest-digest.ensures refl c.pair-pair.ensures in
     let after = stands_below K T i.ledger.records a.level seeds.identifier seeds.seed seeds.randomizer c.self.invariant.1 these stands (c.requires.below K kept) in
     if_added c.add.result (λ x is key keyed.
     let grown : c.add.new.self.records ≡ i.ledger.records ++ ExtendRecord extend ∷ [] =
