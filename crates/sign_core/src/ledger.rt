@@ -421,9 +421,9 @@ impl Ledger {
             Record::Bound(bound) => {
                 let binding = Binding::of(&bound, place, self.trees.place(bottom));
                 let _ = self.bindings.insert(bound.name, binding);
-                self.trees.bind(bottom, bound.leaf);
+                self.trees.raise(bottom, bound.leaf + 1);
             }
-            Record::Retire { upto } => self.trees.retire(bottom, upto),
+            Record::Retire { upto } => self.trees.raise(bottom, upto),
             Record::Moved => self.moved = true,
             Record::Key(_) => {}
         }

@@ -209,8 +209,8 @@ impl<S: Store, R: Source> Signer<S, R> {
     ghost use Rattle.state_file.specs.Slot.{FitsVersion, version_in};
     ghost use Rattle.state_file.specs.declared.record.Version.TheVariants.{One};
 
-    /// Makes a key of version 1 in a store that has none, and its signer, as `create_in`. The store must take at least
-    /// one record.
+    /// Makes a key of version 1 in a store that has none, and its signer, as `create_telling`. The store must take at
+    /// least one record.
     pub fn create(
         alloc: Global,
         spec: Spec,
@@ -220,29 +220,16 @@ impl<S: Store, R: Source> Signer<S, R> {
         requires room { 1 ≤ S.most store }
         ensures { Creates S.Store R.Source One spec store random result }
     {
-        Signer::create_in(alloc, Version::One, spec, store, random)
+        Signer::create_telling(alloc, Version::One, spec, store, random, &Silent::new())
     }
 
     /// Makes a key in a store that has none, and its signer: draws the key's secret, makes the top tree's root, and
-    /// appends the key's record. It takes no memory of its own. A refusal gives back the store and the source.
+    /// appends the key's record. `progress` is told of the top tree while its root is made. It takes no memory of its
+    /// own. A refusal gives back the store and the source.
     ///
     /// The store must take at least one record. Where record 0 is there or can't be loaded, the source is as it was.
     /// The contract lets a create look for a key more than once, where the last look decides. It lets an append load
     /// slots past the end of the list. Records and law are the same then.
-    pub fn create_in(
-        alloc: Global,
-        version: Version,
-        spec: Spec,
-        store: S,
-        random: R,
-    ) -> Result<Self, Refused<(S, R), SignFault>>
-        requires room { 1 ≤ S.most store }
-        ensures { Creates S.Store R.Source version spec store random result }
-    {
-        Signer::create_telling(alloc, version, spec, store, random, &Silent::new())
-    }
-
-    /// As `create_in`, telling the progress of the top tree while its root is made.
     pub fn create_telling<P: TreeProgress>(
         alloc: Global,
         version: Version,

@@ -19,9 +19,9 @@ pub(crate) struct CurrentTrees {
 }
 
 impl CurrentTrees {
-    ghost use Rattle.sign_core.specs.inner.Trees.{AreAbove, IsBegun, IsRaised, place_of};
+    ghost use Rattle.sign_core.specs.inner.Trees.{IsBegun, IsRaised, place_of};
     ghost use Rattle.sign_core.specs.Trees.{kept_at};
-    ghost use Rattle.sign_core.specs.inner.Trees.{FollowsBound, FollowsExtend, FollowsRetire};
+    ghost use Rattle.sign_core.specs.inner.Trees.{FollowsExtend};
     ghost use Rattle.sign_core.specs.Trees.{HasTrees};
 
     /// The trees of a Key alone: its own tree, with no leaf used.
@@ -65,8 +65,8 @@ impl CurrentTrees {
         self.levels = levels;
     }
 
-    // Raises the next leaf of a level's tree to at least this number.
-    fn raise(&mut self, level: usize, next: u32)
+    /// Raises the next leaf of a level's tree to at least this number.
+    pub(crate) fn raise(&mut self, level: usize, next: u32)
         requires { level < 8 }
         ensures { IsRaised self.old.levels level next self.new.levels }
     {
@@ -87,22 +87,5 @@ impl CurrentTrees {
     {
         self.raise(level - 1, parent_leaf + 1);
         self.make(level, place);
-    }
-
-    /// Takes up a Bound, which names a leaf of the bottom tree.
-    pub(crate) fn bind(&mut self, bottom: usize, leaf: u32)
-        requires few { bottom < 8 }
-        requires leaf { leaf + 1 < 2 ^ 32 }
-        ensures { FollowsBound self.old.levels bottom leaf self.new.levels }
-    {
-        self.raise(bottom, leaf + 1);
-    }
-
-    /// Takes up a Retire of the bottom tree's leaves below `upto`.
-    pub(crate) fn retire(&mut self, bottom: usize, upto: u32)
-        requires few { bottom < 8 }
-        ensures { FollowsRetire self.old.levels bottom upto self.new.levels }
-    {
-        self.raise(bottom, upto);
     }
 }

@@ -2,7 +2,7 @@
 
 use key_audit::{Anchor, AuditFault, Given, GivenFault, audit, check_given};
 use sign_core::{AnyPublic, Signer, Source, SourceFault};
-use state_file::{Disk, FileStore, MemoryDisk, Store, Version};
+use state_file::{Disk, FileStore, MemoryDisk, Store};
 use std::alloc::Global;
 use typecodes::{Name, Spec};
 
@@ -39,7 +39,7 @@ fn created<S: Store + Drop, R: Source + Drop>(
     if store.limit() == 0 {
         return None;
     }
-    Signer::create_in(alloc, Version::One, Spec::parse(spec).ok()?, store, random).ok()
+    Signer::create(alloc, Spec::parse(spec).ok()?, store, random).ok()
 }
 
 fn sign_byte<S: Store, R: Source>(

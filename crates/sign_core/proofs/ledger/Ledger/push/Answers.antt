@@ -7,7 +7,7 @@ use Rattle.sign_core.specs.declared.ledger.Binding.{Binding}
 use Rattle.sign_core.specs.Records.{are_same, can_follow}
 use Rattle.sign_core.specs.Ledger.{Table, TakesMemory, of_text}
 use Rattle.sign_core.specs.Textbook.{HasSizes}
-use Rattle.sign_core.proofs.Kept.{follows_moved}
+use Rattle.sign_core.proofs.Kept.{follows_bound, follows_moved, follows_retire}
 use Rattle.sign_core.proofs.LedgerReading.{key_levels}
 use Rattle.sign_core.proofs.LedgerPushes.{bound_leaf, extend_inside, grown_bound, grown_extend, on_ok}
 use Rattle.sign_core.proofs.LedgerSteps.{grown_plain, grown_retire}
@@ -82,12 +82,12 @@ bound_follows c =
 pub place-requires : goal.place-requires
 place-requires c = bottom_few (goal.at.place-requires c).After-from-bottom
 
-pub bind-requires-clause-few : goal.bind-requires-clause-few
-bind-requires-clause-few c = bottom_few (goal.at.bind-requires-clause-few c).After-from-bottom
+pub raise-requires : goal.raise-requires
+raise-requires c = bottom_few (goal.at.raise-requires c).After-from-bottom
 
-pub bind-requires-clause-leaf : goal.bind-requires-clause-leaf
-bind-requires-clause-leaf c =
-    let low = bound_leaf c.self.inside.records c.self.inside.key c.in-Bound.bound (bound_follows (goal.at.bind-requires-clause-leaf c).In-Bound) in
+pub overflow_add-bound : goal.overflow_add-bound
+overflow_add-bound c =
+    let low = bound_leaf c.self.inside.records c.self.inside.key c.in-Bound.bound (bound_follows (goal.at.overflow_add-bound c).In-Bound) in
     omega (arith, low)
 
 pub invariant_of-self-in-Bound : goal.invariant_of-self-in-Bound
@@ -98,15 +98,16 @@ invariant_of-self-in-Bound c =
     c.self.inside.count c.self.inside.moved c.self.invariant c.in-Bound.bound c.from-bottom.result c.place.result
     (bound_follows (goal.at.invariant_of-self-in-Bound c).In-Bound) (subst HasSizes c.in-Bound.is c.requires.sizes)
     (last (goal.at.invariant_of-self-in-Bound c).After-from-bottom) (bottom_few (goal.at.invariant_of-self-in-Bound c).After-from-bottom) c.place.ensures
-    c.bind.new.self.levels c.bind.ensures c.in-Bound.bound.name refl c.insert-in-Bound.new.self
+    c.raise.new.self.levels
+    (follows_bound c.self.inside.trees.levels c.raise.new.self.levels c.from-bottom.result c.in-Bound.bound.leaf c.raise.ensures) c.in-Bound.bound.name refl c.insert-in-Bound.new.self
     (λ name. (on_ok c.insert-in-Bound.result (c.insert-in-Bound.ensures.succeeds room) c.insert-in-Bound.ensures.updates).0 name
     ∙ ap (λ (b : Binding). cond (are_same c.in-Bound.bound.name name) (Some b) (of_text c.self.inside.bindings name)) c.of-binding.ensures)
     c.push.new.self (c.push.ensures ∙ ap (λ (x : Record). c.self.inside.records ++ x ∷ []) c.in-Bound.is)
 
 -- ---- a Retire
 
-pub retire-requires : goal.retire-requires
-retire-requires c = record { few = bottom_few (goal.at.retire-requires c).After-from-bottom }
+pub raise-requires-in-Retire : goal.raise-requires-in-Retire
+raise-requires-in-Retire c = bottom_few (goal.at.raise-requires-in-Retire c).After-from-bottom
 
 pub invariant_of-self-in-Retire : goal.invariant_of-self-in-Retire
 invariant_of-self-in-Retire c =
@@ -114,7 +115,8 @@ invariant_of-self-in-Retire c =
     (ap (λ (t : Table). can_follow (Some t.key) t.records c.args.entry) c.self.view_is ∙ c.requires.follows) in
     grown_retire c.self.inside.records c.self.inside.key c.self.inside.made c.self.inside.bindings c.self.inside.identifiers c.self.inside.trees.levels
     c.self.inside.count c.self.inside.moved c.self.invariant c.in-Retire.upto c.from-bottom.result follows
-    (last (goal.at.invariant_of-self-in-Retire c).After-from-bottom) c.retire.new.self.levels c.retire.ensures
+    (last (goal.at.invariant_of-self-in-Retire c).After-from-bottom) c.raise-in-Retire.new.self.levels
+    (follows_retire c.self.inside.trees.levels c.raise-in-Retire.new.self.levels c.from-bottom.result c.in-Retire.upto c.raise-in-Retire.ensures)
     c.push.new.self (c.push.ensures ∙ ap (λ (x : Record). c.self.inside.records ++ x ∷ []) c.in-Retire.is)
 
 -- ---- a Moved
