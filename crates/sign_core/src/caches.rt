@@ -17,7 +17,6 @@ use lms::SigningTree;
 use merkle::{PathCache, Told, root_and_path};
 use std::alloc::Global;
 use std::marker::Model;
-use std::mem;
 use typecodes::{LmsSecret, XmssSecret};
 
 /// What is asked of a cache: the tree of a secret at a level, which is to sign by a leaf. `progress` is told of it, if
@@ -192,13 +191,6 @@ impl Caches {
             levels: [None, None, None, None, None, None, None, None],
             xmss: None,
         }
-    }
-
-    pub(crate) fn take(&mut self) -> Self
-        ensures { result ≡ self.old }
-    {
-        let none = Caches::new(self.alloc);
-        mem::replace(self, none)
     }
 
     // Makes a level's cache of an LMS tree, unless it is there.

@@ -193,15 +193,6 @@ abbrev pub RepeatsBinding : {M : Type 0} → message.Ghosts M → State → Cach
 RepeatsBinding m state cached binding before after capacity answer = UnderKey state.records (λ key. (name : List ℕ)
     → IsBindingOf state.records binding key name → Repeats m state cached before after capacity answer key name)
 
--- `RepeatsBinding` with the caches taken out. An answer that comes before they are needed leaves them as they were. The
--- output keeps its memory.
-pub record RepeatsBy {M Z A : Type 0} (m : message.Ghosts M) (state : State) (binding : Binding)
-    (old_caches new_caches : Cached) (before after : M) (old new : Vec ℕ Z) (result : Result A SignFault)
-    : Type 0 where
-  pub step : RepeatsBinding m state old_caches binding before after (vec_capacity old) (answered_with result new.items)
-  pub capacity : KeepsCapacity state.records (vec_capacity old) (vec_capacity new)
-  pub early : is_fault is_before_repeat result ≡ true → new_caches ≡ old_caches
-
 -- If the levels sign as the chain of a binding at place k in a key's records, the bytes are the binding's textbook
 -- signature.
 abbrev pub WritesChain : Secret → List Level → (bytes : List ℕ) → Type 0

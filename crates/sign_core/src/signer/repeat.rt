@@ -2,7 +2,7 @@
 
 ghost use Rattle.std.specs.Prelude.{◌≡◌, None, Some, length, vec_capacity, IfErr, OnOk};
 ghost use Rattle.sign_core.specs.Signer.{KeepsForRepeat, is_before_repeat, is_fault, signature_size, state_of};
-ghost use Rattle.sign_core.specs.inner.Signing.{IsSomeBinding, RepeatsBinding, RepeatsBy};
+ghost use Rattle.sign_core.specs.inner.Signing.{IsSomeBinding, RepeatsBinding};
 ghost use Rattle.sign_core.specs.Signing.{KeepsCapacity, answered_with};
 
 use super::Signer;
@@ -92,27 +92,6 @@ impl<S: Store, R: Source> Signer<S, R> {
         ensures capacity { KeepsCapacity self.old.records (vec_capacity out.old) (vec_capacity out.new) }
         ensures keeps { KeepsForRepeat self.old self.new (is_fault is_before_repeat result) }
     {
-        // The caches are taken out, so that `self` can be lent beside them.
-        let mut caches = self.caches.take();
-        let answer = self.repeat_with(&mut caches, binding, message, out, progress);
-        self.caches = caches;
-        answer
-    }
-
-    // As `repeat`, with the caches taken out.
-    #[inline(never)]
-    fn repeat_with<M: Message, P: TreeProgress>(
-        &self,
-        caches: &mut Caches,
-        binding: &Binding,
-        message: &mut M,
-        out: &mut Vec<u8>,
-        progress: &P,
-    ) -> Result<(), SignFault>
-        requires kept { IsSomeBinding self.now.records binding.now }
-        ensures { RepeatsBy M.Message (state_of self.now) binding.now caches.old caches.new message.old message.new
-            out.old out.new result }
-    {
         let secret = &self.ledger.key().secret;
         let trees = SecretTrees::of(secret);
         let (tree, leaf, place) = (binding.tree, binding.leaf, binding.place);
@@ -124,10 +103,11 @@ impl<S: Store, R: Source> Signer<S, R> {
         }
         // 29
         make_room(secret, out)?;
-        caches.keep_trees(&trees, &self.ledger, bottom, tree, leaf, place, progress)?;
+        self.caches
+            .keep_trees(&trees, &self.ledger, bottom, tree, leaf, place, progress)?;
         // 28
         trees
-            .write_bound(&self.ledger, caches, binding, out, progress)
+            .write_bound(&self.ledger, &mut self.caches, binding, out, progress)
             .map_err(SignFault::Damaged)?;
         Ok(())
     }

@@ -1,0 +1,184 @@
+use Rattle.std.proofs.Common.{rules, ◌≡◌, ◌∙◌, ℕ, ◌-◌, List, Some, Err, sym, ap, subst, arith, refl}
+use Rattle.std.specs.Prelude.{length, vec_capacity}
+use Rattle.std.proofs.lemmas.List.{take_at}
+use Rattle.state_file.specs.Laws.{bottom_of}
+use Rattle.state_file.specs.declared.record.Key.{Key}
+use Rattle.state_file.specs.declared.record.Record.{Record}
+use Rattle.sign_core.specs.declared.ledger.Binding.{Binding}
+use Rattle.sign_core.specs.Caches.{Cached, LacksCache}
+use Rattle.sign_core.specs.Records.{key_in}
+use Rattle.sign_core.specs.Signer.{is_before_repeat, signature_size, state_of}
+use Rattle.sign_core.specs.inner.Links.{MakesTrees}
+use Rattle.sign_core.specs.Signing.{UnderKey}
+use Rattle.sign_core.specs.inner.Signing.{IsBindingOf, Repeats}
+use Rattle.sign_core.specs.Textbook.{damaged_in}
+use Rattle.sign_core.proofs.Capacities.{capacity_grows, capacity_stays}
+use Rattle.sign_core.proofs.ChainParts.{same_key}
+use Rattle.sign_core.proofs.LedgerReading.{key_levels}
+use Rattle.sign_core.proofs.Refusals.{never_such}
+use Rattle.sign_core.proofs.Repeats.{changed, damaged, damaged_after_caches, fault_of, found_chain, found_digest, found_kept, found_signature, is_found, lacks_cache, lacks_room, linked_ok, refused_with, same_size, signed, unread}
+use Rattle.sign_core.proofs.signer.Signer.repeat.Goals as goal
+
+pub overflow_sub-bottom : goal.overflow_sub-bottom
+overflow_sub-bottom g c =
+    let some = (key_levels c.self.inside.ledger.records c.key.result.now c.key.ensures.sizes c.key.ensures.first).0 in
+    omega (arith, some, c.levels-bottom.ensures)
+
+pub digest-requires : goal.digest-requires
+digest-requires g c = subst (λ (k : Key). MakesTrees k.secret c.of-trees.result) c.key.ensures.key c.of-trees.ensures
+
+pub returns-in_err-digest-clause-step : goal.returns-in_err-digest-clause-step
+returns-in_err-digest-clause-step g c key keyed name kept =
+    let v = c.args.self.now in
+    let L = c.self.inside.ledger in
+    let b = c.args.binding.now in
+    let records = ap (λ w. w.records) c.self.view_is in
+    let found = is_found key v.records name b kept in
+    let own_is = same_key v.records c.key.result.now key (ap (λ w. key_in w.records) (sym c.self.view_is) ∙ c.key.ensures.first) keyed in
+    let own = sym c.key.ensures.key ∙ own_is in
+    let at = ap (λ (k : Binding). k.tree) (found_kept L.key key L.records v.records name b found own records) in
+    let answer : c.from_residual.result ≡ Err c.in_err-digest.field-0.0 = search rules in
+    subst (λ y. Repeats g.M.Message (state_of v) v.cached c.args.message.now c.digest.new.message (vec_capacity c.args.out.now) y key name)
+    (refused_with c.from_residual.result _ _ (answer ∙ ap Err c.in_err-digest.ensures.fault))
+    (unread g.M.Message v c.args.message.now c.digest.new.message (vec_capacity c.args.out.now) key name b found (c.in_err-digest.ensures.digest found.place at))
+
+pub returns-in_err-digest-clause-capacity : goal.returns-in_err-digest-clause-capacity
+returns-in_err-digest-clause-capacity g c = capacity_stays _ _
+
+pub returns-then-ne-clause-step : goal.returns-then-ne-clause-step
+returns-then-ne-clause-step g c key keyed name kept =
+    let v = c.args.self.now in
+    let L = c.self.inside.ledger in
+    let b = c.args.binding.now in
+    let records = ap (λ w. w.records) c.self.view_is in
+    let found = is_found key v.records name b kept in
+    let own_is = same_key v.records c.key.result.now key (ap (λ w. key_in w.records) (sym c.self.view_is) ∙ c.key.ensures.first) keyed in
+    let own = sym c.key.ensures.key ∙ own_is in
+    let at = ap (λ (k : Binding). k.tree) (found_kept L.key key L.records v.records name b found own records) in
+    let (text, whole, is) = c.in_ok-digest.ensures.digest found.place at in
+    let digest = found_digest L.key key L.records v.records name b found own records text c.in_ok-digest.digest is in
+    changed g.M.Message v c.args.message.now c.digest.new.message (vec_capacity c.args.out.now) key name b found text c.in_ok-digest.digest whole digest
+    (sym c.ne.ensures ∙ c.if-ne.true)
+
+pub returns-then-ne-clause-capacity : goal.returns-then-ne-clause-capacity
+returns-then-ne-clause-capacity g c = capacity_stays _ _
+
+pub returns-in_err-make_room-clause-step : goal.returns-in_err-make_room-clause-step
+returns-in_err-make_room-clause-step g c key keyed name kept =
+    let v = c.args.self.now in
+    let L = c.self.inside.ledger in
+    let b = c.args.binding.now in
+    let records = ap (λ w. w.records) c.self.view_is in
+    let found = is_found key v.records name b kept in
+    let own_is = same_key v.records c.key.result.now key (ap (λ w. key_in w.records) (sym c.self.view_is) ∙ c.key.ensures.first) keyed in
+    let own = sym c.key.ensures.key ∙ own_is in
+    let at = ap (λ (k : Binding). k.tree) (found_kept L.key key L.records v.records name b found own records) in
+    let (text, whole, is) = c.in_ok-digest.ensures.digest found.place at in
+    let digest = found_digest L.key key L.records v.records name b found own records text c.in_ok-digest.digest is in
+    let answer : c.from_residual-in_err-make_room.result ≡ Err c.in_err-make_room.field-0.0 = search rules in
+    subst (λ y. Repeats g.M.Message (state_of v) v.cached c.args.message.now c.digest.new.message (vec_capacity c.args.out.now) y key name)
+    (refused_with c.from_residual-in_err-make_room.result _ _ (answer ∙ ap Err c.in_err-make_room.ensures.refused))
+    (lacks_room g.M.Message v c.args.message.now c.digest.new.message (vec_capacity c.args.out.now) key name b found text c.in_ok-digest.digest whole digest
+    (sym c.ne.ensures ∙ c.if-ne.false) (same_size c.key.result.now key _ own_is c.in_err-make_room.ensures.full))
+
+pub returns-in_err-make_room-clause-capacity : goal.returns-in_err-make_room-clause-capacity
+returns-in_err-make_room-clause-capacity g c =
+    capacity_grows _ c.key.result.now _ _ (ap (λ w. key_in w.records) (sym c.self.view_is) ∙ c.key.ensures.first)
+    c.make_room.ensures.capacity c.make_room.ensures.most
+
+pub keep_trees-requires-clause-trees : goal.keep_trees-requires-clause-trees
+keep_trees-requires-clause-trees g c = subst (λ (k : Key). MakesTrees k.secret c.of-trees.result) c.key.ensures.key c.of-trees.ensures
+
+pub keep_trees-requires-clause-few : goal.keep_trees-requires-clause-few
+keep_trees-requires-clause-few g c =
+    let (some, few) = key_levels c.self.inside.ledger.records c.key.result.now c.key.ensures.sizes c.key.ensures.first in
+    omega (arith, some, few, c.levels-bottom.ensures)
+
+pub returns-in_err-keep_trees-clause-step : goal.returns-in_err-keep_trees-clause-step
+returns-in_err-keep_trees-clause-step g c key keyed name kept =
+    let v = c.args.self.now in
+    let L = c.self.inside.ledger in
+    let b = c.args.binding.now in
+    let records = ap (λ w. w.records) c.self.view_is in
+    let found = is_found key v.records name b kept in
+    let own_is = same_key v.records c.key.result.now key (ap (λ w. key_in w.records) (sym c.self.view_is) ∙ c.key.ensures.first) keyed in
+    let own = sym c.key.ensures.key ∙ own_is in
+    let at = ap (λ (k : Binding). k.tree) (found_kept L.key key L.records v.records name b found own records) in
+    let (text, whole, is) = c.in_ok-digest.ensures.digest found.place at in
+    let digest = found_digest L.key key L.records v.records name b found own records text c.in_ok-digest.digest is in
+    let bottom : c.levels-bottom.result - 1 ≡ bottom_of key.secret =
+    ap (λ n. n - 1) c.levels-bottom.ensures ∙ ap (λ (k : Key). bottom_of k.secret) own_is in
+    let lacking : LacksCache key v.records (Some (bottom_of key.secret)) b.place v.cached =
+    subst (λ (x : Key × List Record × ℕ × Cached). LacksCache x.0 x.1 (Some x.2) b.place x.3)
+    (λ i. (own i, records i, bottom i, ap (λ w. w.cached) c.self.view_is i))
+    c.in_err-keep_trees.ensures.lacking in
+    let answer : c.from_residual-in_err-keep_trees.result ≡ Err c.in_err-keep_trees.field-0.0 = search rules in
+    subst (λ y. Repeats g.M.Message (state_of v) v.cached c.args.message.now c.digest.new.message (vec_capacity c.args.out.now) y key name)
+    (refused_with c.from_residual-in_err-keep_trees.result _ _ (answer ∙ ap Err c.in_err-keep_trees.ensures.fault))
+    (lacks_cache g.M.Message v c.args.message.now c.digest.new.message (vec_capacity c.args.out.now) key name b found text c.in_ok-digest.digest whole digest
+    (sym c.ne.ensures ∙ c.if-ne.false) lacking)
+
+pub returns-in_err-keep_trees-clause-capacity : goal.returns-in_err-keep_trees-clause-capacity
+returns-in_err-keep_trees-clause-capacity g c =
+    capacity_grows _ c.key.result.now _ _ (ap (λ w. key_in w.records) (sym c.self.view_is) ∙ c.key.ensures.first)
+    c.make_room.ensures.capacity c.make_room.ensures.most
+
+pub write_bound-requires-clause-trees : goal.write_bound-requires-clause-trees
+write_bound-requires-clause-trees g c = subst (λ (k : Key). MakesTrees k.secret c.of-trees.result) c.key.ensures.key c.of-trees.ensures
+
+pub write_bound-requires-clause-room : goal.write_bound-requires-clause-room
+write_bound-requires-clause-room g c = let same = ap (λ (k : Key). signature_size k.secret) c.key.ensures.key in search (rules, same)
+
+pub write_bound-requires-clause-kept : goal.write_bound-requires-clause-kept
+write_bound-requires-clause-kept g c =
+    subst (λ w. UnderKey w.records (λ key. (name : List ℕ) × IsBindingOf w.records c.args.binding.now key name)) (sym c.self.view_is) c.requires.kept
+
+pub returns-in_err-map_err-clause-step : goal.returns-in_err-map_err-clause-step
+returns-in_err-map_err-clause-step g c key keyed name kept =
+    let v = c.args.self.now in
+    let L = c.self.inside.ledger in
+    let b = c.args.binding.now in
+    let records = ap (λ w. w.records) c.self.view_is in
+    let found = is_found key v.records name b kept in
+    let own_is = same_key v.records c.key.result.now key (ap (λ w. key_in w.records) (sym c.self.view_is) ∙ c.key.ensures.first) keyed in
+    let own = sym c.key.ensures.key ∙ own_is in
+    let at = ap (λ (k : Binding). k.tree) (found_kept L.key key L.records v.records name b found own records) in
+    let (text, whole, is) = c.in_ok-digest.ensures.digest found.place at in
+    let digest = found_digest L.key key L.records v.records name b found own records text c.in_ok-digest.digest is in
+    let answer : c.from_residual-in_err-map_err.result ≡ Err c.in_err-map_err.field-0.0 = search rules in
+    let (slot, of_place, chain) = fault_of c.write_bound.result c.map_err.result c.in_err-map_err.field-0.0
+    (λ k. damaged_in L.key (bottom_of L.key.secret) L.records b.tree ≡ Some k) c.map_err.ensures.cases c.in_err-map_err.was c.write_bound.ensures.damaged in
+    subst (λ y. Repeats g.M.Message (state_of v) v.cached c.args.message.now c.digest.new.message (vec_capacity c.args.out.now) y key name)
+    (refused_with c.from_residual-in_err-map_err.result _ _ (answer ∙ ap Err of_place))
+    (damaged g.M.Message v c.args.message.now c.digest.new.message (vec_capacity c.args.out.now) key name b found text c.in_ok-digest.digest slot whole digest
+    (sym c.ne.ensures ∙ c.if-ne.false) (sym (found_chain L.key key L.records v.records name b found own records) ∙ chain))
+
+pub returns-in_err-map_err-clause-capacity : goal.returns-in_err-map_err-clause-capacity
+returns-in_err-map_err-clause-capacity g c =
+    capacity_grows _ c.key.result.now _ _ (ap (λ w. key_in w.records) (sym c.self.view_is) ∙ c.key.ensures.first)
+    c.make_room.ensures.capacity c.make_room.ensures.most
+
+pub returns-clause-step : goal.returns-clause-step
+returns-clause-step g c key keyed name kept =
+    let v = c.args.self.now in
+    let L = c.self.inside.ledger in
+    let b = c.args.binding.now in
+    let records = ap (λ w. w.records) c.self.view_is in
+    let found = is_found key v.records name b kept in
+    let own_is = same_key v.records c.key.result.now key (ap (λ w. key_in w.records) (sym c.self.view_is) ∙ c.key.ensures.first) keyed in
+    let own = sym c.key.ensures.key ∙ own_is in
+    let at = ap (λ (k : Binding). k.tree) (found_kept L.key key L.records v.records name b found own records) in
+    let (text, whole, is) = c.in_ok-digest.ensures.digest found.place at in
+    let digest = found_digest L.key key L.records v.records name b found own records text c.in_ok-digest.digest is in
+    let fits : length c.write_bound.new.out ≡ c.make_room.new.out.len = search rules in
+    let sound = linked_ok c.write_bound.result c.map_err.result _ _ c.map_err.ensures.cases c.in_ok-map_err.was c.write_bound.ensures.sound in
+    let made = linked_ok c.write_bound.result c.map_err.result _ _ c.map_err.ensures.cases c.in_ok-map_err.was c.write_bound.ensures.signature found.place found.bound
+    (found_kept L.key key L.records v.records name b found own records) in
+    signed g.M.Message v c.args.message.now c.digest.new.message (vec_capacity c.args.out.now) key name b found text c.in_ok-digest.digest _ whole digest
+    (sym c.ne.ensures ∙ c.if-ne.false) (sym (found_chain L.key key L.records v.records name b found own records) ∙ sound)
+    (take_at c.write_bound.new.out _ c.make_room.new.out.len fits ∙ made ∙ found_signature L.key key L.records v.records name b found own records)
+
+pub returns-clause-capacity : goal.returns-clause-capacity
+returns-clause-capacity g c =
+    capacity_grows _ c.key.result.now _ _ (ap (λ w. key_in w.records) (sym c.self.view_is) ∙ c.key.ensures.first)
+    c.make_room.ensures.capacity c.make_room.ensures.most
