@@ -3,14 +3,15 @@ use Rattle.std.proofs.Common.{◌≡◌, ◌∙◌, refl, sym, ap, subst, inl, i
 use Rattle.std.proofs.Common.{◌++◌, length, take, find, Option, Some, None, cond, arith, length-append}
 use Rattle.std.specs.Prelude.{slice_get, slice_index_or, unwrap_or, Result, Ok, Err, IfErr, OnErr, OnOk}
 use Rattle.std.proofs.lemmas.Bool.{cases_order}
-use Rattle.std.proofs.lemmas.List.{append_assoc}
+use Rattle.std.proofs.Common.{append-nil}
+use Rattle.std.proofs.lemmas.List.{append_assoc, map-append}
 use Rattle.std.proofs.lemmas.Option.{same_Some, slice_get_within}
 use Rattle.typecodes.specs.declared.types.LmsPair.{LmsPair}
 use Rattle.typecodes.specs.Types.{height_of}
 use Rattle.typecodes.specs.declared.secret.LmsSecret.{LmsSecret}
 use Rattle.lms.specs.declared.signing_tree.SigningTree.{SigningTree}
 use Rattle.hss.specs.declared.secret.Level.{Level}
-use Rattle.hss.specs.Secret.{Signing}
+use Rattle.hss.specs.Secret.{Signing, signing_of}
 use Rattle.state_file.specs.Laws.{IsCurrent, IsLegal, leaves_at, leaves_in, levels_of}
 use Rattle.state_file.specs.declared.record.Extend.{Extend}
 use Rattle.state_file.specs.declared.record.Key.{Key}
@@ -20,7 +21,7 @@ use Rattle.state_file.specs.declared.record.Secret.{Secret}
 use Rattle.state_file.specs.declared.record.Secret.TheVariants.{Lms, Hss, Xmss}
 use Rattle.sign_core.specs.declared.ledger.Made.{Made}
 use Rattle.sign_core.specs.Records.{current, key_in}
-use Rattle.sign_core.specs.inner.Links.{AreMade, IsMade, IsTreeAt, IsTreeBy}
+use Rattle.sign_core.specs.inner.Links.{AreMade, IsMade, IsTreeAt, IsTreeBy, signings_of}
 use Rattle.sign_core.specs.Ledger.{made_at, made_by}
 use Rattle.sign_core.specs.Textbook.{Trees, chain, damaged_in, is_sound_at, secret_at, secret_by, tree_before}
 use Rattle.sign_core.specs.Textbook.{signing_by, signing_with, signings_above, trees_of}
@@ -262,6 +263,55 @@ all_signings trees records level place made old above new below above_is is =
     let one = named_by (secret_at trees records made.parent) made.extend in
     is ∙ ap (λ xs. xs ++ one ∷ []) above_is ∙ append_assoc old (signings_above trees (level - 1) records made.parent) (one ∷ [])
     ∙ ap (λ xs. old ++ xs) (signings_of_chain trees records level place made below)
+
+-- What holds of a chain once the levels above a tree are there: whether the tree's record is sound decides.
+pub record Reaches (key : Key) (trees : Trees) (records : List Record) (level place : ℕ) (old new : List Level) : Type 0 where
+  pub sound : is_sound_at key records place ≡ true → damaged_in key level records place ≡ None
+  pub damaged : is_sound_at key records place ≡ false → damaged_in key level records place ≡ Some place
+  pub signings : signings_of new ≡ signings_of old ++ signings_above trees level records place
+  pub len : length new ≡ length old + level
+  pub made : AreMade old → AreMade new
+
+top_level : (records : List Record) (level place : ℕ) → IsTreeAt records level place → made_at records place ≡ None → level ≡ 0
+top_level records zero place at none = refl
+top_level records (suc level) place (extend, stands, of_level) none =
+    absurd (none_some (sym none ∙ ap (made_by records place) stands))
+  where
+    none_some : {A X : Type 0} {a : A} → None ≡ Some a → X
+    none_some same = cc
+
+-- the Key's tree has none above it
+pub reaches_top : (key : Key) (trees : Trees) (records : List Record) (level place : ℕ) (above : List Level) → IsTreeAt records level place
+    → made_at records place ≡ None → Reaches key trees records level place above above
+reaches_top key trees records level place above at none =
+    subst (λ n. Reaches key trees records n place above above) (sym (top_level records level place at none)) (record {
+      sound = top_sound key records place;
+      damaged = top_damaged key records place;
+      signings = sym (append-nil (signings_of above));
+      len = omega arith;
+      made = λ made. made;
+    })
+
+-- an Extend's tree stands under the one whose leaf signs it
+pub reaches_below : (key : Key) (trees : Trees) (records : List Record) (level place : ℕ) (made : Made) (old above : List Level) (tree : SigningTree)
+    → IsUnder trees records level place made → damaged_in key (level - 1) records made.parent ≡ None
+    → signings_of above ≡ signings_of old ++ signings_above trees (level - 1) records made.parent → length above ≡ length old + (level - 1)
+    → (AreMade old → AreMade above) → IsTreeBy (secret_at trees records made.parent) made.extend.parent_leaf tree
+    → Reaches key trees records level place old
+    (above ++ record { tree = tree; randomizer = made.extend.randomizer; digest = made.extend.digest } ∷ [])
+reaches_below key trees records level place made old above tree below sound signs long are_made by =
+    let extend = made.extend in
+    let last : Level = record { tree = tree; randomizer = extend.randomizer; digest = extend.digest } in
+    record {
+      sound = chain_sound key trees records level place made below sound;
+      damaged = λ damaged. chain_damaged key trees records level place place made below sound (refl, damaged);
+      signings = all_signings trees records level place made (signings_of old) (signings_of above) (signings_of (above ++ last ∷ [])) below signs
+          (map-append signing_of above (last ∷ [])
+          ∙ ap (λ s. signings_of above ++ s ∷ [])
+          (tree_signs tree (secret_at trees records made.parent) extend.parent_leaf extend.randomizer extend.digest by));
+      len = omega (arith, long, below.some, length-append above (last ∷ []));
+      made = λ before. more_made above last (are_made before) by.made;
+    }
 
 -- ---- answers
 

@@ -118,35 +118,6 @@ impl KeyTrees {
         extend.root == tree.root && extend.digest == digest
     }
 
-    // The tree at a place, ready to sign by a leaf; or the place, if its record isn't sound.
-    fn sound_tree<P: TreeProgress>(
-        &self,
-        ledger: &Ledger,
-        caches: &mut Caches,
-        level: u8,
-        place: u32,
-        leaf: u32,
-        progress: &P,
-    ) -> Result<SigningTree, u32>
-        requires trees { AreTreesOf self.now ledger.now.key }
-        requires stands { IsTreeAt ledger.now.records level place }
-        requires inside { let secret = secret_at (trees_in self.now) ledger.now.records place in
-            leaf < 2 ^ height_of secret.pair.tree }
-        requires few { level < 8 }
-        ensures sound { OnOk result (is_sound_at ledger.now.key ledger.now.records place ≡ true) }
-        ensures damaged { IfErr result (λ k. (k ≡ place)
-            × (is_sound_at ledger.now.key ledger.now.records place ≡ false)) }
-        ensures tree { IfOk result (IsTreeBy (secret_at (trees_in self.now) ledger.now.records place) leaf) }
-        ensures caches { caches.new ≡ caches.old }
-    {
-        let secret = self.secret_at(ledger, place);
-        let tree = caches.signing_tree(TreeRequest::new(level, secret, leaf, progress));
-        if !self.is_sound(ledger, level, place, &tree) {
-            return Err(place);
-        }
-        Ok(tree)
-    }
-
     /// Adds the trees above the tree at a place, from the Key's down, and answers this tree, ready to sign by a leaf.
     /// Or answers the place of the chain's first record that isn't sound.
     pub(crate) fn chain_to<P: TreeProgress>(
@@ -175,19 +146,23 @@ impl KeyTrees {
         ensures tree { IfOk result (IsTreeBy (secret_at (trees_in self.now) ledger.now.records place) leaf) }
         ensures caches { caches.new ≡ caches.old }
     {
-        let Some(made) = ledger.made(place) else {
-            return self.sound_tree(ledger, caches, level, place, leaf, progress);
-        };
-        let (randomizer, digest) = (made.extend.randomizer, made.extend.digest);
-        let (parent, parent_leaf) = (made.parent, made.extend.parent_leaf);
-        let tree =
-            self.chain_to(ledger, caches, level - 1, parent, parent_leaf, above, progress)?;
-        above.push(Level {
-            tree,
-            randomizer,
-            digest,
-        });
-        self.sound_tree(ledger, caches, level, place, leaf, progress)
+        if let Some(made) = ledger.made(place) {
+            let (randomizer, digest) = (made.extend.randomizer, made.extend.digest);
+            let (parent, signer) = (made.parent, made.extend.parent_leaf);
+            let tree =
+                self.chain_to(ledger, caches, level - 1, parent, signer, above, progress)?;
+            above.push(Level {
+                tree,
+                randomizer,
+                digest,
+            });
+        }
+        let secret = self.secret_at(ledger, place);
+        let tree = caches.signing_tree(TreeRequest::new(level, secret, leaf, progress));
+        if !self.is_sound(ledger, level, place, &tree) {
+            return Err(place);
+        }
+        Ok(tree)
     }
 }
 
@@ -250,16 +225,16 @@ impl SecretTrees {
 }
 
 impl Caches {
-    ghost use Rattle.sign_core.specs.Caches.{LacksCache, LacksLevel};
-    ghost use Rattle.sign_core.specs.Caches.{cache_at};
+    ghost use Rattle.sign_core.specs.Caches.{LacksCache, cache_at};
     ghost use Rattle.std.specs.Prelude.{ℕ};
-    ghost use Rattle.sign_core.specs.inner.Links.{AreTreesOf, MakesTrees};
+    ghost use Rattle.sign_core.specs.inner.Links.{MakesTrees};
 
     /// Makes the missing caches of the current trees, from the top down to a level, where their records stand before a
-    /// place. The tree at `place` is to sign by this leaf.
+    /// place. The tree at `place` is to sign by this leaf. A new cache keeps the block of the leaf by which its tree is
+    /// to sign, or has signed the tree below.
     pub(crate) fn keep_trees<P: TreeProgress>(
         &mut self,
-        trees: &SecretTrees,
+        keys: &SecretTrees,
         ledger: &Ledger,
         level: u8,
         place: u32,
@@ -267,44 +242,23 @@ impl Caches {
         before: u32,
         progress: &P,
     ) -> Result<(), SignFault>
-        requires trees { MakesTrees ledger.now.key.secret trees.now }
+        requires trees { MakesTrees ledger.now.key.secret keys.now }
         requires few { level < 8 }
         ensures fault { IfErr result (λ fault. fault ≡ SignFault.OutOfMemory) }
         ensures lacking { OnErr result
             (LacksCache ledger.now.key ledger.now.records (Some level) before self.old) }
-    {
-        match trees {
-            SecretTrees::Chain(trees) => {
-                self.keep_chain(trees, ledger, level, place, leaf, before, progress)
-            }
-            SecretTrees::Xmss(secret) => {
-                self.keep_xmss(TreeRequest::new(0, *secret, leaf, progress))
-            }
-        }
-    }
-
-    // The same for LMS trees. A new cache keeps the block of the leaf by which its tree is to sign, or has signed the
-    // tree below.
-    fn keep_chain<P: TreeProgress>(
-        &mut self,
-        trees: &KeyTrees,
-        ledger: &Ledger,
-        level: u8,
-        place: u32,
-        leaf: u32,
-        before: u32,
-        progress: &P,
-    ) -> Result<(), SignFault>
-        requires trees { AreTreesOf trees.now ledger.now.key }
-        requires few { level < 8 }
-        ensures fault { IfErr result (λ fault. fault ≡ SignFault.OutOfMemory) }
-        ensures lacking { OnErr result (LacksLevel ledger.now.key ledger.now.records level before self.old) }
         ensures others { (k : ℕ) → level < k → cache_at self.new.levels k ≡ cache_at self.old.levels k }
     {
+        let trees = match keys {
+            SecretTrees::Chain(trees) => trees,
+            SecretTrees::Xmss(secret) => {
+                return self.keep_xmss(TreeRequest::new(0, *secret, leaf, progress));
+            }
+        };
         if let Some(made) = ledger.made(place) {
             if level > 0 {
                 let leaf = made.extend.parent_leaf;
-                self.keep_chain(trees, ledger, level - 1, made.parent, leaf, before, progress)?;
+                self.keep_trees(keys, ledger, level - 1, made.parent, leaf, before, progress)?;
             }
         }
         match ledger.current(level) {
