@@ -15,7 +15,7 @@ use Rattle.state_file.specs.declared.record.Record.TheVariants.{Key as KeyRecord
 use Rattle.state_file.specs.declared.record.Secret.{Secret}
 use Rattle.state_file.specs.declared.record.Secret.TheVariants.{Lms, Hss, Xmss}
 use Rattle.sign_core.specs.inner.Links.{AreMade, IsMade, signing_of_bound}
-use Rattle.sign_core.specs.inner.Signing.{WritesChain, pairs_of}
+use Rattle.sign_core.specs.inner.Signing.{WritesChain}
 use Rattle.sign_core.specs.Textbook.{Trees, secret_at, secret_by, signature_by, signings_above, tree_before, trees_of}
 use Rattle.sign_core.proofs.Chains.{got_last}
 use Rattle.sign_core.proofs.Keys.{key_stands}
@@ -74,4 +74,3 @@ from_secrets above last made = record {
   roots = λ i inside. (level_made above last i made inside).root;
   paths = λ i inside. (level_made above last i made inside).path;
 }
-

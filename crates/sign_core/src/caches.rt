@@ -79,26 +79,6 @@ impl<X: TreeSecret> TreeCache<X> {
         let cache = made.map_err(|_| SignFault::OutOfMemory)?;
         Ok(TreeCache { secret, cache })
     }
-
-    fn root(&self) -> [u8; 32]
-        ensures { result ≡ root_of (X.leaves_in self.now) (X.joins_in self.now) (X.height_in self.now) }
-    {
-        self.cache.root()
-    }
-
-    // Writes the authentication path of a leaf, and answers the root.
-    fn root_and_path(&mut self, leaf: u32, into: &mut [[u8; 32]]) -> [u8; 32]
-        requires inside { leaf < 2 ^ X.height_in self.old }
-        requires room { length into.old ≡ X.height_in self.old }
-        ensures path { into.new
-            ≡ path_of (X.leaves_in self.old) (X.joins_in self.old) (X.height_in self.old) leaf }
-        ensures length { length into.new ≡ X.height_in self.old }
-        ensures root { result ≡ root_of (X.leaves_in self.old) (X.joins_in self.old) (X.height_in self.old) }
-        ensures same { self.new ≡ self.old }
-    {
-        self.cache.path_at(leaf, into);
-        self.cache.root()
-    }
 }
 
 // How many leaves the cache has made, if it is the secret's.
@@ -131,15 +111,17 @@ impl<X: TreeSecret, P: TreeProgress> TreeRequest<'_, X, P> {
     fn root_and_path(self, kept: &mut Option<TreeCache<X>>, into: &mut [[u8; 32]]) -> [u8; 32]
         requires inside { self.leaf < 2 ^ X.height_in self.secret }
         requires room { length into.old ≡ X.height_in self.secret }
-        ensures path { into.new
-            ≡ path_of (X.leaves_in self.entry.secret) (X.joins_in self.entry.secret) (X.height_in self.entry.secret) self.entry.leaf }
+        ensures path { let secret = self.entry.secret in
+            into.new ≡ path_of (X.leaves_in secret) (X.joins_in secret) (X.height_in secret) self.entry.leaf }
         ensures length { length into.new ≡ X.height_in self.entry.secret }
-        ensures root { result ≡ root_of (X.leaves_in self.entry.secret) (X.joins_in self.entry.secret) (X.height_in self.entry.secret) }
+        ensures root { let secret = self.entry.secret in
+            result ≡ root_of (X.leaves_in secret) (X.joins_in secret) (X.height_in secret) }
         ensures same { kept.new ≡ kept.old }
     {
         if let Some(cache) = kept {
             if cache.secret.is_same(&self.secret) {
-                return cache.root_and_path(self.leaf, into);
+                cache.cache.path_at(self.leaf, into);
+                return cache.cache.root();
             }
         }
         let mut tree = Told::new(self.secret.tree(), self.begin());
@@ -221,7 +203,7 @@ impl Caches {
     {
         let level = usize::from(asked.level);
         let cache = TreeCache::new(self.alloc, asked)?;
-        let root = cache.root();
+        let root = cache.cache.root();
         self.levels[level] = Some(cache);
         Ok(root)
     }

@@ -81,23 +81,18 @@ impl KeyTrees {
         *pairs.get(usize::from(level)).unwrap_or(&self.top.pair)
     }
 
-    pub(crate) fn secret_of(&self, extend: &Extend) -> LmsSecret
-        ensures { result ≡ secret_by (trees_in self.now) (Some (ExtendRecord extend.now)) }
-    {
-        LmsSecret {
-            pair: self.pair(extend.level),
-            identifier: extend.identifier,
-            seed: extend.seed,
-        }
-    }
-
     /// The secret of the tree at a place; the top tree's, where no Extend stands.
     pub(crate) fn secret_at(&self, ledger: &Ledger, place: u32) -> LmsSecret
         ensures { result ≡ secret_at (trees_in self.now) ledger.now.records place }
     {
-        match ledger.made(place) {
-            Some(made) => self.secret_of(&made.extend),
-            None => self.top,
+        let Some(made) = ledger.made(place) else {
+            return self.top;
+        };
+        let (identifier, seed) = (made.extend.identifier, made.extend.seed);
+        LmsSecret {
+            pair: self.pair(made.extend.level),
+            identifier,
+            seed,
         }
     }
 
@@ -114,7 +109,8 @@ impl KeyTrees {
         };
         let extend = made.extend;
         let parent = self.secret_at(ledger, made.parent).identifier;
-        let digest = key_digest(parent, extend.parent_leaf, &extend.randomizer, &tree.public());
+        let public = tree.public();
+        let digest = key_digest(parent, extend.parent_leaf, &extend.randomizer, &public);
         extend.root == tree.root && extend.digest == digest
     }
 
@@ -149,8 +145,7 @@ impl KeyTrees {
         if let Some(made) = ledger.made(place) {
             let (randomizer, digest) = (made.extend.randomizer, made.extend.digest);
             let (parent, signer) = (made.parent, made.extend.parent_leaf);
-            let tree =
-                self.chain_to(ledger, caches, level - 1, parent, signer, above, progress)?;
+            let tree = self.chain_to(ledger, caches, level - 1, parent, signer, above, progress)?;
             above.push(Level {
                 tree,
                 randomizer,

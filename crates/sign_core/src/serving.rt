@@ -32,16 +32,6 @@ pub(crate) enum Reply {
     BadName,
 }
 
-impl Reply {
-    ghost use Rattle.sign_core.specs.inner.Serving.{is_unread};
-
-    fn is_unread(&self) -> bool
-        ensures { result ≡ is_unread self.now }
-    {
-        matches!(self, Reply::Refused(SignFault::MessageRead))
-    }
-}
-
 /// Answers the requests of an input one after the other, and writes the reply to each before it reads the next one. A
 /// request is the size of its name in one byte, the name, the size of its message in four bytes, and the message. It is
 /// signed as it is read. A reply is its number in one byte, the size of its body in four, and the body. The body is the
@@ -88,10 +78,8 @@ pub fn serve_telling<S: Store, R: Source, I: Message, W: Write, P: TreeProgress>
 {
     let mut signature = Vec::new(alloc);
     for count in 0..REPLIES {
-        match take_turn(signer, reader, writer, &mut signature, progress) {
-            Ok(true) => {}
-            Ok(false) => return Ok(count),
-            Err(fault) => return Err(fault),
+        if !take_turn(signer, reader, writer, &mut signature, progress)? {
+            return Ok(count);
         }
     }
     Ok(REPLIES)
@@ -144,13 +132,8 @@ fn answer<S: Store, R: Source, I: Message, W: Write, P: TreeProgress>(
         input: reader,
         left: size_of(head.announced),
     };
-    let reply = ask(
-        signer,
-        head.name.as_slice(),
-        &mut message,
-        signature,
-        progress,
-    );
+    let name = head.name.as_slice();
+    let reply = ask(signer, name, &mut message, signature, progress);
     let is_whole = finish(&mut message, &reply);
     let written = write_answer(&message, writer, &reply, signature);
     let FrameMessage { input, .. } = message;
@@ -171,7 +154,7 @@ fn size_of(announced: u32) -> u32
 fn finish<M: Message>(message: &mut M, reply: &Reply) -> bool
     ensures { Finishes M.Message (is_unread reply.now) message.old message.new result }
 {
-    if reply.is_unread() {
+    if matches!(reply, Reply::Refused(SignFault::MessageRead)) {
         return false;
     }
     skip(message).is_ok()
@@ -222,25 +205,23 @@ fn write_answer<M: Message, W: Write>(
 fn write_reply<W: Write>(writer: &mut W, number: u8, body: &[u8]) -> Result<(), ServeFault>
     ensures { WritesReply (reply_frame number body.now) (W.contents writer.old) (W.contents writer.new) result }
 {
-    let size = match u32::try_from(body.len()) {
-        Ok(size) => size,
-        Err(_) => return Err(ServeFault::WriteFailed),
-    };
+    let size = u32::try_from(body.len()).map_err(write_failed)?;
     write_part(writer, &[number])?;
     write_part(writer, &size.to_be_bytes())?;
     write_part(writer, body)?;
-    match writer.flush() {
-        Ok(()) => Ok(()),
-        Err(_) => Err(ServeFault::WriteFailed),
-    }
+    writer.flush().map_err(write_failed)
 }
 
 // Writes all of the bytes, or those before a write that fails.
 fn write_part<W: Write>(writer: &mut W, bytes: &[u8]) -> Result<(), ServeFault>
     ensures { WritesReply bytes.now (W.contents writer.old) (W.contents writer.new) result }
 {
-    match write_all(writer, bytes) {
-        Ok(()) => Ok(()),
-        Err(_) => Err(ServeFault::WriteFailed),
-    }
+    write_all(writer, bytes).map_err(write_failed)
+}
+
+// 36, whatever the error.
+fn write_failed<E: Drop>(_error: E) -> ServeFault
+    ensures { result ≡ ServeFault.WriteFailed }
+{
+    ServeFault::WriteFailed
 }

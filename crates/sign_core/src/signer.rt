@@ -234,15 +234,13 @@ impl<S: Store, R: Source> Signer<S, R> {
         alloc: Global,
         version: Version,
         spec: Spec,
-        store: S,
-        random: R,
+        mut store: S,
+        mut random: R,
         progress: &P,
     ) -> Result<Self, Refused<(S, R), SignFault>>
         requires room { 1 ≤ S.most store }
         ensures { Creates S.Store R.Source version spec store random result }
     {
-        let mut store = store;
-        let mut random = random;
         let made = create_key(alloc, version, &spec, &mut store, &mut random, progress);
         Signer::holding(alloc, store, random, made)
     }

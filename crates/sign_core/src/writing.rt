@@ -10,17 +10,6 @@ use crate::fault::SignFault;
 use hss::Level;
 use state_file::Secret;
 
-/// The length of a key's signatures in bytes.
-pub(crate) fn signature_len(secret: &Secret) -> u32
-    ensures { result ≡ signature_size secret.now }
-{
-    match secret {
-        Secret::Lms(secret) => secret.pair.signature_len(),
-        Secret::Hss { levels, .. } => hss::signature_len(levels),
-        Secret::Xmss(secret) => secret.tree.signature_len(),
-    }
-}
-
 // Gives `out` the length of a signature of the key.
 pub(crate) fn make_room(secret: &Secret, out: &mut Vec<u8>) -> Result<(), SignFault>
     ensures room { OnOk result (length out.new.items ≡ signature_size secret.now) }
@@ -30,7 +19,12 @@ pub(crate) fn make_room(secret: &Secret, out: &mut Vec<u8>) -> Result<(), SignFa
     ensures capacity { vec_capacity out.old ≤ vec_capacity out.new }
     ensures most { vec_capacity out.new ≤ max (vec_capacity out.old) (signature_size secret.now) }
 {
-    let size = signature_len(secret) as usize;
+    let size = match secret {
+        Secret::Lms(secret) => secret.pair.signature_len(),
+        Secret::Hss { levels, .. } => hss::signature_len(levels),
+        Secret::Xmss(secret) => secret.tree.signature_len(),
+    };
+    let size = size as usize;
     out.clear();
     out.reserve_exact(size).map_err(|_| SignFault::OutOfMemory)?;
     fill(out, size);

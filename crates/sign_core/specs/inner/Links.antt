@@ -1,6 +1,5 @@
 -- The chains of LMS trees that a signer makes in memory, and what they sign.
-use Rattle.std.specs.Prelude.{◌≡◌, ℕ, zero, suc, List, take, map, slice_get, Some, ◌&&◌, Bool}
-use Rattle.typecodes.specs.Types.{height_of}
+use Rattle.std.specs.Prelude.{◌≡◌, ℕ, zero, suc, List, map, slice_get, Some, ◌&&◌, Bool}
 use Rattle.lmots.specs.Key.{message_digest_of}
 use Rattle.lms.specs.declared.key.LmsPublic.{LmsPublic}
 use Rattle.typecodes.specs.declared.secret.LmsSecret.{LmsSecret}

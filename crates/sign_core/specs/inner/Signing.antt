@@ -1,6 +1,6 @@
 -- What private functions alone cite of `Signing.antt`'s subject.
 use Rattle.std.specs.Prelude.{◌≡◌, ◌⊎◌, ℕ, ◌+◌, ◌<◌, Bool, true, false, List, [], ◌∷◌, ◌++◌, length, Option, None}
-use Rattle.std.specs.Prelude.{Some, Result, Ok, Err, Vec, map, vec_capacity, ◌≤◌, ◌^◌}
+use Rattle.std.specs.Prelude.{Some, Result, Ok, Err, map, ◌≤◌, ◌^◌}
 use Rattle.std.specs.List.{AllByRecursion, concat}
 use Rattle.typecodes.specs.declared.message.Message as message
 use Rattle.state_file.specs.declared.record.Bound.{Bound}
@@ -21,7 +21,7 @@ use Rattle.sign_core.specs.Records.{binding_in, free_at, has_identifier, has_mov
 use Rattle.sign_core.specs.inner.Links.{signings_of, signing_of_bound}
 use Rattle.sign_core.specs.Events.{AreFields, randomizer_sizes, tree_sizes}
 use Rattle.sign_core.specs.Signer.{Ends, IsRead, LacksTree, RefusesAfterDraws, UnlessAppended}
-use Rattle.sign_core.specs.Signer.{UsesMemory, View, is_before_draws, is_before_repeat, is_fault}
+use Rattle.sign_core.specs.Signer.{UsesMemory, View, is_before_draws, is_fault}
 use Rattle.sign_core.specs.Signer.{is_random_failed, signature_size}
 use Rattle.sign_core.specs.World.{Chance, Draw, Outcome, State, acked, answered}
 use Rattle.sign_core.specs.inner.Cases.{extended, bound_below}
@@ -34,7 +34,7 @@ use Rattle.typecodes.specs.declared.types.LmsPair.{LmsPair}
 use Rattle.sign_core.specs.declared.ledger.Binding.{Binding}
 use Rattle.sign_core.specs.Caches.{Cached, LacksCache}
 use Rattle.sign_core.specs.Ledger.{binding_kept, kept_of}
-use Rattle.sign_core.specs.Signing.{UnderKey, answered_with, KeepsCapacity}
+use Rattle.sign_core.specs.Signing.{UnderKey}
 
 abbrev pub pairs_of : List Level → List LmsPair
 pairs_of levels = map (λ level. level.tree.secret.pair) levels

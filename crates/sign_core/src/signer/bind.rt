@@ -102,14 +102,8 @@ impl<S: Store, R: Source> Signer<S, R> {
 
     // Begins and records a tree below the current tree of a level, whose next leaf signs it.
     #[inline(never)]
-    fn extend<P: TreeProgress>(
-        &mut self,
-        trees: &SecretTrees,
-        level: u8,
-        progress: &P,
-    ) -> Result<(), SignFault>
+    fn extend<P: TreeProgress>(&mut self, level: u8, progress: &P) -> Result<(), SignFault>
         requires ready { IsReady (S.most self.old.store) 1 self.old }
-        requires trees { UnderKey self.old.records (λ key. MakesTrees key.secret trees.now) }
         requires below { UnderKey self.old.records (λ key. level + 1 < levels_of key.secret) }
         requires stands { UnderKey self.old.records (Stands self.old.records level) }
         ensures step { UnderKey self.old.records
@@ -119,7 +113,7 @@ impl<S: Store, R: Source> Signer<S, R> {
         let Some(parent) = self.ledger.current(level) else {
             unreachable!()
         };
-        let SecretTrees::Chain(chain) = trees else {
+        let SecretTrees::Chain(chain) = SecretTrees::of(&self.ledger.key().secret) else {
             unreachable!()
         };
         let below = level + 1;
@@ -157,14 +151,8 @@ impl<S: Store, R: Source> Signer<S, R> {
     // Binds a name to the next leaf of the bottom tree: draws C, reads the message, and appends the record. Answers
     // what is kept of the binding.
     #[inline(never)]
-    fn bind<M: Message>(
-        &mut self,
-        trees: &SecretTrees,
-        name: &Name,
-        message: &mut M,
-    ) -> Result<Binding, SignFault>
+    fn bind<M: Message>(&mut self, name: &Name, message: &mut M) -> Result<Binding, SignFault>
         requires ready { IsReady (S.most self.old.store) 1 self.old }
-        requires trees { UnderKey self.old.records (λ key. MakesTrees key.secret trees.now) }
         requires unbound { binding_in self.old.records name.now ≡ None }
         requires fits { UnderKey self.old.records (λ key. is_long key name.now ≡ false) }
         requires free { UnderKey self.old.records (λ key.
@@ -172,7 +160,9 @@ impl<S: Store, R: Source> Signer<S, R> {
         ensures { UnderKey self.old.records (BindsNext S.Store R.Source M.Message name.now self.old self.new
             message.old message.new result) }
     {
-        let bottom = self.ledger.key().secret.levels() - 1;
+        let secret = &self.ledger.key().secret;
+        let trees = SecretTrees::of(secret);
+        let bottom = secret.levels() - 1;
         let Some(tree) = self.ledger.current(bottom) else {
             unreachable!()
         };
@@ -196,7 +186,6 @@ impl<S: Store, R: Source> Signer<S, R> {
     #[inline(never)]
     pub(super) fn bind_below<M: Message, P: TreeProgress>(
         &mut self,
-        trees: &SecretTrees,
         level: u8,
         name: &Name,
         message: &mut M,
@@ -205,7 +194,6 @@ impl<S: Store, R: Source> Signer<S, R> {
     ) -> Result<(), SignFault>
         requires can { UnderKey self.old.records (λ key. CanBind (S.most self.old.store) (levels_of key.secret - level)
             name.now (length out.old) self.old) }
-        requires trees { UnderKey self.old.records (λ key. MakesTrees key.secret trees.now) }
         requires stands { UnderKey self.old.records (Stands self.old.records level) }
         ensures { UnderKey self.old.records (λ key. BindsBelow S.Store R.Source M.Message name.now
             (bottom_of key.secret - level) self.old self.new message.old message.new
@@ -213,14 +201,14 @@ impl<S: Store, R: Source> Signer<S, R> {
     {
         let levels = self.ledger.key().secret.levels();
         if level + 1 < levels {
-            self.extend(trees, level, progress)?;
+            self.extend(level, progress)?;
             // For the prover: a signer that recorded an Extend is open, and so its store runs.
             prove!(self.is_open);
-            return self.bind_below(trees, level + 1, name, message, out, progress);
+            return self.bind_below(level + 1, name, message, out, progress);
         }
-        let binding = self.bind(trees, name, message)?;
+        let binding = self.bind(name, message)?;
         // Never refuses: the records of all trees down to the bottom are sound.
-        trees
+        SecretTrees::of(&self.ledger.key().secret)
             .write_bound(&self.ledger, &mut self.caches, &binding, out, progress)
             .map_err(SignFault::Damaged)
     }

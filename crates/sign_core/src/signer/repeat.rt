@@ -67,7 +67,8 @@ impl SecretTrees {
             SecretTrees::Xmss(secret) => {
                 let mut nodes = [[0; 32]; 20];
                 let path = &mut nodes[..usize::from(secret.tree.height())];
-                caches.xmss_path(TreeRequest::new(0, *secret, leaf, progress), &key.root, path)?;
+                let asked = TreeRequest::new(0, *secret, leaf, progress);
+                caches.xmss_path(asked, &key.root, path)?;
                 let randomizer = xmss::randomizer(secret, leaf);
                 xmss::write_signature(secret, leaf, &randomizer, &digest, path, out);
                 Ok(())

@@ -175,7 +175,7 @@ impl<S: Store, R: Source> Signer<S, R> {
             .check_current(&self.ledger, &mut self.caches, level, progress)
             .map_err(SignFault::Damaged)?;
         // 23, 24, 29 and 25 for each tree; 23, 27, 25
-        self.bind_below(&trees, level, name, message, out, progress)
+        self.bind_below(level, name, message, out, progress)
     }
 
     // Whether a name is longer than a file of the key's version can hold.

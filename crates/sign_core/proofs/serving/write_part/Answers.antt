@@ -1,5 +1,6 @@
-use Rattle.sign_core.proofs.Replying.{part_written}
+use Rattle.std.proofs.Common.{rules}
+use Rattle.sign_core.proofs.Replying.{part_lost}
 use Rattle.sign_core.proofs.serving.write_part.Goals as goal
 
-pub returns-in-Err : goal.returns-in-Err
-returns-in-Err g c = part_written c.in-Err.ensures.0 c.args.bytes.now _ _ c.in-Err.ensures.2
+pub returns : goal.returns
+returns g c = let same = c.map_err.ensures.cases in search (rules, part_lost, same)

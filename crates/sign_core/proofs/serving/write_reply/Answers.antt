@@ -1,12 +1,12 @@
 use Rattle.std.proofs.Common.{rules, ◌≡◌, ◌∷◌, [], ◌++◌, Err, length, ap, refl, subst, sym}
 use Rattle.std.specs.Io.KnownBytes.{Appends}
 use Rattle.byteorder.specs.Endian.{big_bytes}
-use Rattle.sign_core.proofs.Replying.{first_part, frame_written, then_part, whole_part}
+use Rattle.sign_core.proofs.Replying.{first_part, frame_written, then_part, flushed}
 use Rattle.sign_core.proofs.serving.write_reply.Goals as goal
 
 pub returns-in_err-write_part : goal.returns-in_err-write_part
 returns-in_err-write_part g c =
-    let answer : c.from_residual.result ≡ Err c.in_err-write_part.field-0.0 = search rules in
+    let answer : c.from_residual-in_err-write_part.result ≡ Err c.in_err-write_part.field-0.0 = search rules in
     first_part (c.args.number ∷ []) _ _ _ _ c.in_err-write_part.field-0.0 _ answer refl c.in_err-write_part.ensures
 
 pub returns-in_err-write_part-2 : goal.returns-in_err-write_part-2
@@ -26,10 +26,11 @@ returns-in_err-write_part-3 g c =
     (then_part c.to_be_bytes.result body _ _ _ _ c.in_err-write_part-3.field-0.0 _ refl (ap (λ l. l ++ body) (sym four)) c.in_ok-write_part-2.ensures
     c.in_err-write_part-3.ensures)
 
-pub returns-in-Err-flush : goal.returns-in-Err-flush
-returns-in-Err-flush g c =
+pub returns : goal.returns
+returns g c =
     let four : c.to_be_bytes.result ≡ big_bytes 4 (length c.args.body.now) = search rules in
     let body = c.args.body.now in
     let written = frame_written c.args.number c.to_be_bytes.result body _ _ _ _ c.in_ok-write_part.ensures c.in_ok-write_part-2.ensures c.in_ok-write_part-3.ensures in
-    whole_part _ _ _ _ (subst (λ l. Appends (g.W.Write.contents c.args.writer.now) (g.W.Write.contents c.write_part-3.new.writer) ((c.args.number ∷ []) ++ l ++ body)) four written)
-    c.in-Err-flush.ensures.bytes
+    flushed c.flush.result c.map_err-2.result _ _ _ _ c.map_err-2.ensures.cases
+    (subst (λ l. Appends (g.W.Write.contents c.args.writer.now) (g.W.Write.contents c.write_part-3.new.writer) ((c.args.number ∷ []) ++ l ++ body)) four written)
+    c.flush.ensures.bytes

@@ -84,10 +84,7 @@ bind_below-requires g t c κs within =
               (
                 λ key keyed. subst (λ (k : Key). CanBind (g.S.Store.most c.extend.new.self.store) (levels_of k.secret - (a.level + 1))
                     a.name.now (length a.out.now) c.extend.new.self) (same_Some _ _ (sym next ∙ keyed)) go_on,
-                (
-                  λ key keyed. subst (λ (k : Key). MakesTrees k.secret a.trees.now) (same_Some _ _ (sym next ∙ keyed)) (c.requires.trees c.key.result.now own),
-                  c.in_ok-extend.ensures.stands,
-                ),
+                c.in_ok-extend.ensures.stands,
               ),
             ),
           ),
@@ -131,16 +128,7 @@ returns-in_err-binding g t c key keyed =
     c.bind.new.message x key) (ap (λ r. answered_with r a.out.now) (sym failed)) (c.in_err-binding.ensures key keyed))
 
 pub write_bound-requires-clause-trees : goal.write_bound-requires-clause-trees
-write_bound-requires-clause-trees g t c =
-    let a = c.args in
-    let L = c.self-2.inside.ledger in
-    let own : key_in a.self.now.records ≡ Some c.key.result.now = ap (λ w. key_in w.records) (sym c.self.view_is) ∙ c.key.ensures.first in
-    let (bound, binds_below, last) = c.in_ok-binding.ensures c.key.result.now own in
-    let next : key_in c.bind.new.self.records ≡ Some c.key.result.now =
-    ap key_in last.grown ∙ key_stays a.self.now.records (BoundRecord bound ∷ []) c.key.result.now own in
-    let same : c.key.result.now ≡ L.key = same_key c.bind.new.self.records c.key.result.now L.key next
-    (ap (λ w. key_in w.records) (sym c.self-2.view_is) ∙ c.self-2.invariant.1) in
-    subst (λ (k : Key). MakesTrees k.secret a.trees.now) same (c.requires.trees c.key.result.now own)
+write_bound-requires-clause-trees g t c = subst (λ (k : Key). MakesTrees k.secret c.of.result) c.key-2.ensures.key c.of.ensures
 
 pub write_bound-requires-clause-kept : goal.write_bound-requires-clause-kept
 write_bound-requires-clause-kept g t c other others =

@@ -4,7 +4,6 @@ use Rattle.state_file.specs.declared.record.Bound.{Bound}
 use Rattle.state_file.specs.declared.record.Key.{Key}
 use Rattle.state_file.specs.declared.record.Record.TheVariants.{Bound as BoundRecord}
 use Rattle.sign_core.specs.declared.fault.SignFault.TheVariants.{MessageRead}
-use Rattle.sign_core.specs.declared.ledger.Binding.{Binding}
 use Rattle.sign_core.specs.Records.{binding_in, free_at, has_moved, key_in, next_at}
 use Rattle.sign_core.specs.Signer.{view_of}
 use Rattle.sign_core.specs.Signing.{answered_with}
@@ -44,7 +43,7 @@ unreachable-requires g c =
     (is_none c.current.result c.in_default.not-Some) free
 
 pub digest-requires : goal.digest-requires
-digest-requires g c = c.requires.trees c.self.inside.ledger.key (ap (λ w. key_in w.records) (sym c.self.view_is) ∙ c.self.invariant.1)
+digest-requires g c = subst (λ (k : Key). MakesTrees k.secret c.of-trees.result) c.key.ensures.key c.of-trees.ensures
 
 pub returns-in_err-randomizer : goal.returns-in_err-randomizer
 returns-in_err-randomizer g c key keyed =
@@ -59,7 +58,7 @@ returns-in_err-randomizer g c key keyed =
     subst (λ w. 0 < free_at K.secret w.records (bottom_of K.secret)) (sym c.self.view_is) (c.requires.free K kept) in
     let own : K ≡ key = same_key v.records K key kept keyed in
     let opened : i.is_open ≡ true = ap (λ w. w.is_open) c.self.view_is ∙ c.requires.ready.is_open in
-    let trees : MakesTrees key.secret c.args.trees.now = c.requires.trees key keyed in
+    let trees : MakesTrees key.secret c.of-trees.result = subst (λ (k : Key). MakesTrees k.secret c.of-trees.result) (c.key.ensures.key ∙ own) c.of-trees.ensures in
     let answer : c.from_residual.result ≡ Err c.in_err-randomizer.field-0.0 = search rules in
     subst (λ a. BindsNext g.S.Store g.R.Source g.M.Message c.args.name.now v (view_of i.store c.draw_randomizer.new.random i.ledger i.caches i.is_open)
     c.args.message.now c.args.message.now a key) (sym answer)
@@ -82,7 +81,7 @@ returns-in_err-digest g c key keyed =
     subst (λ w. 0 < free_at K.secret w.records (bottom_of K.secret)) (sym c.self.view_is) (c.requires.free K kept) in
     let has = has_free K.secret records (bottom_of K.secret) c.current.result c.in-Some.tree (c.current.ensures ∙ ap (tree_at K.secret records) level) c.in-Some.is
     free in
-    let trees : MakesTrees K.secret c.args.trees.now = c.requires.trees K kept in
+    let trees : MakesTrees K.secret c.of-trees.result = subst (λ (k : Key). MakesTrees k.secret c.of-trees.result) c.key.ensures.key c.of-trees.ensures in
     let own : K ≡ key = same_key v.records K key kept keyed in
     let opened : i.is_open ≡ true = ap (λ w. w.is_open) c.self.view_is ∙ c.requires.ready.is_open in
     let at = tree_at_end records (bottom_of K.secret) c.in-Some.tree.place has.current_is in
@@ -112,7 +111,7 @@ add-requires-clause-follows g c =
     subst (λ w. 0 < free_at K.secret w.records (bottom_of K.secret)) (sym c.self.view_is) (c.requires.free K kept) in
     let has = has_free K.secret records (bottom_of K.secret) c.current.result c.in-Some.tree (c.current.ensures ∙ ap (tree_at K.secret records) level) c.in-Some.is
     free in
-    let trees : MakesTrees K.secret c.args.trees.now = c.requires.trees K kept in
+    let trees : MakesTrees K.secret c.of-trees.result = subst (λ (k : Key). MakesTrees k.secret c.of-trees.result) c.key.ensures.key c.of-trees.ensures in
     bound_follows records K c.in-Some.tree.place c.args.name.now _ c.self.invariant.1 (ap (λ w. has_moved w.records) c.self.view_is ∙ c.requires.ready.stays)
     has.current_is has.leaf_is has.free refl (ap (λ w. binding_in w.records c.args.name.now) c.self.view_is ∙ c.requires.unbound)
     (c.in_ok-randomizer.ensures K.secret trees).fits
@@ -141,7 +140,7 @@ returns-in_err-add g c key keyed =
     subst (λ w. 0 < free_at K.secret w.records (bottom_of K.secret)) (sym c.self.view_is) (c.requires.free K kept) in
     let has = has_free K.secret records (bottom_of K.secret) c.current.result c.in-Some.tree (c.current.ensures ∙ ap (tree_at K.secret records) level) c.in-Some.is
     free in
-    let trees : MakesTrees K.secret c.args.trees.now = c.requires.trees K kept in
+    let trees : MakesTrees K.secret c.of-trees.result = subst (λ (k : Key). MakesTrees k.secret c.of-trees.result) c.key.ensures.key c.of-trees.ensures in
     let own : K ≡ key = same_key v.records K key kept keyed in
     let opened : i.is_open ≡ true = ap (λ w. w.is_open) c.self.view_is ∙ c.requires.ready.is_open in
     let at = tree_at_end records (bottom_of K.secret) c.in-Some.tree.place has.current_is in
@@ -180,7 +179,7 @@ returns g c key keyed =
     subst (λ w. 0 < free_at K.secret w.records (bottom_of K.secret)) (sym c.self.view_is) (c.requires.free K kept) in
     let has = has_free K.secret records (bottom_of K.secret) c.current.result c.in-Some.tree (c.current.ensures ∙ ap (tree_at K.secret records) level) c.in-Some.is
     free in
-    let trees : MakesTrees K.secret c.args.trees.now = c.requires.trees K kept in
+    let trees : MakesTrees K.secret c.of-trees.result = subst (λ (k : Key). MakesTrees k.secret c.of-trees.result) c.key.ensures.key c.of-trees.ensures in
     let own : K ≡ key = same_key v.records K key kept keyed in
     let opened : i.is_open ≡ true = ap (λ w. w.is_open) c.self.view_is ∙ c.requires.ready.is_open in
     let at = tree_at_end records (bottom_of K.secret) c.in-Some.tree.place has.current_is in

@@ -37,11 +37,12 @@ unreachable-requires g c =
     let stands = subst (λ w. Stands w.records c.args.level i.ledger.key) (sym c.self.view_is) (c.requires.stands i.ledger.key kept) in
     not_free i.ledger.key.secret i.ledger.records c.args.level c.current.result c.current.ensures (is_none c.current.result c.in_default.not-Some) stands.free
 
-pub unreachable-requires-in_default-trees : goal.unreachable-requires-in_default-trees
-unreachable-requires-in_default-trees g c =
+pub unreachable-requires-in_default-of : goal.unreachable-requires-in_default-of
+unreachable-requires-in_default-of g c =
     let i = c.self.inside in
     let kept : key_in c.args.self.now.records ≡ Some i.ledger.key = ap (λ w. key_in w.records) (sym c.self.view_is) ∙ c.self.invariant.1 in
-    no_chain i.ledger.key.secret c.args.trees.now c.args.level (c.requires.trees i.ledger.key kept) (c.requires.below i.ledger.key kept) c.in_default-trees.not-Chain
+    no_chain i.ledger.key.secret c.of.result c.args.level
+    (subst (λ (k : Key). MakesTrees k.secret c.of.result) c.key.ensures.key c.of.ensures) (c.requires.below i.ledger.key kept) c.in_default-of.not-Chain
 
 pub overflow_add-below : goal.overflow_add-below
 overflow_add-below g c =
@@ -55,7 +56,8 @@ returns-in_err-identifier-clause-step g c key keyed =
     let a = c.args in
     let i = c.self.inside in
     let kept : key_in a.self.now.records ≡ Some i.ledger.key = ap (λ w. key_in w.records) (sym c.self.view_is) ∙ c.self.invariant.1 in
-    let these = subst (MakesTrees key.secret) c.in-Chain.is (c.requires.trees key keyed) in
+    let these = subst (MakesTrees key.secret) c.in-Chain.is (subst (λ (k : Key). MakesTrees k.secret c.of.result)
+    (c.key.ensures.key ∙ same_key a.self.now.records i.ledger.key key kept keyed) c.of.ensures) in
     let fault : SignFault = c.in_err-identifier.field-0.0 in
     let failed : c.from_residual.result ≡ Err fault = search rules in
     let answer : Err fault ≡ answered_with c.from_residual.result [] = ap (λ r. answered_with r []) (sym failed) in
@@ -83,7 +85,9 @@ pub returns-in_err-root-clause-step : goal.returns-in_err-root-clause-step
 returns-in_err-root-clause-step g c key keyed =
     let a = c.args in
     let i = c.self.inside in
-    let these = subst (MakesTrees key.secret) c.in-Chain.is (c.requires.trees key keyed) in
+    let kept : key_in a.self.now.records ≡ Some i.ledger.key = ap (λ w. key_in w.records) (sym c.self.view_is) ∙ c.self.invariant.1 in
+    let these = subst (MakesTrees key.secret) c.in-Chain.is (subst (λ (k : Key). MakesTrees k.secret c.of.result)
+    (c.key.ensures.key ∙ same_key a.self.now.records i.ledger.key key kept keyed) c.of.ensures) in
     let fault : SignFault = c.in_err-root.field-0.0 in
     let failed : c.from_residual-in_err-root.result ≡ Err fault = search rules in
     let answer : Err OutOfMemory ≡ answered_with c.from_residual-in_err-root.result [] =
@@ -132,7 +136,7 @@ returns-clause-step g c key keyed =
     let seeds = c.in_ok-identifier.field-0 in
     let kept : key_in a.self.now.records ≡ Some K = ap (λ w. key_in w.records) (sym c.self.view_is) ∙ c.self.invariant.1 in
     let own : K ≡ key = same_key a.self.now.records K key kept keyed in
-    let these = subst (MakesTrees K.secret) c.in-Chain.is (c.requires.trees K kept) in
+    let these = subst (MakesTrees K.secret) c.in-Chain.is (subst (λ (k : Key). MakesTrees k.secret c.of.result) c.key.ensures.key c.of.ensures) in
     let stands = subst (λ w. Stands w.records a.level K) (sym c.self.view_is) (c.requires.stands K kept) in
     let has = has_free K.secret i.ledger.records a.level c.current.result c.in-Some.parent c.current.ensures c.in-Some.is stands.free in
     let entry = entry_is K T i.ledger.records a.level c.in-Some.parent.place c.in-Some.parent.next c.secret_at.result
@@ -159,7 +163,7 @@ returns-clause-stands g c =
     let T = trees_in c.in-Chain.chain in
     let seeds = c.in_ok-identifier.field-0 in
     let kept : key_in a.self.now.records ≡ Some K = ap (λ w. key_in w.records) (sym c.self.view_is) ∙ c.self.invariant.1 in
-    let these = subst (MakesTrees K.secret) c.in-Chain.is (c.requires.trees K kept) in
+    let these = subst (MakesTrees K.secret) c.in-Chain.is (subst (λ (k : Key). MakesTrees k.secret c.of.result) c.key.ensures.key c.of.ensures) in
     let stands = subst (λ w. Stands w.records a.level K) (sym c.self.view_is) (c.requires.stands K kept) in
     let has = has_free K.secret i.ledger.records a.level c.current.result c.in-Some.parent c.current.ensures c.in-Some.is stands.free in
     let extend : Extend = record {

@@ -1,4 +1,4 @@
-use Rattle.std.proofs.Common.{rules, ◌≡◌, ◌∙◌, ℕ, ◌-◌, List, Some, Err, sym, ap, subst, arith, refl}
+use Rattle.std.proofs.Common.{rules, ◌≡◌, ◌∙◌, ℕ, ◌-◌, List, Some, Err, sym, ap, subst, arith}
 use Rattle.std.specs.Prelude.{length, vec_capacity}
 use Rattle.std.proofs.lemmas.List.{take_at}
 use Rattle.state_file.specs.Laws.{bottom_of}
@@ -7,7 +7,7 @@ use Rattle.state_file.specs.declared.record.Record.{Record}
 use Rattle.sign_core.specs.declared.ledger.Binding.{Binding}
 use Rattle.sign_core.specs.Caches.{Cached, LacksCache}
 use Rattle.sign_core.specs.Records.{key_in}
-use Rattle.sign_core.specs.Signer.{is_before_repeat, signature_size, state_of}
+use Rattle.sign_core.specs.Signer.{signature_size, state_of}
 use Rattle.sign_core.specs.inner.Links.{MakesTrees}
 use Rattle.sign_core.specs.Signing.{UnderKey}
 use Rattle.sign_core.specs.inner.Signing.{IsBindingOf, Repeats}
@@ -15,8 +15,7 @@ use Rattle.sign_core.specs.Textbook.{damaged_in}
 use Rattle.sign_core.proofs.Capacities.{capacity_grows, capacity_stays}
 use Rattle.sign_core.proofs.ChainParts.{same_key}
 use Rattle.sign_core.proofs.LedgerReading.{key_levels}
-use Rattle.sign_core.proofs.Refusals.{never_such}
-use Rattle.sign_core.proofs.Repeats.{changed, damaged, damaged_after_caches, fault_of, found_chain, found_digest, found_kept, found_signature, is_found, lacks_cache, lacks_room, linked_ok, refused_with, same_size, signed, unread}
+use Rattle.sign_core.proofs.Repeats.{changed, damaged, fault_of, found_chain, found_digest, found_kept, found_signature, is_found, lacks_cache, lacks_room, linked_ok, refused_with, same_size, signed, unread}
 use Rattle.sign_core.proofs.signer.Signer.repeat.Goals as goal
 
 pub overflow_sub-bottom : goal.overflow_sub-bottom

@@ -189,11 +189,6 @@ bind_below-requires-clause-can g c =
     subst (λ w. UnderKey w.records (λ key. CanBind (g.S.Store.most w.store) (levels_of key.secret - c.in_ok-level.level) c.args.name.now
     (length c.deref_mut.result.now) w)) (sym same) can
 
-pub bind_below-requires-clause-trees : goal.bind_below-requires-clause-trees
-bind_below-requires-clause-trees g c key keyed =
-    let i = c.self-2.inside.ledger in
-    subst (λ (k : Key). MakesTrees k.secret c.of-trees.result) (c.key.ensures.key ∙ same_key i.records i.key key c.self-2.invariant.1 keyed) c.of-trees.ensures
-
 pub bind_below-requires-clause-stands : goal.bind_below-requires-clause-stands
 bind_below-requires-clause-stands g c key keyed =
     let first = c.self.inside.ledger in
