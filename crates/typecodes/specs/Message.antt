@@ -1,7 +1,7 @@
 -- What reads of a message give, one after the other.
-use Rattle.std.specs.Prelude.{◌≡◌, ◌⊎◌, ◌≤◌, ◌<◌, ◌^◌, ℕ, List, [], ◌∷◌, ◌++◌, length, take}
+use Rattle.std.specs.Prelude.{◌≡◌, ◌⊎◌, ◌+◌, ◌≤◌, ◌<◌, ◌^◌, ℕ, List, [], ◌∷◌, ◌++◌, length, take}
 use Rattle.std.specs.Prelude.{Option, Some, None, Result, Ok, Err, ⊤}
-use Rattle.std.specs.Io.KnownBytes.{Consumes, IsAtEnd}
+use Rattle.std.specs.Io.KnownBytes.{Consumes, IsAtEnd, Keeps}
 use Rattle.std.specs.IoError.{error_kind}
 use Rattle.std.specs.declared.io.Error.{Error}
 use Rattle.std.specs.declared.io.ErrorKind.{ErrorKind}
@@ -89,3 +89,19 @@ abbrev pub Digests : {M E : Type 0} → Transition M → (M → Option (List ℕ
 Digests transition remaining digest_of (Ok digest) old new =
     (text : List ℕ) × ReadWhole transition remaining text old new × (digest ≡ digest_of text)
 Digests transition remaining digest_of (Err error) old new = CantBeRead transition old new
+
+-- The message was read whole; or it can't be read.
+abbrev pub Discards : {M A E : Type 0} → Transition M → (M → Option (List ℕ)) → Result A E → M → M → Type 0
+Discards transition remaining (Ok _) old new = (text : List ℕ) × ReadWhole transition remaining text old new
+Discards transition remaining (Err error) old new = CantBeRead transition old new
+
+-- A read of the next bytes of an input, with `left` bytes to come. It gives at most as many of the input's, and none
+-- where none are left. It fails where a read of the input fails, or the input is at its end.
+abbrev pub ReadsPart : {M : Type 0} → Transition M → (M → Option (List ℕ)) → (left : ℕ) → M → ReadOutcome
+    → (after : ℕ) → M → Type 0
+ReadsPart transition remaining left old (Ok bytes) after new = (after + length bytes ≡ left)
+    × (((bytes ≡ []) × (left ≡ 0) × (new ≡ old))
+    ⊎ ((1 ≤ length bytes) × transition old (Ok bytes) new × Consumes (remaining old) (remaining new) bytes))
+ReadsPart transition remaining left old (Err kind) after new = (after ≡ left) × (1 ≤ left)
+    × ((transition old (Err kind) new × Keeps (remaining old) (remaining new))
+    ⊎ (transition old (Ok []) new × Consumes (remaining old) (remaining new) [] × IsAtEnd (remaining new)))

@@ -9,7 +9,7 @@
 //! fault. Levels are 1 to 8. A text is the text of one spec or of none.
 //!
 //! A message is any reader. One loop reads until a buffer is full, one reads to the end, and one writes all bytes. Each
-//! answers the first call that fails.
+//! answers the first call that fails. The next bytes of an input are a message, too.
 //!
 //! ```rust
 //! use typecodes::{Cursor, LmsType};
@@ -46,9 +46,9 @@ pub use crate::fault::{Cause, ReadFault};
 pub use crate::fields::field_laws;
 pub use crate::layout::{following_laws, layout_laws};
 pub use crate::levels::{LevelCount, Levels};
-pub use crate::message::{Message, MessageFailed};
+pub use crate::message::{Message, MessageFailed, NextBytes};
 pub use crate::name::{BadName, Name};
-pub use crate::reading::{PIECE, PIECES, PieceTaker, ReadError, read_full, read_to_end};
+pub use crate::reading::{PIECE, PIECES, PieceTaker, ReadError, discard, read_full, read_to_end};
 pub use crate::refusal::Refusal;
 pub use crate::secret::{LmsSecret, XmssSecret};
 pub use crate::sink::{Sink, write_all};

@@ -7,7 +7,7 @@ ghost use Rattle.std.specs.declared.option.Option.{Option};
 ghost use Rattle.typecodes.specs.Message.{ReadOutcome, read_outcome};
 
 use std::io;
-use std::io::Read;
+use std::io::{ErrorKind, Read};
 use thiserror::Error;
 
 /// A message: any reader.
@@ -47,3 +47,40 @@ impl<R: Read> Message for R {
 #[derive(Clone, Copy, Debug, PartialEq, Eq, Error)]
 #[error("the message can't be read")]
 pub struct MessageFailed;
+
+/// The next bytes of an input, as a message of a known length. A read fails with `UnexpectedEof` where the input ends
+/// before the message does.
+///
+/// Each read is a read of the input. Which bytes it will give isn't known.
+#[derive(Drop)]
+pub struct NextBytes<'a, I> {
+    /// The input.
+    pub input: &'a mut I,
+    /// How many bytes of the message are still to come.
+    pub left: u32,
+}
+
+impl<I: Message> Message for NextBytes<'_, I> {
+    ghost use Rattle.std.specs.Prelude.{◌≡◌, None};
+    ghost use Rattle.typecodes.specs.Message.{ReadsPart};
+
+    ghost remaining = { λ _. None };
+
+    ghost transition = { λ old outcome new. (new.input.ghost_name ≡ old.input.ghost_name)
+        × ReadsPart I.transition I.remaining old.left old.input.now outcome new.left new.input.now };
+
+    fn read_into(&mut self, buffer: &mut [u8]) -> io::Result<usize> {
+        if self.left == 0 {
+            return Ok(0);
+        }
+        let most = buffer.len().min(self.left as usize);
+        match self.input.read_into(&mut buffer[..most]) {
+            Ok(0) => Err(io::Error::from(ErrorKind::UnexpectedEof)),
+            Ok(n) => {
+                self.left -= n as u32;
+                Ok(n)
+            }
+            Err(error) => Err(error),
+        }
+    }
+}

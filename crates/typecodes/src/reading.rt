@@ -1,9 +1,11 @@
 //! Reading until a buffer is full, and reading to the end.
 
 ghost use Rattle.std.specs.Prelude.{◌≤◌, ◌++◌, [], List, ℕ, length, IfOk};
+ghost use Rattle.typecodes.specs.Message.{Discards};
 ghost use Rattle.typecodes.specs.Reading.{ReadsFull, ReadsToEnd, RequestsFull, TakesPiece};
 
-use crate::message::Message;
+use crate::message::{Message, MessageFailed};
+use std::convert::Infallible;
 use std::io;
 use thiserror::Error;
 
@@ -95,4 +97,33 @@ pub fn read_to_end<M: Message, T: PieceTaker>(
         }
     }
     Err(ReadError::TooLong)
+}
+
+// Takes each piece, and keeps none.
+#[derive(Drop)]
+struct KeepNone {}
+
+impl PieceTaker for KeepNone {
+    ghost use Rattle.std.specs.Prelude.{⊤};
+
+    type Error = Infallible;
+
+    ghost takes = { λ _ _ _. ⊤ };
+
+    ghost refuses = { λ _ _ _ _. ⊥ };
+
+    fn take_piece(&mut self, piece: &[u8]) -> Result<(), Infallible> {
+        Ok(())
+    }
+
+    ghost takes_nothing = { λ _. tt };
+
+    ghost takes_more = { λ _ _ _ _ _ _ _. tt };
+}
+
+/// Reads a message to its end, and discards it.
+pub fn discard<M: Message>(message: &mut M) -> Result<(), MessageFailed>
+    ensures { Discards M.transition M.remaining result message.old message.new }
+{
+    read_to_end(message, &mut KeepNone {}).map_err(|_| MessageFailed)
 }

@@ -1,5 +1,7 @@
 //! The secrets that trees are made from.
 
+ghost use Rattle.std.specs.Prelude.{◌≡◌};
+
 use crate::types::{LmsPair, XmssType};
 
 /// The secret of an LMS tree (RFC 8554 5.2 and Appendix A). No `Debug`, since the seed is secret.
@@ -10,6 +12,19 @@ pub struct LmsSecret {
     pub identifier: [u8; 16],
     /// SEED, 32 bytes.
     pub seed: [u8; 32],
+}
+
+impl LmsSecret {
+    /// The secret of a tree of these types, of I, 16 bytes, and SEED, 32 bytes.
+    pub fn new(pair: LmsPair, identifier: [u8; 16], seed: [u8; 32]) -> Self
+        ensures { result ≡ record { pair = pair; identifier = identifier; seed = seed } }
+    {
+        LmsSecret {
+            pair,
+            identifier,
+            seed,
+        }
+    }
 }
 
 /// The secret of an XMSS tree (RFC 8391 4.1.3). No `Debug`, since S_XMSS and SK_PRF are secret.
