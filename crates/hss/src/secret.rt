@@ -24,6 +24,17 @@ pub struct Level {
 impl Level {
     ghost use Rattle.hss.specs.Secret.{key_of, signature_by};
 
+    /// A level's tree with C and Q, 32 bytes each.
+    pub fn new(tree: SigningTree, randomizer: [u8; 32], digest: [u8; 32]) -> Self
+        ensures { result ≡ record { tree = tree; randomizer = randomizer; digest = digest } }
+    {
+        Level {
+            tree,
+            randomizer,
+            digest,
+        }
+    }
+
     /// The public key of the level's tree, which is spelled by 56 bytes (RFC 8554 5.3).
     pub fn public(&self) -> LmsPublic
         ensures { result ≡ key_of self.now }

@@ -41,6 +41,18 @@ pub fn write_public(public: &HssPublic, into: &mut [u8])
     lms::write_public(&public.top, &mut into[4..60]);
 }
 
+impl HssPublic {
+    /// The key's 60 bytes (RFC 8554 6.1).
+    pub fn to_bytes(&self) -> [u8; 60]
+        ensures bytes { result ≡ public_bytes self.now }
+        ensures spells { Spells public_key self.now result }
+    {
+        let mut bytes = [0; 60];
+        write_public(self, &mut bytes);
+        bytes
+    }
+}
+
 /// Writes the signature of a level above the bottom, then the next level's public key, which it signs (RFC 8554 6.2).
 pub fn write_signed_key(level: &Level, next: &LmsPublic, into: &mut [u8])
     requires { length into.old ≡ lms_signature_len_of level.now.tree.secret.pair + 56 }

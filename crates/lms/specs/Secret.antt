@@ -21,8 +21,12 @@ joins_of secret = join_of secret.identifier (height_of secret.pair.tree)
 abbrev pub root_in : LmsSecret → List ℕ
 root_in secret = root_of (leaves_of secret) (joins_of secret) (height_of secret.pair.tree)
 
+-- the public key of a secret's tree with this root, whether or not the root is the tree's
+abbrev pub public_with : LmsSecret → (root : List ℕ) → LmsPublic
+public_with secret root = record { pair = secret.pair; identifier = secret.identifier; root = root }
+
 abbrev pub public_of : LmsSecret → LmsPublic
-public_of secret = record { pair = secret.pair; identifier = secret.identifier; root = root_in secret }
+public_of secret = public_with secret (root_in secret)
 
 abbrev pub path_in : LmsSecret → ℕ → List (List ℕ)
 path_in secret q = path_of (leaves_of secret) (joins_of secret) (height_of secret.pair.tree) q

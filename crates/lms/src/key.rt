@@ -1,9 +1,9 @@
 //! Public keys.
 
-ghost use Rattle.std.specs.Prelude.{◌+◌, ◌<◌, ◌^◌};
+ghost use Rattle.std.specs.Prelude.{◌≡◌, ◌+◌, ◌<◌, ◌^◌};
 ghost use Rattle.typecodes.specs.Cursor.{Gives, Passes, Reads, read};
 
-use typecodes::{Cursor, LmsPair, ReadFault};
+use typecodes::{Cursor, LmsPair, LmsSecret, ReadFault};
 
 /// The public key of one tree (RFC 8554 5.3).
 #[derive(Clone, Copy, Debug, PartialEq, Eq)]
@@ -18,6 +18,18 @@ pub struct LmsPublic {
 
 impl LmsPublic {
     ghost use Rattle.lms.specs.Key.{public_key};
+    ghost use Rattle.lms.specs.Secret.{public_with};
+
+    /// The public key of a secret's tree with this root, 32 bytes. The root isn't made, nor checked.
+    pub fn of(secret: &LmsSecret, root: [u8; 32]) -> Self
+        ensures { result ≡ public_with secret.now root }
+    {
+        LmsPublic {
+            pair: secret.pair,
+            identifier: secret.identifier,
+            root,
+        }
+    }
 
     /// The key at a cursor, 56 bytes: tree type, one-time type, I, root. The caller keeps its end below `2^32`. At a
     /// fault the cursor stays.

@@ -34,11 +34,7 @@ impl SigningTree {
     pub fn public(&self) -> LmsPublic
         ensures { result ≡ key_of self.now }
     {
-        LmsPublic {
-            pair: self.secret.pair,
-            identifier: self.secret.identifier,
-            root: self.root,
-        }
+        LmsPublic::of(&self.secret, self.root)
     }
 
     /// Writes the leaf's signature of the digest Q, 32 bytes, with the randomizer C, 32 bytes (RFC 8554 4.5 and 5.4.1).

@@ -25,6 +25,18 @@ pub fn write_public(public: &LmsPublic, into: &mut [u8])
     put(into, offset, &public.root);
 }
 
+impl LmsPublic {
+    /// The key's 56 bytes (RFC 8554 5.3).
+    pub fn to_bytes(&self) -> [u8; 56]
+        ensures bytes { result ≡ public_bytes self.now }
+        ensures spells { Spells public_key self.now result }
+    {
+        let mut bytes = [0; 56];
+        write_public(self, &mut bytes);
+        bytes
+    }
+}
+
 /// Writes a leaf's signature of the digest Q, with the randomizer C and an authentication path (RFC 8554 4.5 and
 /// 5.4.1). The caller keeps the leaf below `2^h`, and gives h nodes and as many bytes as the signature has.
 pub fn write_signature(

@@ -24,8 +24,12 @@ joins_of secret = join_of secret.public_seed
 abbrev pub root_in : XmssSecret → List ℕ
 root_in secret = root_of (leaves_of secret) (joins_of secret) (xmss_height_of secret.tree)
 
+-- the public key of a secret's tree with this root, whether or not the root is the tree's
+abbrev pub public_with : XmssSecret → (root : List ℕ) → XmssPublic
+public_with secret root = record { tree = secret.tree; root = root; seed = secret.public_seed }
+
 abbrev pub public_of : XmssSecret → XmssPublic
-public_of secret = record { tree = secret.tree; root = root_in secret; seed = secret.public_seed }
+public_of secret = public_with secret (root_in secret)
 
 abbrev pub path_in : XmssSecret → ℕ → List (List ℕ)
 path_in secret index = path_of (leaves_of secret) (joins_of secret) (xmss_height_of secret.tree) index

@@ -1,8 +1,9 @@
 //! Public keys.
 
+ghost use Rattle.std.specs.Prelude.{◌≡◌};
 ghost use Rattle.typecodes.specs.Cursor.{Reads};
 
-use typecodes::{Cursor, ReadFault, XmssType};
+use typecodes::{Cursor, ReadFault, XmssSecret, XmssType};
 
 /// The public key of a tree (RFC 8391 4.1.7).
 #[derive(Clone, Copy, Debug, PartialEq, Eq)]
@@ -17,6 +18,18 @@ pub struct XmssPublic {
 
 impl XmssPublic {
     ghost use Rattle.xmss.specs.Key.{public_key};
+    ghost use Rattle.xmss.specs.Secret.{public_with};
+
+    /// The public key of a secret's tree with this root, 32 bytes. The root isn't made, nor checked.
+    pub fn of(secret: &XmssSecret, root: [u8; 32]) -> Self
+        ensures { result ≡ public_with secret.now root }
+    {
+        XmssPublic {
+            tree: secret.tree,
+            root,
+            seed: secret.public_seed,
+        }
+    }
 
     /// Decodes a key, of exactly 68 bytes: type, root, SEED. Else the first fault (1, 2 or 5).
     #[tactic(auto, using(crate::proofs::Fields::fields), unfolding(crate::specs::Key::public_key))]

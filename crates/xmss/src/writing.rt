@@ -24,6 +24,18 @@ pub fn write_public(public: &XmssPublic, into: &mut [u8])
     put(into, offset, &public.seed);
 }
 
+impl XmssPublic {
+    /// The key's 68 bytes (RFC 8391 4.1.7).
+    pub fn to_bytes(&self) -> [u8; 68]
+        ensures bytes { result ≡ public_bytes self.now }
+        ensures spells { Spells public_key self.now result }
+    {
+        let mut bytes = [0; 68];
+        write_public(self, &mut bytes);
+        bytes
+    }
+}
+
 /// Writes a leaf's signature of the digest M' (RFC 8391 4.1.9): 2500, 2692 or 2820 bytes by the type. The caller keeps
 /// the leaf below `2^h`, and gives the leaf's randomizer, its path of h nodes, and just that room.
 pub fn write_signature(
