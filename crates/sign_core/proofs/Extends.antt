@@ -15,7 +15,8 @@ use Rattle.sign_core.specs.declared.fault.SignFault.TheVariants.{Damaged, Stoppe
 use Rattle.sign_core.specs.declared.source.Source as source
 use Rattle.sign_core.specs.Ledger.{Table}
 use Rattle.sign_core.proofs.Adding.{LeavesItsList}
-use Rattle.sign_core.specs.declared.signer.bind.TreeSeeds.{TreeSeeds}
+use Rattle.typecodes.specs.declared.secret.LmsSecret.{LmsSecret}
+use Rattle.typecodes.specs.declared.types.LmsPair.{LmsPair}
 use Rattle.sign_core.specs.Signing.{answered_with}
 use Rattle.sign_core.specs.Source.{Provides}
 use Rattle.sign_core.specs.Records.{has_identifier}
@@ -96,10 +97,10 @@ module _ {S R : Type 0} (g : store.Ghosts S) (r : source.Ghosts R) (level : ℕ)
   fails_along before after fault answer is counts = subst (λ (a : Result (List ℕ) SignFault). Counts is_random_failed before after a) is counts
 
   -- The draws are refused: the answer is their fault, and all but the source is as it was.
-  pub undrawn : (view : View S R) (random : R) (fault : SignFault) (answer : Result (List ℕ) SignFault) → Rests g view → Err fault ≡ answer
-      → DrawsTree view.records (r.failures view.random) (r.failures random) (r.upcoming view.random) (r.upcoming random) (Err fault)
+  pub undrawn : (pair : LmsPair) (view : View S R) (random : R) (fault : SignFault) (answer : Result (List ℕ) SignFault) → Rests g view → Err fault ≡ answer
+      → DrawsTree pair view.records (r.failures view.random) (r.failures random) (r.upcoming view.random) (r.upcoming random) (Err fault)
       → Extends g r level view (after_draw view random) answer key
-  undrawn view random RandomFailed answer rests is (fields, failed, gave, sized, few, fresh) = record {
+  undrawn pair view random RandomFailed answer rests is (fields, failed, gave, sized, few, fresh) = record {
     draw = record { fields = fields; fate = acked };
     outcome = drawing (concat fields) (refused (open_on view.records) RandomFailed);
     step = ap (λ t. extended (open_on view.records) key level t (record { fields = fields; fate = acked }) (λ records. answered (open_on records) [])) is_trees
@@ -113,7 +114,7 @@ module _ {S R : Type 0} (g : store.Ghosts S) (r : source.Ghosts R) (level : ℕ)
     stays = λ _ _. refl;
     not_before_draws = ap (is_fault is_before_draws) (sym is);
   }
-  undrawn view random RandomRepeated answer rests is (identifier, kept, gave, sized, there) = record {
+  undrawn pair view random RandomRepeated answer rests is (identifier, kept, gave, sized, there) = record {
     draw = record { fields = identifier ∷ []; fate = acked };
     outcome = drawing identifier (refused (open_on view.records) RandomRepeated);
     step = ap (λ t. extended (open_on view.records) key level t (record { fields = identifier ∷ []; fate = acked })
@@ -128,23 +129,23 @@ module _ {S R : Type 0} (g : store.Ghosts S) (r : source.Ghosts R) (level : ℕ)
     stays = λ _ _. refl;
     not_before_draws = ap (is_fault is_before_draws) (sym is);
   }
-  undrawn view random Changed answer rests is draws = absurd draws
-  undrawn view random Exhausted answer rests is draws = absurd draws
-  undrawn view random StoreFailed answer rests is draws = absurd draws
-  undrawn view random Stopped answer rests is draws = absurd draws
-  undrawn view random (Damaged k) answer rests is draws = absurd draws
-  undrawn view random OutOfMemory answer rests is draws = absurd draws
-  undrawn view random LedgerFull answer rests is draws = absurd draws
-  undrawn view random (Unreadable k) answer rests is draws = absurd draws
-  undrawn view random KeyThere answer rests is draws = absurd draws
-  undrawn view random MessageRead answer rests is draws = absurd draws
-  undrawn view random Moved answer rests is draws = absurd draws
-  undrawn view random RetireRange answer rests is draws = absurd draws
-  undrawn view random LongName answer rests is draws = absurd draws
-  undrawn view random NoKey answer rests is draws = absurd draws
-  undrawn view random (Illegal k) answer rests is draws = absurd draws
-  undrawn view random DeviceFailed answer rests is draws = absurd draws
-  undrawn view random NoMemoryToOpen answer rests is draws = absurd draws
+  undrawn pair view random Changed answer rests is draws = absurd draws
+  undrawn pair view random Exhausted answer rests is draws = absurd draws
+  undrawn pair view random StoreFailed answer rests is draws = absurd draws
+  undrawn pair view random Stopped answer rests is draws = absurd draws
+  undrawn pair view random (Damaged k) answer rests is draws = absurd draws
+  undrawn pair view random OutOfMemory answer rests is draws = absurd draws
+  undrawn pair view random LedgerFull answer rests is draws = absurd draws
+  undrawn pair view random (Unreadable k) answer rests is draws = absurd draws
+  undrawn pair view random KeyThere answer rests is draws = absurd draws
+  undrawn pair view random MessageRead answer rests is draws = absurd draws
+  undrawn pair view random Moved answer rests is draws = absurd draws
+  undrawn pair view random RetireRange answer rests is draws = absurd draws
+  undrawn pair view random LongName answer rests is draws = absurd draws
+  undrawn pair view random NoKey answer rests is draws = absurd draws
+  undrawn pair view random (Illegal k) answer rests is draws = absurd draws
+  undrawn pair view random DeviceFailed answer rests is draws = absurd draws
+  undrawn pair view random NoMemoryToOpen answer rests is draws = absurd draws
 
 -- ---- draws that are whole
 
@@ -172,13 +173,13 @@ nothing_more records entry bytes no_memory = append-nil bytes
 
 -- The record of the draws is appended: the answer is the append's.
 pub drawn : {S R : Type 0} (g : store.Ghosts S) (r : source.Ghosts R) (level : ℕ) (key : Key) (trees : Trees) (view new : View S R) (random : R)
-    (seeds : TreeSeeds) (entry : Record) (answer : Result (Unit {0}) SignFault) → trees_of key.secret ≡ Some trees → view.is_open ≡ true
-    → DrawsTree view.records (r.failures view.random) (r.failures random) (r.upcoming view.random) (r.upcoming random) (Ok seeds)
-    → entry ≡ next_extend key trees view.records level seeds.identifier seeds.seed seeds.randomizer
+    (pair : LmsPair) (seeds : LmsSecret × List ℕ) (entry : Record) (answer : Result (Unit {0}) SignFault) → trees_of key.secret ≡ Some trees → view.is_open ≡ true
+    → DrawsTree pair view.records (r.failures view.random) (r.failures random) (r.upcoming view.random) (r.upcoming random) (Ok seeds)
+    → entry ≡ next_extend key trees view.records level seeds.0.identifier seeds.0.seed seeds.1
     → Adds g (after_draw view random) new entry answer
     → Extends g r level view new (answered_with answer []) key
-drawn {S = S} {R = R} g r level key trees view new random seeds entry answer is_trees was (kept, gave, sized, fresh) is adds =
-    let bytes : List ℕ = seeds.identifier ++ (seeds.seed ++ seeds.randomizer) in
+drawn {S = S} {R = R} g r level key trees view new random pair seeds entry answer is_trees was (kept, gave, sized, fresh, paired) is adds =
+    let bytes : List ℕ = seeds.0.identifier ++ (seeds.0.seed ++ seeds.1) in
     let from : state_of (after_draw view random) ≡ open_on view.records = λ i. record { records = view.records; is_open = was i } in
     let ends : Ends g view new (comes_to view.records entry bytes adds.fate) (answered_with answer []) =
     ends_drawn g view new random entry bytes adds.fate answer
@@ -186,11 +187,11 @@ drawn {S = S} {R = R} g r level key trees view new random seeds entry answer is_
     let gives : Provides (r.upcoming view.random) bytes (r.upcoming new.random) =
     subst (λ (s : R). Provides (r.upcoming view.random) bytes (r.upcoming s)) (sym adds.random) gave in
     let none : r.failures new.random ≡ r.failures view.random = ap r.failures adds.random ∙ kept in record {
-      draw = whole_draw seeds.identifier seeds.seed seeds.randomizer adds.fate;
+      draw = whole_draw seeds.0.identifier seeds.0.seed seeds.1 adds.fate;
       outcome = comes_to view.records entry bytes adds.fate;
-      step = extends_by key level (trees_of key.secret) trees is_trees view.records seeds.identifier seeds.seed seeds.randomizer adds.fate fresh
+      step = extends_by key level (trees_of key.secret) trees is_trees view.records seeds.0.identifier seeds.0.seed seeds.1 adds.fate fresh
           (λ records. answered (open_on records) [])
-          ∙ drawing_twice seeds.identifier (seeds.seed ++ seeds.randomizer) _
+          ∙ drawing_twice seeds.0.identifier (seeds.0.seed ++ seeds.1) _
           ∙ ap (λ e. comes_to view.records e bytes adds.fate) (sym is);
       possible = sized;
       ends = ends;
@@ -206,16 +207,16 @@ drawn {S = S} {R = R} g r level key trees view new random seeds entry answer is_
 
 module _ {S R : Type 0} (g : store.Ghosts S) (r : source.Ghosts R) (level : ℕ) (key : Key) (trees : Trees) (is_trees : trees_of key.secret ≡ Some trees) where
   -- Memory is refused for the new tree's cache: nothing is recorded, and all but the source is as it was.
-  pub ungrown : (view : View S R) (random : R) (seeds : TreeSeeds) (answer : Result (List ℕ) SignFault) → Rests g view → Err OutOfMemory ≡ answer
-      → DrawsTree view.records (r.failures view.random) (r.failures random) (r.upcoming view.random) (r.upcoming random) (Ok seeds)
+  pub ungrown : (view : View S R) (random : R) (pair : LmsPair) (seeds : LmsSecret × List ℕ) (answer : Result (List ℕ) SignFault) → Rests g view → Err OutOfMemory ≡ answer
+      → DrawsTree pair view.records (r.failures view.random) (r.failures random) (r.upcoming view.random) (r.upcoming random) (Ok seeds)
       → Extends g r level view (after_draw view random) answer key
-  ungrown view random seeds answer rests is (kept, gave, sized, fresh) =
-      let bytes : List ℕ = seeds.identifier ++ (seeds.seed ++ seeds.randomizer) in record {
-        draw = whole_draw seeds.identifier seeds.seed seeds.randomizer no_memory;
+  ungrown view random pair seeds answer rests is (kept, gave, sized, fresh, paired) =
+      let bytes : List ℕ = seeds.0.identifier ++ (seeds.0.seed ++ seeds.1) in record {
+        draw = whole_draw seeds.0.identifier seeds.0.seed seeds.1 no_memory;
         outcome = drawing bytes (refused (open_on view.records) OutOfMemory);
-        step = extends_by key level (trees_of key.secret) trees is_trees view.records seeds.identifier seeds.seed seeds.randomizer no_memory fresh
+        step = extends_by key level (trees_of key.secret) trees is_trees view.records seeds.0.identifier seeds.0.seed seeds.1 no_memory fresh
             (λ records. answered (open_on records) [])
-            ∙ drawing_twice seeds.identifier (seeds.seed ++ seeds.randomizer) _;
+            ∙ drawing_twice seeds.0.identifier (seeds.0.seed ++ seeds.1) _;
         possible = sized;
         ends = rests_ends g r level key trees is_trees view random bytes OutOfMemory answer rests refl is;
         source = subst (λ (b : List ℕ). Provides (r.upcoming view.random) b (r.upcoming random)) (sym (append-nil bytes)) gave;
@@ -246,13 +247,13 @@ adds_caching g old new caches entry answer adds = record {
 
 -- The tree that was drawn below the current ones: its record is the world's, and is appended.
 pub drawn_below : {S R : Type 0} {caches others : Cached} (g : store.Ghosts S) (r : source.Ghosts R) (key : Key) (trees : Trees) (kept_in : S) (random after : R)
-    (ledger : Table) (is_open : Bool) (v new : View S R) (level : ℕ) (seeds : TreeSeeds) (entry : Record) (answer : Result (Unit {0}) SignFault)
+    (ledger : Table) (is_open : Bool) (v new : View S R) (level : ℕ) (pair : LmsPair) (seeds : LmsSecret × List ℕ) (entry : Record) (answer : Result (Unit {0}) SignFault)
     → view_of kept_in random ledger caches is_open ≡ v → v.is_open ≡ true → trees_of key.secret ≡ Some trees
-    → entry ≡ next_extend key trees ledger.records level seeds.identifier seeds.seed seeds.randomizer
-    → DrawsTree ledger.records (r.failures random) (r.failures after) (r.upcoming random) (r.upcoming after) (Ok seeds)
+    → entry ≡ next_extend key trees ledger.records level seeds.0.identifier seeds.0.seed seeds.1
+    → DrawsTree pair ledger.records (r.failures random) (r.failures after) (r.upcoming random) (r.upcoming after) (Ok seeds)
     → Adds g (view_of kept_in after ledger others is_open) new entry answer → Extends g r level v new (answered_with answer []) key
-drawn_below {S = S} {R = R} {caches = caches} {others = others} g r key trees kept_in random after ledger is_open v new level seeds entry answer is opened these
+drawn_below {S = S} {R = R} {caches = caches} {others = others} g r key trees kept_in random after ledger is_open v new level pair seeds entry answer is opened these
     same draws adds =
     subst (λ (w : View S R). Extends g r level w new (answered_with answer []) key) is
-    (drawn g r level key trees (view_of kept_in random ledger caches is_open) new after seeds entry answer these (ap (λ w. w.is_open) is ∙ opened) draws same
+    (drawn g r level key trees (view_of kept_in random ledger caches is_open) new after pair seeds entry answer these (ap (λ w. w.is_open) is ∙ opened) draws same
     (adds_caching g (view_of kept_in after ledger caches is_open) new others entry answer adds))

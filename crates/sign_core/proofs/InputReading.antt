@@ -7,10 +7,10 @@ use Rattle.std.specs.declared.io.ErrorKind.{ErrorKind}
 use Rattle.std.specs.IoError.{error_kind}
 use Rattle.std.specs.declared.io.Error.{Error}
 use Rattle.typecodes.specs.declared.message.Message as message
-use Rattle.typecodes.specs.Message.{CantBeRead, Gave, GivesText, ReadOutcome, ReadWhole, Transition, Transitions}
+use Rattle.typecodes.specs.Message.{CantBeRead, Gave, GivesText, ReadOutcome, ReadWhole, ReadsPart, Transition, Transitions}
 use Rattle.typecodes.specs.Reading.{ReadsFull}
 use Rattle.typecodes.proofs.Messages.{gave-append, reads-append}
-use Rattle.sign_core.specs.Frames.{CutsAt, Ending, ReadsInput, ReadsPart, broken, ended, going}
+use Rattle.sign_core.specs.Frames.{CutsAt, Ending, ReadsInput, broken, ended, going}
 
 -- ---- reads of an input
 
@@ -113,7 +113,7 @@ reads_split transition (x ∷ xs) ys old new (next, first, later) =
 
 pub record IsPart {P M : Type 0} (p : message.Ghosts P) (m : message.Ghosts M) (input_of : P → M) (left_of : P → ℕ) : Type 0 where
   pub part : (old : P) (outcome : ReadOutcome) (new : P) → p.transition old outcome new
-      → ReadsPart m (left_of old) (input_of old) outcome (left_of new) (input_of new)
+      → ReadsPart m.transition m.remaining (left_of old) (input_of old) outcome (left_of new) (input_of new)
 
 module _ {P M : Type 0} (p : message.Ghosts P) (m : message.Ghosts M) (input_of : P → M) (left_of : P → ℕ) (is : IsPart p m input_of left_of) where
   part_reads : (outcomes : List ReadOutcome) (text : List ℕ) (old new : P) → Transitions p.transition outcomes old new → Gave outcomes text

@@ -14,7 +14,7 @@ use Rattle.typecodes.proofs.Unambiguous.{unambiguous}
 use Rattle.lmots.specs.Key.{message_digest_of}
 use Rattle.lms.specs.declared.key.LmsPublic.{LmsPublic}
 use Rattle.lms.specs.Signature.{Signature as LmsSignature, signature as lms_signature}
-use Rattle.lms.specs.Secret.{public_of as lms_public_of}
+use Rattle.lms.specs.Secret.{public_of as lms_public_of, public_with as lms_public_with}
 use Rattle.lms.specs.Writing.{signature_bytes as lms_signature_bytes, textbook as lms_textbook}
 use Rattle.lms.proofs.OneWay.{one_way-signature as lms_one_way}
 use Rattle.xmss.specs.Signature.{signature as xmss_signature}
@@ -42,7 +42,7 @@ use Rattle.sign_core.specs.declared.key.AnyPublic.TheVariants.{Lms as AnyLms, Hs
 use Rattle.sign_core.specs.Records.{current}
 use Rattle.sign_core.specs.Headline.{IsBoundTo, IsLast}
 use Rattle.sign_core.specs.Headline.{LeafUse, MakesUses, lms_use, xmss_use}
-use Rattle.sign_core.specs.Textbook.{AllHaveSizes, AreSound, Trees, damaged_in, lms_public_in, public_by, public_in, secret_at, secret_by}
+use Rattle.sign_core.specs.Textbook.{AllHaveSizes, AreSound, Trees, damaged_in, lms_secret, public_by, public_in, secret_at, secret_by}
 use Rattle.sign_core.specs.Textbook.{signature_at, signings_above, tree_before}
 use Rattle.sign_core.proofs.Chains.{SignsNext, current_made}
 use Rattle.sign_core.proofs.TreeSteps.{current_before}
@@ -112,11 +112,11 @@ of_one key records k x uses are is =
 
 lms_uses : (records : List Record) (version : Version) (secret : LmsSecret) (root message : List ℕ) (k : ℕ) (bound : Bound) (uses : List LeafUse)
     → IsSoundlyBound records (key_with version (Lms secret) root) message k bound
-    → MakesUses (AnyLms (lms_public_in secret.pair secret.identifier root)) message (signature_at (key_with version (Lms secret) root) records k bound) uses
+    → MakesUses (AnyLms (lms_public_with secret root)) message (signature_at (key_with version (Lms secret) root) records k bound) uses
     → AreUsesOf (key_with version (Lms secret) root) records k uses
 lms_uses records version secret root message k bound uses is (s, spelled, are) =
     let key = key_with version (Lms secret) root in
-    let public = lms_public_in secret.pair secret.identifier root in
+    let public = lms_public_with secret root in
     let t = lms_textbook secret bound.leaf bound.randomizer bound.digest in
     let (has_tree, inside, randomizer) = is.fits k (BoundRecord bound) is.stands in
     let t_spelled = textbook_spelled secret bound.leaf bound.randomizer bound.digest inside (is.sizes k (BoundRecord bound) is.stands).0 in
@@ -270,14 +270,14 @@ link_use trees records key level x next first key_is has_tree link =
 hss_uses : (records : List Record) (version : Version) (pair : LmsPair) (rest : List LmsPair) (identifier seed root message : List ℕ) (k : ℕ) (bound : Bound)
     (uses : List LeafUse)
     → IsSoundlyBound records (key_with version (Hss (pair ∷ rest) identifier seed) root) message k bound
-    → MakesUses (AnyHss (record { levels = length (pair ∷ rest); top = lms_public_in pair identifier root })) message
+    → MakesUses (AnyHss (record { levels = length (pair ∷ rest); top = lms_public_with (lms_secret pair identifier seed) root })) message
     (signature_at (key_with version (Hss (pair ∷ rest) identifier seed) root) records k bound) uses
     → AreUsesOf (key_with version (Hss (pair ∷ rest) identifier seed) root) records k uses
 unfolding use_by signature_of key_of
 hss_uses records version pair rest identifier seed root message k bound uses is (s, spelled, are) =
     let key = key_with version (Hss (pair ∷ rest) identifier seed) root in
     let trees = hss_trees pair rest identifier seed in
-    let top = lms_public_in pair identifier root in
+    let top = lms_public_with (lms_secret pair identifier seed) root in
     let level = length (pair ∷ rest) - 1 in
     let tree = tree_before level records k in
     let above = signings_above trees level records tree in
@@ -323,12 +323,12 @@ uses_by : (records : List Record) (version : Version) (secret : Secret) (root me
 uses_by records version (Lms secret) root message k bound public uses is is_public makes =
     lms_uses records version secret root message k bound uses is
     (subst (λ p. MakesUses p message (signature_at (key_with version (Lms secret) root) records k bound) uses)
-    (sym (same_Some (AnyLms (lms_public_in secret.pair secret.identifier root)) public is_public)) makes)
+    (sym (same_Some (AnyLms (lms_public_with secret root)) public is_public)) makes)
 uses_by records version (Hss [] identifier seed) root message k bound public uses is is_public makes = absurd (cc)
 uses_by records version (Hss (pair ∷ rest) identifier seed) root message k bound public uses is is_public makes =
     hss_uses records version pair rest identifier seed root message k bound uses is
     (subst (λ p. MakesUses p message (signature_at (key_with version (Hss (pair ∷ rest) identifier seed) root) records k bound) uses)
-    (sym (same_Some (AnyHss (record { levels = length (pair ∷ rest); top = lms_public_in pair identifier root })) public is_public)) makes)
+    (sym (same_Some (AnyHss (record { levels = length (pair ∷ rest); top = lms_public_with (lms_secret pair identifier seed) root })) public is_public)) makes)
 uses_by records version (Xmss secret) root message k bound public uses is is_public makes =
     xmss_uses records version secret root message k bound uses is
     (subst (λ p. MakesUses p message (signature_at (key_with version (Xmss secret) root) records k bound) uses)

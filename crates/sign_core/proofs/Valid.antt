@@ -8,7 +8,7 @@ use Rattle.typecodes.specs.declared.types.LmsPair.{LmsPair}
 use Rattle.typecodes.specs.declared.secret.LmsSecret.{LmsSecret}
 use Rattle.typecodes.specs.declared.secret.XmssSecret.{XmssSecret}
 use Rattle.typecodes.specs.Types.{height_of}
-use Rattle.lms.specs.Secret.{path_in as lms_path_in, public_of as lms_public_of}
+use Rattle.lms.specs.Secret.{path_in as lms_path_in, public_of as lms_public_of, public_with as lms_public_with}
 use Rattle.lms.specs.declared.key.LmsPublic.{LmsPublic}
 use Rattle.hss.specs.Secret.{Signing}
 use Rattle.lms.specs.Writing.{textbook as lms_textbook}
@@ -37,7 +37,7 @@ use Rattle.sign_core.specs.declared.key.AnyPublic.TheVariants.{Lms as AnyLms, Hs
 use Rattle.sign_core.specs.Records.{current, key_in}
 use Rattle.sign_core.specs.Headline.{IsBoundTo, IsValidUnder}
 use Rattle.sign_core.specs.Key.{KeyVerdict}
-use Rattle.sign_core.specs.Textbook.{AllHaveSizes, AreSound, Trees, chain, damaged_in, digest_at, is_sound_at, is_sound_record, lms_public_in}
+use Rattle.sign_core.specs.Textbook.{AllHaveSizes, AreSound, Trees, chain, damaged_in, digest_at, is_sound_at, is_sound_record}
 use Rattle.sign_core.specs.Textbook.{lms_secret, public_by, public_in, root_by, signature_at, signings_above, tree_before}
 use Rattle.sign_core.proofs.Bindings.{binding_stands}
 use Rattle.sign_core.proofs.Keys.{key_stands, legal_key}
@@ -104,7 +104,7 @@ key_with version secret root = record { version = version; secret = secret; root
 
 lms_checked : (records : List Record) (version : Version) (secret : LmsSecret) (root message : List ℕ) (k : ℕ) (bound : Bound)
     → IsSoundlyBound records (key_with version (Lms secret) root) message k bound
-    → IsValidUnder (AnyLms (lms_public_in secret.pair secret.identifier root)) message (signature_at (key_with version (Lms secret) root) records k bound)
+    → IsValidUnder (AnyLms (lms_public_with secret root)) message (signature_at (key_with version (Lms secret) root) records k bound)
 lms_checked records version secret root message k bound is =
     let (has_tree, inside, randomizer) = is.fits k (BoundRecord bound) is.stands in
     let s = lms_textbook secret bound.leaf bound.randomizer bound.digest in
@@ -112,7 +112,7 @@ lms_checked records version secret root message k bound is =
     lms_signed_valid secret bound.leaf bound.randomizer message bound.digest (lms_path_in secret bound.leaf) inside is.digest refl in (
       s,
       textbook_spelled secret bound.leaf bound.randomizer bound.digest inside (is.sizes k (BoundRecord bound) is.stands).0,
-      subst (λ r. IsLmsValid (lms_public_in secret.pair secret.identifier r) message s) (sym is.root) valid,
+      subst (λ r. IsLmsValid (lms_public_with secret r) message s) (sym is.root) valid,
     )
 
 -- ---- XMSS
@@ -197,7 +197,7 @@ hss_public_is trees records above bottom message levels public count is links va
 
 hss_checked : (records : List Record) (version : Version) (pair : LmsPair) (rest : List LmsPair) (identifier seed root message : List ℕ) (k : ℕ) (bound : Bound)
     → IsSoundlyBound records (key_with version (Hss (pair ∷ rest) identifier seed) root) message k bound
-    → IsValidUnder (AnyHss (record { levels = length (pair ∷ rest); top = lms_public_in pair identifier root })) message
+    → IsValidUnder (AnyHss (record { levels = length (pair ∷ rest); top = lms_public_with (lms_secret pair identifier seed) root })) message
     (signature_at (key_with version (Hss (pair ∷ rest) identifier seed) root) records k bound)
 hss_checked records version pair rest identifier seed root message k bound is =
     let trees = hss_trees pair rest identifier seed in
@@ -206,10 +206,10 @@ hss_checked records version pair rest identifier seed root message k bound is =
     let above = signings_above trees level records tree in
     let bottom = signing_of_bound trees records tree bound in
     let levels = hss_levels records version pair rest identifier seed root message k bound is in
-    let public : lms_public_of trees.top ≡ lms_public_in pair identifier root = ap (lms_public_in pair identifier) (sym is.root) in (
+    let public : lms_public_of trees.top ≡ lms_public_with (lms_secret pair identifier seed) root = ap (lms_public_with (lms_secret pair identifier seed)) (sym is.root) in (
       hss_textbook above bottom,
       hss_textbook_spelled above bottom (omega (arith, levels.count, levels.few)) levels.sized,
-      hss_public_is trees records above bottom message (length (pair ∷ rest)) (lms_public_in pair identifier root) levels.count public levels.chained
+      hss_public_is trees records above bottom message (length (pair ∷ rest)) (lms_public_with (lms_secret pair identifier seed) root) levels.count public levels.chained
           (hss_textbook_valid above bottom message levels.signs),
     )
 
@@ -221,11 +221,11 @@ checked_by : (records : List Record) (version : Version) (secret : Secret) (root
 checked_by records version (Lms secret) root message k bound public is is_public =
     subst (λ p. IsValidUnder p message
     (signature_at (key_with version (Lms secret) root) records k bound))
-    (same_Some (AnyLms (lms_public_in secret.pair secret.identifier root)) public is_public) (lms_checked records version secret root message k bound is)
+    (same_Some (AnyLms (lms_public_with secret root)) public is_public) (lms_checked records version secret root message k bound is)
 checked_by records version (Hss [] identifier seed) root message k bound public is is_public = absurd (cc)
 checked_by records version (Hss (pair ∷ rest) identifier seed) root message k bound public is is_public =
     subst (λ p. IsValidUnder p message (signature_at (key_with version (Hss (pair ∷ rest) identifier seed) root) records k bound))
-    (same_Some (AnyHss (record { levels = length (pair ∷ rest); top = lms_public_in pair identifier root })) public is_public)
+    (same_Some (AnyHss (record { levels = length (pair ∷ rest); top = lms_public_with (lms_secret pair identifier seed) root })) public is_public)
     (hss_checked records version pair rest identifier seed root message k bound is)
 checked_by records version (Xmss secret) root message k bound public is is_public =
     subst (λ p. IsValidUnder p message (signature_at (key_with version (Xmss secret) root) records k bound))

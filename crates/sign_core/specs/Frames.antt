@@ -1,7 +1,7 @@
 -- The frames of requests in an input, and what reads of an input give.
-use Rattle.std.specs.Prelude.{◌≡◌, ◌⊎◌, ℕ, ◌+◌, ◌<◌, ◌≤◌, Bool, true, false, List, [], ◌∷◌, ◌++◌, length, Option, Some}
+use Rattle.std.specs.Prelude.{◌≡◌, ℕ, ◌<◌, ◌≤◌, Bool, true, false, List, [], ◌∷◌, ◌++◌, length, Option, Some}
 use Rattle.std.specs.Prelude.{None, Ok, Err, slice_index, if◌then◌else◌}
-use Rattle.std.specs.Io.KnownBytes.{Consumes, IsAtEnd, Keeps}
+use Rattle.std.specs.Io.KnownBytes.{Consumes, IsAtEnd}
 use Rattle.std.specs.declared.io.ErrorKind.{ErrorKind}
 use Rattle.typecodes.specs.declared.fault.Cause.TheVariants.{Truncated}
 use Rattle.typecodes.specs.declared.message.Message as message
@@ -92,15 +92,3 @@ given_by request = if request.is_whole then Some request.message else None
 -- The bytes end inside a field of the layout, at whatever offset they begin.
 abbrev pub CutsField : {V : Type 0} → Layout V → List ℕ → Type 0
 CutsField layout bytes = (from : ℕ) → (place : ℕ) × HasFault layout bytes from (fault_at place Truncated)
-
--- ---- how frames are read
-
--- A read of a frame's message with `left` bytes to come. It gives at most as many of the input's, and none where none
--- are left. It fails where a read of the input fails, or the input is at its end.
-abbrev pub ReadsPart : {M : Type 0} → message.Ghosts M → (left : ℕ) → M → ReadOutcome → (after : ℕ) → M → Type 0
-ReadsPart m left old (Ok bytes) after new = (after + length bytes ≡ left)
-    × (((bytes ≡ []) × (left ≡ 0) × (new ≡ old))
-    ⊎ ((1 ≤ length bytes) × m.transition old (Ok bytes) new × Consumes (m.remaining old) (m.remaining new) bytes))
-ReadsPart m left old (Err kind) after new = (after ≡ left) × (1 ≤ left)
-    × ((m.transition old (Err kind) new × Keeps (m.remaining old) (m.remaining new))
-    ⊎ (m.transition old (Ok []) new × Consumes (m.remaining old) (m.remaining new) [] × IsAtEnd (m.remaining new)))

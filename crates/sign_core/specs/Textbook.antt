@@ -5,9 +5,8 @@ use Rattle.std.specs.Prelude.{Option, Some, None, option_and_then, option_map}
 use Rattle.typecodes.specs.declared.types.LmsPair.{LmsPair}
 use Rattle.typecodes.specs.Levels.{AreLevels}
 use Rattle.lmots.specs.Key.{message_digest_of}
-use Rattle.lms.specs.declared.key.LmsPublic.{LmsPublic}
 use Rattle.typecodes.specs.declared.secret.LmsSecret.{LmsSecret}
-use Rattle.lms.specs.Secret.{public_of as lms_public_of, root_in as lms_root_in}
+use Rattle.lms.specs.Secret.{public_of as lms_public_of, public_with, root_in as lms_root_in}
 use Rattle.lms.specs.Writing.{public_bytes as lms_public_bytes, signature_bytes as lms_signature_bytes}
 use Rattle.lms.specs.Writing.{textbook as lms_textbook}
 use Rattle.xmss.specs.Secret.{digest_in as xmss_digest_in, root_in as xmss_root_in}
@@ -83,14 +82,11 @@ trees_of (Hss (pair ∷ rest) identifier seed) =
     Some (record { top = lms_secret pair identifier seed; pairs = pair ∷ rest })
 trees_of _ = None
 
-abbrev pub lms_public_in : LmsPair → (identifier root : List ℕ) → LmsPublic
-lms_public_in pair identifier root = record { pair = pair; identifier = identifier; root = root }
-
 abbrev pub public_by : Secret → (root : List ℕ) → Option AnyPublic
-public_by (Lms secret) root = Some (AnyLms (lms_public_in secret.pair secret.identifier root))
+public_by (Lms secret) root = Some (AnyLms (public_with secret root))
 public_by (Hss [] identifier seed) root = None
 public_by (Hss (pair ∷ rest) identifier seed) root =
-    Some (AnyHss (record { levels = length (pair ∷ rest); top = lms_public_in pair identifier root }))
+    Some (AnyHss (record { levels = length (pair ∷ rest); top = public_with (lms_secret pair identifier seed) root }))
 public_by (Xmss secret) root = Some (AnyXmss (record { tree = secret.tree; root = root; seed = secret.public_seed }))
 
 abbrev pub public_in : Key → Option AnyPublic

@@ -74,7 +74,7 @@ impl<X: TreeSecret> TreeCache<X> {
     {
         let secret = asked.secret;
         let height = secret.height();
-        let leaf = leaf_within(height, asked.leaf);
+        let leaf = asked.leaf.min(2u32.pow(u32::from(height)) - 1);
         let made = PathCache::for_leaf_telling(alloc, secret.tree(), height, leaf, asked.begin());
         let cache = made.map_err(|_| SignFault::OutOfMemory)?;
         Ok(TreeCache { secret, cache })
@@ -127,15 +127,6 @@ impl<X: TreeSecret, P: TreeProgress> TreeRequest<'_, X, P> {
         let mut tree = Told::new(self.secret.tree(), self.begin());
         root_and_path(&mut tree, self.secret.height(), self.leaf, into)
     }
-}
-
-// The leaf, or the last one of a tree of this height, if it has no such leaf.
-fn leaf_within(height: u8, leaf: u32) -> u32
-    requires { height ≤ 25 }
-    ensures { result < 2 ^ height }
-{
-    let leaves = 2u32.pow(u32::from(height));
-    if leaf < leaves { leaf } else { leaves - 1 }
 }
 
 /// A signer's caches: one for each level's current LMS tree, or for an XMSS key's tree, once a request has needed it.

@@ -1,16 +1,13 @@
-//! Frames of requests, read from an input: the head before a message, and the message.
+//! Frames of requests, read from an input: the head before a message.
 
 ghost use Rattle.std.specs.Prelude.{◌≡◌, ◌<◌};
-ghost use Rattle.sign_core.specs.inner.Frames.{FillsBuffer, ReadsField, ReadsHead, Skips, bytes_of, said_by};
+ghost use Rattle.sign_core.specs.inner.Frames.{FillsBuffer, ReadsField, ReadsHead, bytes_of, said_by};
 ghost use Rattle.sign_core.specs.Frames.{after_size};
 ghost use Rattle.typecodes.specs.Fields.{block};
 
 use crate::fault::ServeFault;
 use arrayvec::ArrayVec;
-use std::convert::Infallible;
-use std::io;
-use std::io::ErrorKind;
-use typecodes::{Message, MessageFailed, PieceTaker, read_full, read_to_end};
+use typecodes::{Message, read_full};
 
 /// The head of a frame: the bytes of the name, and the announced length of the message in bytes.
 #[derive(Drop)]
@@ -64,65 +61,4 @@ pub(crate) fn read_head<I: Message>(input: &mut I) -> Result<Option<Head>, Serve
         Err(ServeFault::FrameCut) => Ok(None),
         Err(fault) => Err(fault),
     }
-}
-
-/// The message of a frame: the next `left` bytes of an input.
-#[derive(Drop)]
-pub(crate) struct FrameMessage<'a, I> {
-    pub(crate) input: &'a mut I,
-    pub(crate) left: u32,
-}
-
-impl<I: Message> Message for FrameMessage<'_, I> {
-    ghost use Rattle.std.specs.Prelude.{◌≡◌, None};
-    ghost use Rattle.sign_core.specs.Frames.{ReadsPart};
-
-    ghost remaining = { λ _. None };
-
-    // Each read is a read of the input.
-    ghost transition = { λ old outcome new. (new.input.ghost_name ≡ old.input.ghost_name)
-        × ReadsPart I.Message old.left old.input.now outcome new.left new.input.now };
-
-    fn read_into(&mut self, buffer: &mut [u8]) -> io::Result<usize> {
-        if self.left == 0 {
-            return Ok(0);
-        }
-        let most = buffer.len().min(self.left as usize);
-        match self.input.read_into(&mut buffer[..most]) {
-            Ok(0) => Err(io::Error::from(ErrorKind::UnexpectedEof)),
-            Ok(n) => {
-                self.left -= n as u32;
-                Ok(n)
-            }
-            Err(error) => Err(error),
-        }
-    }
-}
-
-#[derive(Drop)]
-struct Discard {}
-
-impl PieceTaker for Discard {
-    ghost use Rattle.std.specs.Prelude.{⊤};
-
-    type Error = Infallible;
-
-    ghost takes = { λ _ _ _. ⊤ };
-
-    ghost refuses = { λ _ _ _ _. ⊥ };
-
-    fn take_piece(&mut self, piece: &[u8]) -> Result<(), Infallible> {
-        Ok(())
-    }
-
-    ghost takes_nothing = { λ _. tt };
-
-    ghost takes_more = { λ _ _ _ _ _ _ _. tt };
-}
-
-/// Reads the rest of a message, and discards it.
-pub(crate) fn skip<M: Message>(message: &mut M) -> Result<(), MessageFailed>
-    ensures { Skips M.Message message.old message.new result }
-{
-    read_to_end(message, &mut Discard {}).map_err(|_| MessageFailed)
 }

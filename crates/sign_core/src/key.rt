@@ -57,21 +57,9 @@ impl AnyPublic {
         ensures { SpellsKey self.now result.items }
     {
         match self {
-            AnyPublic::Lms(key) => {
-                let mut bytes = [0; 56];
-                lms::write_public(key, &mut bytes);
-                to_array_vec(&bytes)
-            }
-            AnyPublic::Hss(key) => {
-                let mut bytes = [0; 60];
-                hss::write_public(key, &mut bytes);
-                to_array_vec(&bytes)
-            }
-            AnyPublic::Xmss(key) => {
-                let mut bytes = [0; 68];
-                xmss::write_public(key, &mut bytes);
-                to_array_vec(&bytes)
-            }
+            AnyPublic::Lms(key) => to_array_vec(&key.to_bytes()),
+            AnyPublic::Hss(key) => to_array_vec(&key.to_bytes()),
+            AnyPublic::Xmss(key) => to_array_vec(&key.to_bytes()),
         }
     }
 }

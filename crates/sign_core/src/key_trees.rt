@@ -5,20 +5,18 @@ ghost use Rattle.std.specs.Prelude.{◌≡◌, ◌<◌, ◌+◌, ◌^◌, ◌++�
 ghost use Rattle.std.specs.Prelude.{IfErr, OnOk, IfOk, OnErr};
 ghost use Rattle.arrayvec.specs.ArrayVec.{array_vec_len};
 ghost use Rattle.typecodes.specs.Types.{height_of};
-ghost use Rattle.lmots.specs.Key.{message_digest_of};
-ghost use Rattle.lms.specs.Writing.{public_bytes};
 ghost use Rattle.state_file.specs.Laws.{levels_of};
 ghost use Rattle.sign_core.specs.Records.{free_at};
 ghost use Rattle.sign_core.specs.Textbook.{damaged_in, tree_before};
 
 use crate::caches::{Caches, TreeRequest};
 use crate::fault::SignFault;
-use crate::ledger::Ledger;
+use crate::ledger::{Ledger, Made};
 use crate::progress::TreeProgress;
 use arrayvec::ArrayVec;
 use hss::Level;
 use lmots::LmOts;
-use lms::{LmsPublic, SigningTree, write_public};
+use lms::SigningTree;
 use state_file::{Extend, Secret};
 use typecodes::{Levels, LmsPair, LmsSecret, XmssSecret};
 
@@ -53,130 +51,12 @@ impl SecretTrees {
                 identifier,
                 seed,
             } => SecretTrees::Chain(KeyTrees {
-                top: LmsSecret {
-                    pair: levels.as_slice()[0],
-                    identifier: *identifier,
-                    seed: *seed,
-                },
+                top: LmsSecret::new(levels.as_slice()[0], *identifier, *seed),
                 levels: levels.copied(),
             }),
             Secret::Xmss(secret) => SecretTrees::Xmss(*secret),
         }
     }
-}
-
-impl KeyTrees {
-    ghost use Rattle.state_file.specs.declared.record.Record.TheVariants.{Extend as ExtendRecord};
-    ghost use Rattle.state_file.specs.Laws.{IsLegal};
-    ghost use Rattle.sign_core.specs.Records.{key_in};
-    ghost use Rattle.sign_core.specs.inner.Links.{AreMade, AreTreesOf, IsMade, IsTreeAt, IsTreeBy, signings_of};
-    ghost use Rattle.sign_core.specs.inner.Links.{trees_in};
-    ghost use Rattle.sign_core.specs.Textbook.{damaged_in, is_sound_at, secret_at, secret_by, signings_above};
-
-    /// The types of a level's trees; the top tree's, where there is no such level.
-    pub(crate) fn pair(&self, level: u8) -> LmsPair
-        ensures { result ≡ slice_index_or (trees_in self.now).pairs level (trees_in self.now).top.pair }
-    {
-        let pairs = self.levels.as_slice();
-        *pairs.get(usize::from(level)).unwrap_or(&self.top.pair)
-    }
-
-    /// The secret of the tree at a place; the top tree's, where no Extend stands.
-    pub(crate) fn secret_at(&self, ledger: &Ledger, place: u32) -> LmsSecret
-        ensures { result ≡ secret_at (trees_in self.now) ledger.now.records place }
-    {
-        let Some(made) = ledger.made(place) else {
-            return self.top;
-        };
-        let (identifier, seed) = (made.extend.identifier, made.extend.seed);
-        LmsSecret {
-            pair: self.pair(made.extend.level),
-            identifier,
-            seed,
-        }
-    }
-
-    // Whether a tree's recorded root is the one that was made, and for an Extend the recorded digest, too.
-    fn is_sound(&self, ledger: &Ledger, level: u8, place: u32, tree: &SigningTree) -> bool
-        requires trees { AreTreesOf self.now ledger.now.key }
-        requires stands { IsTreeAt ledger.now.records level place }
-        requires secret { tree.now.secret ≡ secret_at (trees_in self.now) ledger.now.records place }
-        requires made { IsMade tree.now }
-        ensures { result ≡ is_sound_at ledger.now.key ledger.now.records place }
-    {
-        let Some(made) = ledger.made(place) else {
-            return ledger.key().root == tree.root;
-        };
-        let extend = made.extend;
-        let parent = self.secret_at(ledger, made.parent).identifier;
-        let public = tree.public();
-        let digest = key_digest(parent, extend.parent_leaf, &extend.randomizer, &public);
-        extend.root == tree.root && extend.digest == digest
-    }
-
-    /// Adds the trees above the tree at a place, from the Key's down, and answers this tree, ready to sign by a leaf.
-    /// Or answers the place of the chain's first record that isn't sound.
-    pub(crate) fn chain_to<P: TreeProgress>(
-        &self,
-        ledger: &Ledger,
-        caches: &mut Caches,
-        level: u8,
-        place: u32,
-        leaf: u32,
-        above: &mut ArrayVec<Level, 8>,
-        progress: &P,
-    ) -> Result<SigningTree, u32>
-        requires legal { IsLegal ledger.now.records }
-        requires keyed { key_in ledger.now.records ≡ Some ledger.now.key }
-        requires trees { AreTreesOf self.now ledger.now.key }
-        requires stands { IsTreeAt ledger.now.records level place }
-        requires inside { let secret = secret_at (trees_in self.now) ledger.now.records place in
-            leaf < 2 ^ height_of secret.pair.tree }
-        requires room { array_vec_len above.old + level < 8 }
-        ensures sound { OnOk result (damaged_in ledger.now.key level ledger.now.records place ≡ None) }
-        ensures damaged { IfErr result (λ k. damaged_in ledger.now.key level ledger.now.records place ≡ Some k) }
-        ensures signings { OnOk result (signings_of above.new.items ≡ signings_of above.old.items
-            ++ signings_above (trees_in self.now) level ledger.now.records place) }
-        ensures len { OnOk result (array_vec_len above.new ≡ array_vec_len above.old + level) }
-        ensures made { AreMade above.old.items → OnOk result (AreMade above.new.items) }
-        ensures tree { IfOk result (IsTreeBy (secret_at (trees_in self.now) ledger.now.records place) leaf) }
-        ensures caches { caches.new ≡ caches.old }
-    {
-        if let Some(made) = ledger.made(place) {
-            let (randomizer, digest) = (made.extend.randomizer, made.extend.digest);
-            let (parent, signer) = (made.parent, made.extend.parent_leaf);
-            let tree = self.chain_to(ledger, caches, level - 1, parent, signer, above, progress)?;
-            above.push(Level {
-                tree,
-                randomizer,
-                digest,
-            });
-        }
-        let secret = self.secret_at(ledger, place);
-        let tree = caches.signing_tree(TreeRequest::new(level, secret, leaf, progress));
-        if !self.is_sound(ledger, level, place, &tree) {
-            return Err(place);
-        }
-        Ok(tree)
-    }
-}
-
-/// Q, the digest of a public key, for a leaf of the tree with this I, and this C.
-pub(crate) fn key_digest(
-    identifier: [u8; 16],
-    leaf: u32,
-    randomizer: &[u8; 32],
-    public: &LmsPublic,
-) -> [u8; 32]
-    ensures { result ≡ message_digest_of identifier leaf randomizer.now (public_bytes public.now) }
-{
-    let mut bytes = [0; 56];
-    write_public(public, &mut bytes);
-    LmOts { identifier, leaf }.message_digest(randomizer, &bytes)
-}
-
-impl SecretTrees {
-    ghost use Rattle.sign_core.specs.inner.Links.{MakesTrees};
 
     /// Checks that the records of the current trees are sound, down to a level with a free leaf. Or answers the place
     /// of the first one that isn't.
@@ -216,6 +96,95 @@ impl SecretTrees {
                 caches.xmss_path(asked, &key.root, path)
             }
         }
+    }
+}
+
+impl KeyTrees {
+    ghost use Rattle.state_file.specs.declared.record.Record.TheVariants.{Extend as ExtendRecord};
+    ghost use Rattle.state_file.specs.Laws.{IsLegal};
+    ghost use Rattle.sign_core.specs.Records.{key_in};
+    ghost use Rattle.sign_core.specs.inner.Links.{AreMade, AreTreesOf, IsMade, IsTreeAt, IsTreeBy, signings_of};
+    ghost use Rattle.sign_core.specs.inner.Links.{trees_in};
+    ghost use Rattle.sign_core.specs.Textbook.{damaged_in, is_sound_at, secret_at, secret_by, signings_above};
+
+    /// The types of a level's trees; the top tree's, where there is no such level.
+    pub(crate) fn pair(&self, level: u8) -> LmsPair
+        ensures { result ≡ slice_index_or (trees_in self.now).pairs level (trees_in self.now).top.pair }
+    {
+        let pairs = self.levels.as_slice();
+        *pairs.get(usize::from(level)).unwrap_or(&self.top.pair)
+    }
+
+    /// The secret of the tree at a place; the top tree's, where no Extend stands.
+    pub(crate) fn secret_at(&self, ledger: &Ledger, place: u32) -> LmsSecret
+        ensures { result ≡ secret_at (trees_in self.now) ledger.now.records place }
+    {
+        let Some(Made { extend, .. }) = ledger.made(place) else {
+            return self.top;
+        };
+        LmsSecret::new(self.pair(extend.level), extend.identifier, extend.seed)
+    }
+
+    // Whether a tree's recorded root is the one that was made, and for an Extend the recorded digest, too.
+    fn is_sound(&self, ledger: &Ledger, level: u8, place: u32, tree: &SigningTree) -> bool
+        requires trees { AreTreesOf self.now ledger.now.key }
+        requires stands { IsTreeAt ledger.now.records level place }
+        requires secret { tree.now.secret ≡ secret_at (trees_in self.now) ledger.now.records place }
+        requires made { IsMade tree.now }
+        ensures { result ≡ is_sound_at ledger.now.key ledger.now.records place }
+    {
+        let Some(Made { extend, parent }) = ledger.made(place) else {
+            return ledger.key().root == tree.root;
+        };
+        let identifier = self.secret_at(ledger, parent).identifier;
+        let signer = LmOts {
+            identifier,
+            leaf: extend.parent_leaf,
+        };
+        let digest = signer.message_digest(&extend.randomizer, &tree.public().to_bytes());
+        extend.root == tree.root && extend.digest == digest
+    }
+
+    /// Adds the trees above the tree at a place, from the Key's down, and answers this tree, ready to sign by a leaf.
+    /// Or answers the place of the chain's first record that isn't sound.
+    pub(crate) fn chain_to<P: TreeProgress>(
+        &self,
+        ledger: &Ledger,
+        caches: &mut Caches,
+        level: u8,
+        place: u32,
+        leaf: u32,
+        above: &mut ArrayVec<Level, 8>,
+        progress: &P,
+    ) -> Result<SigningTree, u32>
+        requires legal { IsLegal ledger.now.records }
+        requires keyed { key_in ledger.now.records ≡ Some ledger.now.key }
+        requires trees { AreTreesOf self.now ledger.now.key }
+        requires stands { IsTreeAt ledger.now.records level place }
+        requires inside { let secret = secret_at (trees_in self.now) ledger.now.records place in
+            leaf < 2 ^ height_of secret.pair.tree }
+        requires room { array_vec_len above.old + level < 8 }
+        ensures sound { OnOk result (damaged_in ledger.now.key level ledger.now.records place ≡ None) }
+        ensures damaged { IfErr result (λ k. damaged_in ledger.now.key level ledger.now.records place ≡ Some k) }
+        ensures signings { OnOk result (signings_of above.new.items ≡ signings_of above.old.items
+            ++ signings_above (trees_in self.now) level ledger.now.records place) }
+        ensures len { OnOk result (array_vec_len above.new ≡ array_vec_len above.old + level) }
+        ensures made { AreMade above.old.items → OnOk result (AreMade above.new.items) }
+        ensures tree { IfOk result (IsTreeBy (secret_at (trees_in self.now) ledger.now.records place) leaf) }
+        ensures caches { caches.new ≡ caches.old }
+    {
+        if let Some(made) = ledger.made(place) {
+            let (randomizer, digest) = (made.extend.randomizer, made.extend.digest);
+            let (parent, signer) = (made.parent, made.extend.parent_leaf);
+            let tree = self.chain_to(ledger, caches, level - 1, parent, signer, above, progress)?;
+            above.push(Level::new(tree, randomizer, digest));
+        }
+        let secret = self.secret_at(ledger, place);
+        let tree = caches.signing_tree(TreeRequest::new(level, secret, leaf, progress));
+        if !self.is_sound(ledger, level, place, &tree) {
+            return Err(place);
+        }
+        Ok(tree)
     }
 }
 

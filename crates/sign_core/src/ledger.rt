@@ -83,35 +83,6 @@ impl Binding {
     }
 }
 
-fn public_of(key: &Key) -> AnyPublic
-    ensures { public_in key.now ≡ Some result }
-{
-    match &key.secret {
-        Secret::Lms(secret) => AnyPublic::Lms(LmsPublic {
-            pair: secret.pair,
-            identifier: secret.identifier,
-            root: key.root,
-        }),
-        Secret::Hss {
-            levels,
-            identifier,
-            ..
-        } => AnyPublic::Hss(HssPublic {
-            levels: levels.count(),
-            top: LmsPublic {
-                pair: levels.as_slice()[0],
-                identifier: *identifier,
-                root: key.root,
-            },
-        }),
-        Secret::Xmss(secret) => AnyPublic::Xmss(XmssPublic {
-            tree: secret.tree,
-            root: key.root,
-            seed: secret.public_seed,
-        }),
-    }
-}
-
 /// A legal list of a key's records. Its `HashMap`s hash with a fixed seed, so the time of a lookup is a mean.
 #[derive(Drop)]
 pub struct Ledger {
@@ -216,7 +187,23 @@ impl Ledger {
     pub fn public_key(&self) -> AnyPublic
         ensures { public_of_key (key_in self.now.records) ≡ Some result }
     {
-        public_of(&self.key)
+        let root = self.key.root;
+        match &self.key.secret {
+            Secret::Lms(secret) => AnyPublic::Lms(LmsPublic::of(secret, root)),
+            Secret::Hss {
+                levels,
+                identifier,
+                ..
+            } => AnyPublic::Hss(HssPublic {
+                levels: levels.count(),
+                top: LmsPublic {
+                    pair: levels.as_slice()[0],
+                    identifier: *identifier,
+                    root,
+                },
+            }),
+            Secret::Xmss(secret) => AnyPublic::Xmss(XmssPublic::of(secret, root)),
+        }
     }
 
     /// The number of records.
@@ -306,12 +293,25 @@ impl Ledger {
     pub(crate) fn can_follow(&self, entry: &Record) -> bool
         ensures { result ≡ can_follow (Some self.now.key) self.now.records entry.now }
     {
+        let bottom = self.key.secret.levels() - 1;
+        let is_xmss = matches!(self.key.secret, Secret::Xmss(_));
         !self.moved
             && match entry {
                 Record::Key(_) => false,
-                Record::Extend(extend) => self.takes_extend(extend),
-                Record::Bound(bound) => self.takes_bound(bound),
-                Record::Retire { upto } => self.takes_retire(*upto),
+                Record::Extend(extend) => {
+                    1 <= extend.level
+                        && extend.level <= bottom
+                        && self.is_free(extend.level - 1, extend.parent_leaf)
+                        && !self.has_identifier(&extend.identifier)
+                }
+                Record::Bound(bound) => {
+                    self.is_free(bottom, bound.leaf)
+                        && self.find(&bound.name).is_none()
+                        && (!is_xmss || bound.randomizer == [0; 32])
+                }
+                Record::Retire { upto } => {
+                    self.current(bottom).is_some() && *upto <= self.key.secret.leaves(bottom)
+                }
                 Record::Moved => matches!(self.key.version, Version::One),
             }
     }
@@ -325,37 +325,6 @@ impl Ledger {
             Some(tree) => leaf < leaves && tree.next <= leaf,
             None => false,
         }
-    }
-
-    // Whether an Extend can follow these records, if they don't end with a Moved.
-    fn takes_extend(&self, extend: &Extend) -> bool
-        ensures { result ≡ can_follow_legal self.now.key self.now.records (ExtendRecord extend.now) }
-    {
-        1 <= extend.level
-            && extend.level < self.key.secret.levels()
-            && self.is_free(extend.level - 1, extend.parent_leaf)
-            && !self.has_identifier(&extend.identifier)
-    }
-
-    // The same for a Bound.
-    fn takes_bound(&self, bound: &Bound) -> bool
-        ensures { result ≡ can_follow_legal self.now.key self.now.records (BoundRecord bound.now) }
-    {
-        let has_randomizer = match self.key.secret {
-            Secret::Lms(_) | Secret::Hss { .. } => true,
-            Secret::Xmss(_) => bound.randomizer == [0; 32],
-        };
-        self.is_free(self.key.secret.levels() - 1, bound.leaf)
-            && self.find(&bound.name).is_none()
-            && has_randomizer
-    }
-
-    // The same for a Retire.
-    fn takes_retire(&self, upto: u32) -> bool
-        ensures { result ≡ can_follow_legal self.now.key self.now.records (RetireRecord upto) }
-    {
-        let bottom = self.key.secret.levels() - 1;
-        self.current(bottom).is_some() && upto <= self.key.secret.leaves(bottom)
     }
 
     /// Takes up one more record, if it can follow these. An `Err` changes nothing, except that more memory may be

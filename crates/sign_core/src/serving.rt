@@ -1,14 +1,14 @@
 //! `serve`: requests from an input, each with its reply on an output.
 
 ghost use Rattle.std.specs.Prelude.{◌≡◌, ◌<◌, ◌^◌, vec_capacity};
-ghost use Rattle.sign_core.specs.inner.Frames.{WasReadOrFailed, said_by};
-ghost use Rattle.sign_core.specs.inner.Serving.{AnswersFrame, Asks, Finishes, Turns, WritesReply, is_unread};
+ghost use Rattle.sign_core.specs.inner.Frames.{WasReadOrFailed};
+ghost use Rattle.sign_core.specs.inner.Serving.{Asks, Finishes, Turns, WritesReply, is_unread};
 ghost use Rattle.sign_core.specs.Serving.{Serves};
 ghost use Rattle.sign_core.specs.Serving.{reply_bytes, reply_frame};
 ghost use Rattle.sign_core.specs.Signing.{KeepsCapacity};
 
 use crate::fault::{ServeFault, SignFault};
-use crate::frames::{FrameMessage, Head, read_head, skip};
+use crate::frames::read_head;
 use crate::progress::TreeProgress;
 use crate::signer::Signer;
 use crate::source::Source;
@@ -16,7 +16,7 @@ use merkle::Silent;
 use state_file::Store;
 use std::alloc::Global;
 use std::io::Write;
-use typecodes::{Message, Name, write_all};
+use typecodes::{Message, Name, NextBytes, discard, write_all};
 
 // The greatest number of replies.
 const REPLIES: u64 = 1 << 32;
@@ -85,7 +85,8 @@ pub fn serve_telling<S: Store, R: Source, I: Message, W: Write, P: TreeProgress>
     Ok(REPLIES)
 }
 
-// Reads the next frame and replies to it; false at the end of the input.
+// Reads the next frame and replies to it; false at the end of the input. Its message is read as far as it comes, before
+// the reply is written.
 fn take_turn<S: Store, R: Source, I: Message, W: Write, P: TreeProgress>(
     signer: &mut Signer<S, R>,
     reader: &mut I,
@@ -105,7 +106,17 @@ fn take_turn<S: Store, R: Source, I: Message, W: Write, P: TreeProgress>(
             return Err(fault);
         }
     };
-    let ((_, is_whole), written) = answer(signer, reader, writer, &head, signature, progress);
+    let mut message = NextBytes {
+        input: reader,
+        left: head.announced,
+    };
+    let name = head.name.as_slice();
+    let reply = ask(signer, name, &mut message, signature, progress);
+    let is_whole = finish(&mut message, &reply);
+    let written = write_answer(&message, writer, &reply, signature);
+    let NextBytes { input, .. } = message;
+    // For the prover: this use tells what was read.
+    let _ = &*input;
     written?;
     if !is_whole {
         return Err(ServeFault::MessageRead);
@@ -113,51 +124,11 @@ fn take_turn<S: Store, R: Source, I: Message, W: Write, P: TreeProgress>(
     Ok(true)
 }
 
-// Answers a request after its head, and reads its message as far as it comes: false where that isn't all of it. Then it
-// writes the reply.
-fn answer<S: Store, R: Source, I: Message, W: Write, P: TreeProgress>(
-    signer: &mut Signer<S, R>,
-    reader: &mut I,
-    writer: &mut W,
-    head: &Head,
-    signature: &mut Vec<u8>,
-    progress: &P,
-) -> ((Reply, bool), Result<(), ServeFault>)
-    ensures frame { AnswersFrame S.Store R.Source I.Message (said_by head.now) signer.old signer.new reader.old
-        reader.new (vec_capacity signature.old) (vec_capacity signature.new) signature.new.items result.0 }
-    ensures written { WritesReply (reply_bytes result.0.0 signature.new.items) (W.contents writer.old)
-        (W.contents writer.new) result.1 }
-{
-    let mut message = FrameMessage {
-        input: reader,
-        left: size_of(head.announced),
-    };
-    let name = head.name.as_slice();
-    let reply = ask(signer, name, &mut message, signature, progress);
-    let is_whole = finish(&mut message, &reply);
-    let written = write_answer(&message, writer, &reply, signature);
-    let FrameMessage { input, .. } = message;
-    // For the prover: this use tells what was read.
-    let _ = &*input;
-    ((reply, is_whole), written)
-}
-
-// For the prover: the same size, which is one of four bytes.
-fn size_of(announced: u32) -> u32
-    ensures same { result ≡ announced }
-    ensures range { result < 2 ^ 32 }
-{
-    announced
-}
-
 // Reads the rest of a message after this reply; false where it can't be read.
 fn finish<M: Message>(message: &mut M, reply: &Reply) -> bool
     ensures { Finishes M.Message (is_unread reply.now) message.old message.new result }
 {
-    if matches!(reply, Reply::Refused(SignFault::MessageRead)) {
-        return false;
-    }
-    skip(message).is_ok()
+    !matches!(reply, Reply::Refused(SignFault::MessageRead)) && discard(message).is_ok()
 }
 
 // Asks the signer to sign a message, if the bytes are a name.

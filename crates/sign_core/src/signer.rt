@@ -85,11 +85,7 @@ fn draw_secret<R: Source>(spec: &Spec, random: &mut R) -> Result<Secret, SignFau
     ensures spec { OnOk result (IsSpec spec.now) }
 {
     match spec {
-        Spec::Lms(pair) => Ok(Secret::Lms(LmsSecret {
-            pair: *pair,
-            identifier: draw(random)?,
-            seed: draw(random)?,
-        })),
+        Spec::Lms(pair) => Ok(Secret::Lms(LmsSecret::new(*pair, draw(random)?, draw(random)?))),
         Spec::Hss(levels) => Ok(Secret::Hss {
             levels: levels.copied(),
             identifier: draw(random)?,
@@ -162,18 +158,6 @@ fn load_at<S: Store>(store: &mut S, slot: u32) -> Result<Option<Record>, SignFau
     }
 }
 
-fn load_key<S: Store>(store: &mut S) -> Result<Key, SignFault>
-    ensures loads { IfOk result (λ key. LoadsRecord S.Store store.old store.new 0 (Ok (Some (KeyRecord key)))) }
-    ensures sizes { IfOk result (λ key. HasSizes (KeyRecord key)) }
-    ensures refuses { IfErr result (λ fault. LoadsAll S.Store store.old store.new (IsTakenUp (Err fault))) }
-{
-    match load_at(store, 0)? {
-        Some(Record::Key(key)) => Ok(key),
-        Some(_) => Err(SignFault::Illegal(0)),
-        None => Err(SignFault::NoKey),
-    }
-}
-
 // Takes up the next loaded record: 44 where it can't follow, else 46.
 fn take_up(ledger: &mut Ledger, entry: &Record) -> Result<(), SignFault>
     ensures { TakesUpLoaded ledger.old ledger.new entry.now result }
@@ -189,7 +173,12 @@ fn load_all<S: Store>(alloc: Global, store: &mut S) -> Result<Ledger, SignFault>
     ensures loads { LoadsAll S.Store store.old store.new (IsTakenUp result) }
     ensures tied { IfOk result (λ table. IsTied S.Store store.new table.records) }
 {
-    let mut ledger = Ledger::new(alloc, load_key(store)?);
+    let key = match load_at(store, 0)? {
+        Some(Record::Key(key)) => key,
+        Some(_) => return Err(SignFault::Illegal(0)),
+        None => return Err(SignFault::NoKey),
+    };
+    let mut ledger = Ledger::new(alloc, key);
     for slot in 1..store.limit() {
         match load_at(store, slot)? {
             Some(entry) => take_up(&mut ledger, &entry)?,
@@ -306,13 +295,11 @@ impl<S: Store, R: Source> Signer<S, R> {
         ensures stays { OnOk result (has_moved self.now.records ≡ false) }
         ensures refused { IfErr result (λ fault. Hinders self.now.is_open (has_moved self.now.records) fault) }
     {
-        if !self.is_open {
-            return Err(SignFault::Stopped);
+        match (self.is_open, self.ledger.has_moved()) {
+            (false, _) => Err(SignFault::Stopped),
+            (true, true) => Err(SignFault::Moved),
+            (true, false) => Ok(()),
         }
-        if self.ledger.has_moved() {
-            return Err(SignFault::Moved);
-        }
-        Ok(())
     }
 
     fn add(&mut self, entry: Record) -> Result<(), SignFault>
@@ -371,7 +358,6 @@ impl<S: Store, R: Source + Drop> Signer<S, R> {
     pub fn into_store(self) -> S
         ensures { result ≡ self.store }
     {
-        let Signer { store, .. } = self;
-        store
+        self.store
     }
 }

@@ -37,8 +37,7 @@ impl CurrentTrees {
         requires { level < 8 }
         ensures { result ≡ kept_at self.now.levels level }
     {
-        let levels = &self.levels[..];
-        levels[level]
+        self.levels[level]
     }
 
     /// The place of a level's tree; 0 where it has none.

@@ -46,11 +46,6 @@ ReadsHead m old new (Err FrameCut) =
 ReadsHead m old new (Err MessageRead) = (bytes : List ℕ) × CutsField head bytes × ReadsInput m bytes broken old new
 ReadsHead m old new (Err WriteFailed) = ⊥
 
--- The rest of a message was read; or it can't be.
-abbrev pub Skips : {M A E : Type 0} → message.Ghosts M → (old new : M) → Result A E → Type 0
-Skips m old new (Ok _) = (text : List ℕ) × ReadWhole m.transition m.remaining text old new
-Skips m old new (Err _) = CantBeRead m.transition old new
-
 -- The message was read to its end, or counts as one that can't be read.
 abbrev pub WasReadOrFailed : {M : Type 0} → message.Ghosts M → M → Type 0
 WasReadOrFailed {M} m now =

@@ -15,7 +15,6 @@ use Rattle.sign_core.specs.declared.fault.SignFault.{SignFault}
 use Rattle.sign_core.specs.declared.fault.SignFault.TheVariants.{RandomFailed, RandomRepeated}
 use Rattle.sign_core.specs.declared.source.Source as source
 use Rattle.hss.specs.declared.secret.Level.{Level}
-use Rattle.sign_core.specs.declared.signer.bind.TreeSeeds.{TreeSeeds}
 use Rattle.sign_core.specs.Source.{Provides}
 use Rattle.sign_core.specs.Records.{binding_in, free_at, has_identifier, has_moved, has_randomizer, is_long, key_in}
 use Rattle.sign_core.specs.inner.Links.{signings_of, signing_of_bound}
@@ -30,6 +29,7 @@ use Rattle.sign_core.specs.inner.Cases.{requested_of}
 use Rattle.sign_core.specs.Textbook.{Trees, damaged_in, signature_at, signature_by}
 use Rattle.sign_core.specs.Textbook.{signings_above}
 use Rattle.sign_core.specs.Textbook.{tree_before, trees_of}
+use Rattle.typecodes.specs.declared.secret.LmsSecret.{LmsSecret}
 use Rattle.typecodes.specs.declared.types.LmsPair.{LmsPair}
 use Rattle.sign_core.specs.declared.ledger.Binding.{Binding}
 use Rattle.sign_core.specs.Caches.{Cached, LacksCache}
@@ -61,22 +61,23 @@ pub record CanBind {S R : Type 0} (most wanted : ℕ) (name : List ℕ) (size : 
   pub fits : UnderKey view.records (λ key. is_long key name ≡ false)
   pub room : UnderKey view.records (λ key. size ≡ signature_size key.secret)
 
--- The draws of a new tree: an I that no record has, SEED and C; or the source failed after some fields; or a record has
--- the I.
-abbrev pub DrawsTree : List Record → (failures_before failures_after : ℕ) (upcoming left : Option (List ℕ))
-    → Result TreeSeeds SignFault → Type 0
-DrawsTree records before after upcoming left (Ok seeds) = (after ≡ before)
-    × Provides upcoming (seeds.identifier ++ (seeds.seed ++ seeds.randomizer)) left
-    × AreFields tree_sizes (seeds.identifier ∷ seeds.seed ∷ seeds.randomizer ∷ [])
-    × (has_identifier records seeds.identifier ≡ false)
-DrawsTree records before after upcoming left (Err RandomFailed) = (fields : List (List ℕ))
+-- The draws of a new tree of these types: an I that no record has, SEED and C; or the source failed after some fields;
+-- or a record has the I.
+abbrev pub DrawsTree : LmsPair → List Record → (failures_before failures_after : ℕ) (upcoming left : Option (List ℕ))
+    → Result (LmsSecret × List ℕ) SignFault → Type 0
+DrawsTree pair records before after upcoming left (Ok (secret, randomizer)) = (after ≡ before)
+    × Provides upcoming (secret.identifier ++ (secret.seed ++ randomizer)) left
+    × AreFields tree_sizes (secret.identifier ∷ secret.seed ∷ randomizer ∷ [])
+    × (has_identifier records secret.identifier ≡ false)
+    × (secret.pair ≡ pair)
+DrawsTree pair records before after upcoming left (Err RandomFailed) = (fields : List (List ℕ))
     × (after ≡ before + 1) × Provides upcoming (concat fields) left × AreFields tree_sizes fields
     × (length fields < 3)
     × ((first : List ℕ) (rest : List (List ℕ)) → fields ≡ first ∷ rest → has_identifier records first ≡ false)
-DrawsTree records before after upcoming left (Err RandomRepeated) = (identifier : List ℕ)
+DrawsTree pair records before after upcoming left (Err RandomRepeated) = (identifier : List ℕ)
     × (after ≡ before) × Provides upcoming identifier left × AreFields tree_sizes (identifier ∷ [])
     × (has_identifier records identifier ≡ true)
-DrawsTree records before after upcoming left (Err _) = ⊥
+DrawsTree pair records before after upcoming left (Err _) = ⊥
 
 -- C for a binding was drawn, or the zeros of XMSS, for which nothing is drawn.
 pub record IsRandomizer (secret : Secret) (before after : ℕ) (upcoming left : Option (List ℕ)) (randomizer : List ℕ)

@@ -5,33 +5,31 @@ ghost use Rattle.std.specs.Prelude.{◌+◌, OnOk};
 ghost use Rattle.state_file.specs.Laws.{levels_of, bottom_of};
 ghost use Rattle.sign_core.specs.Records.{binding_in, free_at, has_moved, is_long};
 ghost use Rattle.sign_core.specs.inner.Request.{Prepares};
-ghost use Rattle.sign_core.specs.inner.Signing.{BindsBelow, BindsNext, CanBind, DrawsRandomizer, DrawsTree, Extends};
+ghost use Rattle.sign_core.specs.inner.Signing.{BindsBelow, BindsNext, CanBind, DrawsTree, Extends};
 ghost use Rattle.sign_core.specs.inner.Signing.{IsReady, Stands};
 ghost use Rattle.sign_core.specs.Signing.{KeepsCapacity, UnderKey, answered_with};
 
 use super::Signer;
 use crate::caches::TreeRequest;
 use crate::fault::SignFault;
-use crate::key_trees::{SecretTrees, key_digest};
+use crate::key_trees::SecretTrees;
 use crate::ledger::{Binding, Ledger};
 use crate::progress::TreeProgress;
 use crate::source::{Source, draw};
 use crate::writing::make_room;
+use lmots::LmOts;
 use lms::LmsPublic;
 use state_file::{Bound, Extend, Record, Store};
-use typecodes::{LmsSecret, Message, Name};
+use typecodes::{LmsPair, LmsSecret, Message, Name};
 
-/// What a new tree draws: I and SEED, and C for the leaf that signs it.
-#[derive(Clone, Copy)]
-pub(crate) struct TreeSeeds {
-    pub(crate) identifier: [u8; 16],
-    pub(crate) seed: [u8; 32],
-    pub(crate) randomizer: [u8; 32],
-}
-
-// Draws for a new tree: I, which the records must not have yet (24), and then SEED and C.
-fn draw_tree<R: Source>(random: &mut R, ledger: &Ledger) -> Result<TreeSeeds, SignFault>
-    ensures { DrawsTree ledger.now.records (R.failures random.old) (R.failures random.new)
+// Draws for a new tree of these types: I, which the records must not have yet (24), and SEED; and C for the leaf that
+// signs it.
+fn draw_tree<R: Source>(
+    pair: LmsPair,
+    random: &mut R,
+    ledger: &Ledger,
+) -> Result<(LmsSecret, [u8; 32]), SignFault>
+    ensures { DrawsTree pair ledger.now.records (R.failures random.old) (R.failures random.new)
         (R.upcoming random.old) (R.upcoming random.new) result }
 {
     let identifier = draw::<R, 16>(random)?;
@@ -40,27 +38,7 @@ fn draw_tree<R: Source>(random: &mut R, ledger: &Ledger) -> Result<TreeSeeds, Si
     }
     let seed = draw::<R, 32>(random)?;
     let randomizer = draw::<R, 32>(random)?;
-    Ok(TreeSeeds {
-        identifier,
-        seed,
-        randomizer,
-    })
-}
-
-impl SecretTrees {
-    ghost use Rattle.state_file.specs.declared.record.Secret.{Secret};
-    ghost use Rattle.sign_core.specs.inner.Links.{MakesTrees};
-
-    // C for a binding. Under XMSS nothing is drawn, and zeros are recorded.
-    fn draw_randomizer<R: Source>(&self, random: &mut R) -> Result<[u8; 32], SignFault>
-        ensures { (secret : Secret) → MakesTrees secret self.now → DrawsRandomizer secret (R.failures random.old)
-            (R.failures random.new) (R.upcoming random.old) (R.upcoming random.new) result }
-    {
-        match self {
-            SecretTrees::Chain(_) => draw(random),
-            SecretTrees::Xmss(_) => Ok([0; 32]),
-        }
-    }
+    Ok((LmsSecret::new(pair, identifier, seed), randomizer))
 }
 
 impl<S: Store, R: Source> Signer<S, R> {
@@ -117,31 +95,20 @@ impl<S: Store, R: Source> Signer<S, R> {
             unreachable!()
         };
         let below = level + 1;
-        let TreeSeeds {
-            identifier,
-            seed,
-            randomizer,
-        } = draw_tree(&mut self.random, &self.ledger)?;
         let pair = chain.pair(below);
-        let secret = LmsSecret {
-            pair,
-            identifier,
-            seed,
-        };
-        let asked = TreeRequest::new(below, secret, 0, progress);
-        let root = self.caches.begin(asked)?;
-        let public = LmsPublic {
-            pair,
-            identifier,
-            root,
-        };
-        let parent_identifier = chain.secret_at(&self.ledger, parent.place).identifier;
-        let digest = key_digest(parent_identifier, parent.next, &randomizer, &public);
+        let (secret, randomizer) = draw_tree(pair, &mut self.random, &self.ledger)?;
+        let root = self
+            .caches
+            .begin(TreeRequest::new(below, secret, 0, progress))?;
+        let public = LmsPublic::of(&secret, root).to_bytes();
+        let identifier = chain.secret_at(&self.ledger, parent.place).identifier;
+        let leaf = parent.next;
+        let digest = LmOts { identifier, leaf }.message_digest(&randomizer, &public);
         self.add(Record::Extend(Extend {
             level: below,
-            parent_leaf: parent.next,
-            identifier,
-            seed,
+            parent_leaf: leaf,
+            identifier: secret.identifier,
+            seed: secret.seed,
             randomizer,
             digest,
             root,

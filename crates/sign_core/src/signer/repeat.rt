@@ -56,11 +56,7 @@ impl SecretTrees {
                 let level = key.secret.levels() - 1;
                 let mut above = ArrayVec::new();
                 let tree = trees.chain_to(ledger, caches, level, tree, leaf, &mut above, progress)?;
-                let last = Level {
-                    tree,
-                    randomizer: binding.randomizer,
-                    digest,
-                };
+                let last = Level::new(tree, binding.randomizer, digest);
                 write_chain(&key.secret, &above, &last, out);
                 Ok(())
             }

@@ -9,13 +9,14 @@ ghost use Rattle.sign_core.specs.Records.{binding_in, is_long};
 ghost use Rattle.sign_core.specs.Signer.{KeepsForRepeat, Signs, is_before_repeat, is_fault};
 ghost use Rattle.sign_core.specs.Signing.{IsXmssKey, KeepsCapacity, UnderKey, answered_with};
 ghost use Rattle.typecodes.specs.Message.{Digests};
+ghost use Rattle.sign_core.specs.inner.Signing.{DrawsRandomizer};
 
 use super::Signer;
 use crate::fault::SignFault;
 use crate::key_trees::SecretTrees;
 use crate::ledger::Ledger;
 use crate::progress::TreeProgress;
-use crate::source::Source;
+use crate::source::{Source, draw};
 use lmots::LmOts;
 use merkle::Silent;
 use state_file::Store;
@@ -25,6 +26,7 @@ use xmss::message_digest_from;
 impl SecretTrees {
     ghost use Rattle.std.specs.Prelude.{ℕ};
     ghost use Rattle.state_file.specs.Laws.{bottom_of};
+    ghost use Rattle.state_file.specs.declared.record.Secret.{Secret};
     ghost use Rattle.sign_core.specs.Textbook.{digest_at, tree_before};
     ghost use Rattle.sign_core.specs.inner.Links.{MakesTrees};
 
@@ -44,19 +46,27 @@ impl SecretTrees {
         ensures fault { IfErr result (λ fault. fault ≡ SignFault.MessageRead) }
     {
         let key = ledger.key();
-        match self {
+        let digest = match self {
             SecretTrees::Chain(trees) => {
                 let identifier = trees.secret_at(ledger, place).identifier;
-                LmOts { identifier, leaf }
-                    .message_digest_from(randomizer, message)
-                    .map_err(|_| SignFault::MessageRead)
+                LmOts { identifier, leaf }.message_digest_from(randomizer, message)
             }
             SecretTrees::Xmss(secret) => {
                 let randomizer = xmss::randomizer(secret, leaf);
-                message_digest_from(&randomizer, &key.root, leaf, message).map_err(
-                    |_| SignFault::MessageRead,
-                )
+                message_digest_from(&randomizer, &key.root, leaf, message)
             }
+        };
+        digest.map_err(|_| SignFault::MessageRead)
+    }
+
+    // C for a binding. Under XMSS nothing is drawn, and zeros are recorded.
+    pub(super) fn draw_randomizer<R: Source>(&self, random: &mut R) -> Result<[u8; 32], SignFault>
+        ensures { (secret : Secret) → MakesTrees secret self.now → DrawsRandomizer secret (R.failures random.old)
+            (R.failures random.new) (R.upcoming random.old) (R.upcoming random.new) result }
+    {
+        match self {
+            SecretTrees::Chain(_) => draw(random),
+            SecretTrees::Xmss(_) => Ok([0; 32]),
         }
     }
 }
@@ -163,7 +173,7 @@ impl<S: Store, R: Source> Signer<S, R> {
             // 27, 21, 29, 28
             return self.repeat(&binding, message, out, progress);
         }
-        if self.is_long(name) {
+        if name.as_bytes().len() > usize::from(self.ledger.key().version.name_most()) {
             return Err(SignFault::LongName);
         }
         let level = self.ledger.deepest().ok_or(SignFault::Exhausted)?;
@@ -176,12 +186,5 @@ impl<S: Store, R: Source> Signer<S, R> {
             .map_err(SignFault::Damaged)?;
         // 23, 24, 29 and 25 for each tree; 23, 27, 25
         self.bind_below(level, name, message, out, progress)
-    }
-
-    // Whether a name is longer than a file of the key's version can hold.
-    fn is_long(&self, name: &Name) -> bool
-        ensures { UnderKey self.now.records (λ key. result ≡ is_long key name.now) }
-    {
-        name.as_bytes().len() > usize::from(self.ledger.key().version.name_most())
     }
 }

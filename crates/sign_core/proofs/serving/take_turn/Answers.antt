@@ -1,7 +1,9 @@
 use Rattle.std.proofs.Common.{rules, ◌≡◌, Err, Ok, Some, refl, subst}
-use Rattle.sign_core.specs.inner.Frames.{ReadsHead}
+use Rattle.std.specs.Io.KnownBytes.{Appends}
+use Rattle.sign_core.specs.inner.Frames.{ReadsHead, said_by}
 use Rattle.sign_core.specs.inner.Serving.{WritesReply}
-use Rattle.sign_core.proofs.Exchanges.{frame_cut, frame_goes, frame_lost, head_failed, head_lost}
+use Rattle.sign_core.specs.Serving.{reply_bytes}
+use Rattle.sign_core.proofs.Exchanges.{after_answer, answered_at, answered_frame, asks_stays, finish_stays, frame_cut, frame_goes, frame_lost, head_failed, head_lost}
 use Rattle.sign_core.proofs.serving.take_turn.Goals as goal
 
 pub returns-in_err-write_reply-in-Err : goal.returns-in_err-write_reply-in-Err
@@ -13,30 +15,55 @@ pub returns-in-Err : goal.returns-in-Err
 returns-in-Err g c =
     head_failed g.S.Store g.R.Source g.I.Message _ _ _ _ _ _ c.in-Err.fault c.number.result c.number.ensures c.in-Err.ensures c.in_ok-write_reply-in-Err.ensures
 
+pub write_answer-written-requires : goal.write_answer-written-requires
+write_answer-written-requires g c =
+    after_answer g.S.Store g.R.Source _ _ _ _ _ _ _ _ _ c.finish-is_whole.result c.ask-reply.result c.ask-reply.ensures.asks c.finish-is_whole.ensures
+
 pub returns-in_err-written : goal.returns-in_err-written
 returns-in_err-written g c =
     let answer : c.from_residual-in_err-written.result ≡ Err c.in_err-written.field-0.0 = search rules in
-    let lost : c.answer-is_whole.result.1 ≡ Err c.in_err-written.field-0.0 = search rules in
     let reads : ReadsHead g.I.Message c.args.reader.now c.read_head.new.input (Ok (Some c.in-Ok-Some.head)) =
     subst (λ found. ReadsHead g.I.Message c.args.reader.now c.read_head.new.input (Ok found)) c.in-Ok-Some.field-0-is c.in-Ok-Some.ensures in
-    frame_lost g.S.Store g.R.Source g.I.Message c.in-Ok-Some.head _ _ _ _ _ _ _ _ c.answer-is_whole.new.signature.items c.answer-is_whole.result.0.0
-    c.answer-is_whole.result.0.1 _ _ refl reads c.answer-is_whole.ensures.frame c.in_err-written.field-0.0 _ answer
-    (subst (WritesReply _ _ _) lost c.answer-is_whole.ensures.written)
+    let same_request = asks_stays _ (λ part. part.input.ghost_name) (λ old outcome new step. step.0) _ _ _ _ _ _ _ _ _ _ c.ask-reply.ensures.asks in
+    let finished = finish_stays (record { remaining = _; transition = _; request = λ old room outcome new. Unit {0} }) (λ part. part.input.ghost_name)
+    (λ old outcome new step. step.0) _ _ _ _ c.finish-is_whole.ensures in
+    let part = answered_frame g.S.Store g.R.Source _ g.I.Message (λ part. part.input.now) (λ part. part.left) (record { part = λ old outcome new step. step.1 })
+    _ _ _ _ _ _ _ _ c.ask-reply.result c.finish-is_whole.result _ (search rules) c.ask-reply.ensures.capacity c.ask-reply.ensures.asks c.finish-is_whole.ensures in
+    let frame = answered_at g.S.Store g.R.Source g.I.Message (said_by c.in-Ok-Some.head) _ _ _ _ _ c.finish-is_whole.new.message.input.now _ _ _ _ _
+    c.as_slice-name.ensures.value refl (search rules) part in
+    frame_lost g.S.Store g.R.Source g.I.Message c.in-Ok-Some.head _ _ _ _ _ _ _ _ c.ask-reply.new.signature.items c.ask-reply.result
+    c.finish-is_whole.result _ _ refl reads frame c.in_err-written.field-0.0 _ answer
+    (subst (λ bytes. WritesReply (reply_bytes c.ask-reply.result bytes) (g.W.Write.contents c.args.writer.now) (g.W.Write.contents c.write_answer-written.new.writer)
+    (Err c.in_err-written.field-0.0)) c.deref.ensures.value c.in_err-written.ensures)
 
 pub returns-then-not-is_whole : goal.returns-then-not-is_whole
 returns-then-not-is_whole g c =
-    let done : c.answer-is_whole.result.1 ≡ Ok c.in_ok-written.field-0 = search rules in
     let reads : ReadsHead g.I.Message c.args.reader.now c.read_head.new.input (Ok (Some c.in-Ok-Some.head)) =
     subst (λ found. ReadsHead g.I.Message c.args.reader.now c.read_head.new.input (Ok found)) c.in-Ok-Some.field-0-is c.in-Ok-Some.ensures in
-    frame_cut g.S.Store g.R.Source g.I.Message c.in-Ok-Some.head _ _ _ _ _ _ _ _ c.answer-is_whole.new.signature.items c.answer-is_whole.result.0.0
-    c.answer-is_whole.result.0.1 _ _ refl reads c.answer-is_whole.ensures.frame (search rules)
-    (subst (WritesReply _ _ _) done c.answer-is_whole.ensures.written)
+    let same_request = asks_stays _ (λ part. part.input.ghost_name) (λ old outcome new step. step.0) _ _ _ _ _ _ _ _ _ _ c.ask-reply.ensures.asks in
+    let finished = finish_stays (record { remaining = _; transition = _; request = λ old room outcome new. Unit {0} }) (λ part. part.input.ghost_name)
+    (λ old outcome new step. step.0) _ _ _ _ c.finish-is_whole.ensures in
+    let part = answered_frame g.S.Store g.R.Source _ g.I.Message (λ part. part.input.now) (λ part. part.left) (record { part = λ old outcome new step. step.1 })
+    _ _ _ _ _ _ _ _ c.ask-reply.result c.finish-is_whole.result _ (search rules) c.ask-reply.ensures.capacity c.ask-reply.ensures.asks c.finish-is_whole.ensures in
+    let frame = answered_at g.S.Store g.R.Source g.I.Message (said_by c.in-Ok-Some.head) _ _ _ _ _ c.finish-is_whole.new.message.input.now _ _ _ _ _
+    c.as_slice-name.ensures.value refl (search rules) part in
+    frame_cut g.S.Store g.R.Source g.I.Message c.in-Ok-Some.head _ _ _ _ _ _ _ _ c.ask-reply.new.signature.items c.ask-reply.result
+    c.finish-is_whole.result _ _ refl reads frame (search rules)
+    (subst (λ bytes. Appends (g.W.Write.contents c.args.writer.now) (g.W.Write.contents c.write_answer-written.new.writer)
+    (reply_bytes c.ask-reply.result bytes)) c.deref.ensures.value c.in_ok-written.ensures)
 
 pub returns : goal.returns
 returns g c =
-    let done : c.answer-is_whole.result.1 ≡ Ok c.in_ok-written.field-0 = search rules in
     let reads : ReadsHead g.I.Message c.args.reader.now c.read_head.new.input (Ok (Some c.in-Ok-Some.head)) =
     subst (λ found. ReadsHead g.I.Message c.args.reader.now c.read_head.new.input (Ok found)) c.in-Ok-Some.field-0-is c.in-Ok-Some.ensures in
-    frame_goes g.S.Store g.R.Source g.I.Message c.in-Ok-Some.head _ _ _ _ _ _ _ _ c.answer-is_whole.new.signature.items c.answer-is_whole.result.0.0
-    c.answer-is_whole.result.0.1 _ _ refl reads c.answer-is_whole.ensures.frame (search rules)
-    (subst (WritesReply _ _ _) done c.answer-is_whole.ensures.written)
+    let same_request = asks_stays _ (λ part. part.input.ghost_name) (λ old outcome new step. step.0) _ _ _ _ _ _ _ _ _ _ c.ask-reply.ensures.asks in
+    let finished = finish_stays (record { remaining = _; transition = _; request = λ old room outcome new. Unit {0} }) (λ part. part.input.ghost_name)
+    (λ old outcome new step. step.0) _ _ _ _ c.finish-is_whole.ensures in
+    let part = answered_frame g.S.Store g.R.Source _ g.I.Message (λ part. part.input.now) (λ part. part.left) (record { part = λ old outcome new step. step.1 })
+    _ _ _ _ _ _ _ _ c.ask-reply.result c.finish-is_whole.result _ (search rules) c.ask-reply.ensures.capacity c.ask-reply.ensures.asks c.finish-is_whole.ensures in
+    let frame = answered_at g.S.Store g.R.Source g.I.Message (said_by c.in-Ok-Some.head) _ _ _ _ _ c.finish-is_whole.new.message.input.now _ _ _ _ _
+    c.as_slice-name.ensures.value refl (search rules) part in
+    frame_goes g.S.Store g.R.Source g.I.Message c.in-Ok-Some.head _ _ _ _ _ _ _ _ c.ask-reply.new.signature.items c.ask-reply.result
+    c.finish-is_whole.result _ _ refl reads frame (search rules)
+    (subst (λ bytes. Appends (g.W.Write.contents c.args.writer.now) (g.W.Write.contents c.write_answer-written.new.writer)
+    (reply_bytes c.ask-reply.result bytes)) c.deref.ensures.value c.in_ok-written.ensures)

@@ -1,4 +1,4 @@
-use Rattle.std.proofs.Common.{rules, ◌≡◌, [], ◌∷◌, Ok, Err, refl, sym}
+use Rattle.std.proofs.Common.{rules, ◌≡◌, [], ◌∷◌, Ok, Err, refl, sym, ap}
 use Rattle.typecodes.specs.declared.spec.Spec.TheVariants.{Lms, Hss, Xmss}
 use Rattle.state_file.specs.declared.record.Secret.TheVariants as secret
 use Rattle.sign_core.proofs.Drawing.{all_drawn, draw_stops, draws_along, more_drawn, none_drawn}
@@ -20,7 +20,7 @@ returns-in_ok-draw-in-Lms-2-clause-draws g c =
     c.in_ok-draw-in-Lms.ensures.drawn in
     let drawn_2 = more_drawn r c.args.random.now c.draw.new.random c.draw-in-Lms.new.random (c.in_ok-draw-in-Lms.field-0 ∷ []) c.in_ok-draw-in-Lms-2.field-0 drawn_1
     c.in_ok-draw-in-Lms-2.ensures.drawn in
-    draws_along r _ _ (Lms c.in-Lms.pair) _ _ _ (sym c.in-Lms.is) refl
+    draws_along r _ _ (Lms c.in-Lms.pair) _ _ _ (sym c.in-Lms.is) (ap (λ own. Ok (secret.Lms own)) (sym c.new.ensures))
     (all_drawn r (Lms c.in-Lms.pair) _ _ _ _ drawn_2 (c.in_ok-draw-in-Lms.ensures.field.0, c.in_ok-draw-in-Lms.ensures.field.1, (c.in_ok-draw-in-Lms-2.ensures.field.0, c.in_ok-draw-in-Lms-2.ensures.field.1, tt)) refl)
 
 pub returns-in_err-draw-in-Hss-2-clause-draws : goal.returns-in_err-draw-in-Hss-2-clause-draws

@@ -1,4 +1,4 @@
-use Rattle.std.proofs.Common.{rules, ◌≡◌, ◌∙◌, Some, ap, subst, sym, arith}
+use Rattle.std.proofs.Common.{rules, ◌≡◌, ◌∙◌, [], ◌∷◌, ◌++◌, Some, ap, subst, sym, arith}
 use Rattle.sign_core.specs.inner.Links.{trees_in}
 use Rattle.sign_core.specs.Textbook.{damaged_in}
 use Rattle.sign_core.proofs.LinkParts.{IsUnder, Reaches, chain_damaged_above, is_under, reaches_below, reaches_top}
@@ -48,7 +48,8 @@ reached g t c =
     elim c.match-made.branch [
       | in-Some+in_ok-tree w ↦
           let chain = w.in_ok-tree.ensures in
-          subst (Reaches l.key T l.records a.level a.place a.above.now.items) (sym w.push.ensures.items ∙ ap (λ xs. xs.items) (sym w.above-is))
+          subst (Reaches l.key T l.records a.level a.place a.above.now.items) (ap (λ last. w.chain_to.new.above.items ++ last ∷ []) (sym w.new.ensures)
+          ∙ sym w.push.ensures.items ∙ ap (λ xs. xs.items) (sym w.above-is))
           (reaches_below l.key T l.records a.level a.place w.in-Some.made a.above.now.items w.chain_to.new.above.items w.in_ok-tree.tree
           (is_under l.key T l.records a.level a.place w.in-Some.made r.legal r.keyed r.trees r.stands (sym c.made.ensures ∙ w.in-Some.is))
           chain.sound chain.signings chain.len chain.made chain.tree)

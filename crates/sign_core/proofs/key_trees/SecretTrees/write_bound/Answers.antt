@@ -9,7 +9,7 @@ use Rattle.xmss.specs.Secret.{path_in}
 use Rattle.state_file.specs.declared.record.Secret.TheVariants.{Xmss}
 use Rattle.sign_core.specs.Signer.{signature_size}
 use Rattle.sign_core.specs.inner.Links.{AreMade, IsTreeAt, MakesTrees, signings_of, trees_in}
-use Rattle.sign_core.specs.inner.Signing.{WritesChain}
+use Rattle.sign_core.specs.inner.Signing.{WritesChain, pairs_of}
 use Rattle.sign_core.specs.Textbook.{damaged_in, signings_above, trees_of}
 use Rattle.sign_core.proofs.ChainParts.{links_pairs}
 use Rattle.sign_core.proofs.LedgerReading.{key_levels}
@@ -55,8 +55,9 @@ pub write_chain-requires-clause-made : goal.write_chain-requires-clause-made
 write_chain-requires-clause-made g c =
     let made = c.in_ok-tree-in-Chain.ensures.made (subst AreMade (sym c.new-above.ensures) none_made) in
     let bottom : Level = record { tree = c.in_ok-tree-in-Chain.tree; randomizer = c.args.binding.now.randomizer; digest = c.args.binding.now.digest } in
-    subst (λ (l : List Level). AreMade (l ++ bottom ∷ [])) (sym c.deref.ensures.0)
-    (more_made c.chain_to.new.above.items bottom made c.in_ok-tree-in-Chain.ensures.tree.made)
+    subst (λ (last : Level). AreMade (c.deref.result.now ++ last ∷ [])) (sym c.new-last.ensures)
+    (subst (λ (l : List Level). AreMade (l ++ bottom ∷ [])) (sym c.deref.ensures.0)
+    (more_made c.chain_to.new.above.items bottom made c.in_ok-tree-in-Chain.ensures.tree.made))
 
 pub write_chain-requires-clause-few : goal.write_chain-requires-clause-few
 write_chain-requires-clause-few g c =
@@ -81,11 +82,12 @@ write_chain-requires-clause-pairs g c other others =
     (subst (MakesTrees c.args.ledger.now.key.secret) c.in-Chain.is c.requires.trees) in
     let (name, kept) = c.requires.kept own c.key-key.ensures.first in
     let bottom : Level = record { tree = c.in_ok-tree-in-Chain.tree; randomizer = c.args.binding.now.randomizer; digest = c.args.binding.now.digest } in
-    links_pairs L own T other (c.levels-level.result - 1) c.args.binding.now.tree (c.deref.result.now ++ bottom ∷ []) _ c.key-key.ensures.legal c.key-key.ensures.first these others
+    subst (λ (last : Level). pairs_of (c.deref.result.now ++ last ∷ []) ≡ other.pairs) (sym c.new-last.ensures)
+    (links_pairs L own T other (c.levels-level.result - 1) c.args.binding.now.tree (c.deref.result.now ++ bottom ∷ []) _ c.key-key.ensures.legal c.key-key.ensures.first these others
     (bound_chain own T L name c.args.binding.now c.key-key.ensures.legal c.key-key.ensures.first these kept).0 (ap (λ n. n - 1) c.levels-level.ensures)
     (links_signs c.deref.result.now bottom _ (ap signings_of c.deref.ensures.0 ∙ c.in_ok-tree-in-Chain.ensures.signings
     ∙ ap (λ (l : List Level). signings_of l ++ signings_above T (c.levels-level.result - 1) L c.args.binding.now.tree) c.new-above.ensures))
-    c.in_ok-tree-in-Chain.ensures.tree.secret_is
+    c.in_ok-tree-in-Chain.ensures.tree.secret_is)
 
 pub returns-in_err-tree-in-Chain-clause-damaged : goal.returns-in_err-tree-in-Chain-clause-damaged
 returns-in_err-tree-in-Chain-clause-damaged g c =
@@ -112,7 +114,9 @@ returns-in_ok-tree-in-Chain-clause-signature g c k bound is =
     let signs = links_signs c.deref.result.now bottom above (ap signings_of c.deref.ensures.0 ∙ c.in_ok-tree-in-Chain.ensures.signings
     ∙ ap (λ (l : List Level). signings_of l ++ above) c.new-above.ensures)
     ∙ ap (λ s. above ++ s ∷ []) (tree_signs c.in_ok-tree-in-Chain.tree _ _ b.randomizer b.digest c.in_ok-tree-in-Chain.ensures.tree) in
-    subst (λ (k : Key). WritesChain k.secret (c.deref.result.now ++ bottom ∷ []) c.write_chain.new.into) c.key-key.ensures.key c.write_chain.ensures T l.records k bound
+    subst (λ (k : Key). WritesChain k.secret (c.deref.result.now ++ bottom ∷ []) c.write_chain.new.into) c.key-key.ensures.key
+    (subst (λ (last : Level). WritesChain c.key-key.result.now.secret (c.deref.result.now ++ last ∷ []) c.write_chain.new.into) c.new-last.ensures c.write_chain.ensures)
+    T l.records k bound
     (l.key, c.key-key.ensures.first ∙ ap Some c.key-key.ensures.key) these
     (links_bound T l.records (c.levels-level.result - 1) l.key.secret k bound b _ level is signs)
 

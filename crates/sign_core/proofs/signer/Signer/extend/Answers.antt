@@ -1,5 +1,8 @@
-use Rattle.std.proofs.Common.{rules, ◌≡◌, ◌∙◌, ◌+◌, true, false, List, [], ◌∷◌, ◌++◌, Some, Err, refl, sym, ap, subst, arith}
-use Rattle.lms.specs.Secret.{root_in}
+use Rattle.std.proofs.Common.{rules, ◌≡◌, ◌∙◌, ℕ, ◌+◌, true, false, List, [], ◌∷◌, ◌++◌, Some, Err, refl, sym, ap, subst, arith}
+use Rattle.lmots.specs.Key.{message_digest_of}
+use Rattle.lms.specs.Secret.{public_with, root_in}
+use Rattle.typecodes.specs.declared.secret.LmsSecret.{LmsSecret}
+use Rattle.lms.specs.Writing.{public_bytes}
 use Rattle.state_file.specs.Laws.{levels_of}
 use Rattle.state_file.specs.declared.record.Extend.{Extend}
 use Rattle.state_file.specs.declared.record.Key.{Key}
@@ -51,14 +54,14 @@ overflow_add-below g c =
     let most = (levels_range i.ledger.records i.ledger.key (levels_of i.ledger.key.secret) c.self.invariant.0.sizes c.self.invariant.1 refl).1 in
     omega (arith, c.requires.below i.ledger.key kept, most)
 
-pub returns-in_err-identifier-clause-step : goal.returns-in_err-identifier-clause-step
-returns-in_err-identifier-clause-step g c key keyed =
+pub returns-in_err-secret-clause-step : goal.returns-in_err-secret-clause-step
+returns-in_err-secret-clause-step g c key keyed =
     let a = c.args in
     let i = c.self.inside in
     let kept : key_in a.self.now.records ≡ Some i.ledger.key = ap (λ w. key_in w.records) (sym c.self.view_is) ∙ c.self.invariant.1 in
     let these = subst (MakesTrees key.secret) c.in-Chain.is (subst (λ (k : Key). MakesTrees k.secret c.of.result)
     (c.key.ensures.key ∙ same_key a.self.now.records i.ledger.key key kept keyed) c.of.ensures) in
-    let fault : SignFault = c.in_err-identifier.field-0.0 in
+    let fault : SignFault = c.in_err-secret.field-0.0 in
     let failed : c.from_residual.result ≡ Err fault = search rules in
     let answer : Err fault ≡ answered_with c.from_residual.result [] = ap (λ r. answered_with r []) (sym failed) in
     let opened : i.is_open ≡ true = ap (λ w. w.is_open) c.self.view_is ∙ c.requires.ready.is_open in
@@ -70,16 +73,16 @@ returns-in_err-identifier-clause-step g c key keyed =
     subst (λ (w : View g.row.S.Denot g.row.R.Denot).
     Extends g.S.Store g.R.Source (a.level + 1) w (view_of i.store c.draw_tree.new.random i.ledger i.caches i.is_open)
     (answered_with c.from_residual.result []) key) c.self.view_is
-    (undrawn g.S.Store g.R.Source (a.level + 1) key (trees_in c.in-Chain.chain) these
+    (undrawn g.S.Store g.R.Source (a.level + 1) key (trees_in c.in-Chain.chain) these c.pair-pair.result
     (view_of i.store i.random i.ledger i.caches i.is_open) c.draw_tree.new.random fault (answered_with c.from_residual.result []) rests answer
-    c.in_err-identifier.ensures)
+    c.in_err-secret.ensures)
 
 pub begin-requires : goal.begin-requires
 begin-requires g c =
     let i = c.self.inside in
     let kept : key_in c.args.self.now.records ≡ Some i.ledger.key = ap (λ w. key_in w.records) (sym c.self.view_is) ∙ c.self.invariant.1 in
     let most = (levels_range i.ledger.records i.ledger.key (levels_of i.ledger.key.secret) c.self.invariant.0.sizes c.self.invariant.1 refl).1 in
-    omega (arith, c.requires.below i.ledger.key kept, most, c.new-asked.ensures.level)
+    omega (arith, c.requires.below i.ledger.key kept, most, c.new.ensures.level)
 
 pub returns-in_err-root-clause-step : goal.returns-in_err-root-clause-step
 returns-in_err-root-clause-step g c key keyed =
@@ -105,8 +108,8 @@ returns-in_err-root-clause-step g c key keyed =
     Extends g.S.Store g.R.Source (a.level + 1) w (view_of i.store c.draw_tree.new.random i.ledger i.caches i.is_open)
     (answered_with c.from_residual-in_err-root.result []) key) c.self.view_is
     (ungrown g.S.Store g.R.Source (a.level + 1) key (trees_in c.in-Chain.chain) these
-    (view_of i.store i.random i.ledger i.caches i.is_open) c.draw_tree.new.random c.in_ok-identifier.field-0 (answered_with c.from_residual-in_err-root.result []) rests
-    answer c.in_ok-identifier.ensures))
+    (view_of i.store i.random i.ledger i.caches i.is_open) c.draw_tree.new.random c.pair-pair.result (c.in_ok-secret.secret, c.in_ok-secret.randomizer) (answered_with c.from_residual-in_err-root.result []) rests
+    answer c.in_ok-secret.ensures))
 
 pub add-requires-clause-follows : goal.add-requires-clause-follows
 add-requires-clause-follows g c =
@@ -120,12 +123,12 @@ add-requires-clause-follows g c =
     can_extend K i.ledger.records a.level (record {
       level = a.level + 1;
       parent_leaf = c.in-Some.parent.next;
-      identifier = c.in_ok-identifier.field-0.identifier;
-      seed = c.in_ok-identifier.field-0.seed;
-      randomizer = c.in_ok-identifier.field-0.randomizer;
-      digest = c.key_digest-digest.result;
+      identifier = c.in_ok-secret.secret.identifier;
+      seed = c.in_ok-secret.secret.seed;
+      randomizer = c.in_ok-secret.randomizer;
+      digest = c.message_digest-digest.result;
       root = c.in_ok-root.root;
-    }) c.self.invariant.1 stays stands.free refl (c.requires.below K kept) has.leaf_is c.in_ok-identifier.ensures.3
+    }) c.self.invariant.1 stays stands.free refl (c.requires.below K kept) has.leaf_is c.in_ok-secret.ensures.3
 
 pub returns-clause-step : goal.returns-clause-step
 returns-clause-step g c key keyed =
@@ -133,26 +136,28 @@ returns-clause-step g c key keyed =
     let i = c.self.inside in
     let K = i.ledger.key in
     let T = trees_in c.in-Chain.chain in
-    let seeds = c.in_ok-identifier.field-0 in
+    let seeds : LmsSecret × List ℕ = (c.in_ok-secret.secret, c.in_ok-secret.randomizer) in
     let kept : key_in a.self.now.records ≡ Some K = ap (λ w. key_in w.records) (sym c.self.view_is) ∙ c.self.invariant.1 in
     let own : K ≡ key = same_key a.self.now.records K key kept keyed in
     let these = subst (MakesTrees K.secret) c.in-Chain.is (subst (λ (k : Key). MakesTrees k.secret c.of.result) c.key.ensures.key c.of.ensures) in
     let stands = subst (λ w. Stands w.records a.level K) (sym c.self.view_is) (c.requires.stands K kept) in
     let has = has_free K.secret i.ledger.records a.level c.current.result c.in-Some.parent c.current.ensures c.in-Some.is stands.free in
     let entry = entry_is K T i.ledger.records a.level c.in-Some.parent.place c.in-Some.parent.next c.secret_at.result
-    (record { pair = c.pair-pair.result; identifier = seeds.identifier; seed = seeds.seed })
-    (record { pair = c.pair-pair.result; identifier = seeds.identifier; root = c.in_ok-root.root }) (record {
+    seeds.0
+    (public_with seeds.0 c.in_ok-root.root) (record {
       level = a.level + 1;
       parent_leaf = c.in-Some.parent.next;
-      identifier = seeds.identifier;
-      seed = seeds.seed;
-      randomizer = seeds.randomizer;
-      digest = c.key_digest-digest.result;
+      identifier = seeds.0.identifier;
+      seed = seeds.0.seed;
+      randomizer = seeds.1;
+      digest = c.message_digest-digest.result;
       root = c.in_ok-root.root;
     }) has c.secret_at.ensures refl refl refl refl
-    (λ j. record { pair = c.pair-pair.result; identifier = seeds.identifier; root = (c.in_ok-root.ensures.root ∙ ap root_in c.new-asked.ensures.secret) j }) c.key_digest-digest.ensures refl c.pair-pair.ensures in
-    let step = drawn_below g.S.Store g.R.Source K T i.store i.random c.draw_tree.new.random i.ledger i.is_open a.self.now c.add.new.self (a.level + 1) seeds _
-    c.add.result c.self.view_is c.requires.ready.is_open these entry c.in_ok-identifier.ensures c.add.ensures.adds in
+    (ap (public_with seeds.0) (c.in_ok-root.ensures.root ∙ ap root_in c.new.ensures.secret))
+    (c.message_digest-digest.ensures ∙ ap (message_digest_of c.secret_at.result.identifier c.in-Some.parent.next c.in_ok-secret.randomizer) (c.to_bytes-public.ensures.bytes ∙ ap public_bytes c.of-2.ensures))
+    refl (c.in_ok-secret.ensures.4 ∙ c.pair-pair.ensures) in
+    let step = drawn_below g.S.Store g.R.Source K T i.store i.random c.draw_tree.new.random i.ledger i.is_open a.self.now c.add.new.self (a.level + 1) c.pair-pair.result seeds _
+    c.add.result c.self.view_is c.requires.ready.is_open these entry c.in_ok-secret.ensures c.add.ensures.adds in
     subst (λ (k : Key). Extends g.S.Store g.R.Source (a.level + 1) a.self.now c.add.new.self (answered_with c.add.result []) k) own step
 
 pub returns-clause-stands : goal.returns-clause-stands
@@ -161,7 +166,7 @@ returns-clause-stands g c =
     let i = c.self.inside in
     let K = i.ledger.key in
     let T = trees_in c.in-Chain.chain in
-    let seeds = c.in_ok-identifier.field-0 in
+    let seeds : LmsSecret × List ℕ = (c.in_ok-secret.secret, c.in_ok-secret.randomizer) in
     let kept : key_in a.self.now.records ≡ Some K = ap (λ w. key_in w.records) (sym c.self.view_is) ∙ c.self.invariant.1 in
     let these = subst (MakesTrees K.secret) c.in-Chain.is (subst (λ (k : Key). MakesTrees k.secret c.of.result) c.key.ensures.key c.of.ensures) in
     let stands = subst (λ w. Stands w.records a.level K) (sym c.self.view_is) (c.requires.stands K kept) in
@@ -169,17 +174,19 @@ returns-clause-stands g c =
     let extend : Extend = record {
       level = a.level + 1;
       parent_leaf = c.in-Some.parent.next;
-      identifier = seeds.identifier;
-      seed = seeds.seed;
-      randomizer = seeds.randomizer;
-      digest = c.key_digest-digest.result;
+      identifier = seeds.0.identifier;
+      seed = seeds.0.seed;
+      randomizer = seeds.1;
+      digest = c.message_digest-digest.result;
       root = c.in_ok-root.root;
     } in
     let entry = entry_is K T i.ledger.records a.level c.in-Some.parent.place c.in-Some.parent.next c.secret_at.result
-    (record { pair = c.pair-pair.result; identifier = seeds.identifier; seed = seeds.seed })
-    (record { pair = c.pair-pair.result; identifier = seeds.identifier; root = c.in_ok-root.root }) extend has c.secret_at.ensures refl refl refl refl
-    (λ j. record { pair = c.pair-pair.result; identifier = seeds.identifier; root = (c.in_ok-root.ensures.root ∙ ap root_in c.new-asked.ensures.secret) j }) c.key_digest-digest.ensures refl c.pair-pair.ensures in
-    let after = stands_below K T i.ledger.records a.level seeds.identifier seeds.seed seeds.randomizer c.self.invariant.1 these stands (c.requires.below K kept) in
+    seeds.0
+    (public_with seeds.0 c.in_ok-root.root) extend has c.secret_at.ensures refl refl refl refl
+    (ap (public_with seeds.0) (c.in_ok-root.ensures.root ∙ ap root_in c.new.ensures.secret))
+    (c.message_digest-digest.ensures ∙ ap (message_digest_of c.secret_at.result.identifier c.in-Some.parent.next c.in_ok-secret.randomizer) (c.to_bytes-public.ensures.bytes ∙ ap public_bytes c.of-2.ensures))
+    refl (c.in_ok-secret.ensures.4 ∙ c.pair-pair.ensures) in
+    let after = stands_below K T i.ledger.records a.level seeds.0.identifier seeds.0.seed seeds.1 c.self.invariant.1 these stands (c.requires.below K kept) in
     if_added c.add.result (λ x is key keyed.
     let grown : c.add.new.self.records ≡ i.ledger.records ++ ExtendRecord extend ∷ [] =
     added_records g.S.Store (view_of i.store c.draw_tree.new.random i.ledger c.begin.new.self i.is_open) c.add.new.self (ExtendRecord extend) c.add.result x

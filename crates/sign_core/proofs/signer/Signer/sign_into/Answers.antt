@@ -1,4 +1,4 @@
-use Rattle.std.proofs.Common.{rules, ◌≡◌, ◌∙◌, Err, false, ap, sym, subst, ◌<◌, ◌-◌, None, Some, length, arith}
+use Rattle.std.proofs.Common.{rules, ◌≡◌, ◌∙◌, Err, true, false, ap, sym, subst, ◌<◌, ◌-◌, None, Some, length, arith}
 use Rattle.std.specs.Prelude.{vec_capacity}
 use Rattle.std.proofs.lemmas.List.{take_at}
 use Rattle.state_file.specs.Laws.{bottom_of, levels_of}
@@ -45,23 +45,25 @@ returns-in-Some-clause-step g c =
     (λ left honest running since. g.met.S.Store.leaves_nothing_else v.store left honest running since)
     keyed c.in_ok-check_open.ensures.open c.in_ok-check_open.ensures.stays is (c.repeat.ensures.step key keyed c.args.name.now is) keeps
 
-pub returns-then-is_long-clause-step : goal.returns-then-is_long-clause-step
-returns-then-is_long-clause-step g c =
+pub returns-then-as_bytes-from-clause-step : goal.returns-then-as_bytes-from-clause-step
+returns-then-as_bytes-from-clause-step g c =
     let v = c.args.self.now in
     let key = c.self.inside.ledger.key in
     let keyed = ap (λ w. key_in w.records) (sym c.self.view_is) ∙ c.self.invariant.1 in
     let unbound = none_mapped (kept_of key.secret v.records) (binding_in v.records c.args.name.now)
     (ap (λ w. binding_kept key.secret w.records c.args.name.now) (sym c.self.view_is) ∙ sym c.find.ensures ∙ is_none c.find.result c.in_default.not-Some) in
+    let long : is_long key c.args.name.now ≡ true = subst (λ k. is_long k c.args.name.now ≡ true) c.key.ensures.key (search rules) in
     long_signs g.S.Store g.R.Source g.M.Message v c.args.name.now c.args.message.now (vec_capacity c.args.out.now) key
     (subst (IsSigner g.S.Store) c.self.view_is c.self.invariant.0)
     (λ left honest running since. g.met.S.Store.leaves_nothing_else v.store left honest running since)
-    keyed c.in_ok-check_open.ensures.open c.in_ok-check_open.ensures.stays unbound (sym (c.is_long.ensures key keyed) ∙ c.if-is_long.true)
+    keyed c.in_ok-check_open.ensures.open c.in_ok-check_open.ensures.stays unbound long
 
 pub returns-in_err-level-clause-step : goal.returns-in_err-level-clause-step
 returns-in_err-level-clause-step g c =
     let unbound = none_mapped (kept_of c.self.inside.ledger.key.secret c.args.self.now.records) (binding_in c.args.self.now.records c.args.name.now)
     (ap (λ w. binding_kept c.self.inside.ledger.key.secret w.records c.args.name.now) (sym c.self.view_is) ∙ sym c.find.ensures ∙ is_none c.find.result c.in_default.not-Some) in
-    let short : UnderKey c.args.self.now.records (λ key. is_long key c.args.name.now ≡ false) = λ key keyed. sym (c.is_long.ensures key keyed) ∙ c.if-is_long.false in
+    let short : UnderKey c.args.self.now.records (λ key. is_long key c.args.name.now ≡ false) = λ key keyed. subst (λ k. is_long k c.args.name.now ≡ false)
+    (c.key.ensures.key ∙ same_key c.args.self.now.records c.self.inside.ledger.key key (ap (λ w. key_in w.records) (sym c.self.view_is) ∙ c.self.invariant.1) keyed) (search rules) in
     let v = c.args.self.now in
     let key = c.self.inside.ledger.key in
     let (none, is) = none_fault c.deepest.result c.in_err-level.field-0.0 (sym c.ok_or.ensures.value ∙ c.in_err-level.was) in
@@ -88,7 +90,8 @@ pub returns-in_err-prepare-clause-step : goal.returns-in_err-prepare-clause-step
 returns-in_err-prepare-clause-step g c =
     let unbound = none_mapped (kept_of c.self.inside.ledger.key.secret c.args.self.now.records) (binding_in c.args.self.now.records c.args.name.now)
     (ap (λ w. binding_kept c.self.inside.ledger.key.secret w.records c.args.name.now) (sym c.self.view_is) ∙ sym c.find.ensures ∙ is_none c.find.result c.in_default.not-Some) in
-    let short : UnderKey c.args.self.now.records (λ key. is_long key c.args.name.now ≡ false) = λ key keyed. sym (c.is_long.ensures key keyed) ∙ c.if-is_long.false in
+    let short : UnderKey c.args.self.now.records (λ key. is_long key c.args.name.now ≡ false) = λ key keyed. subst (λ k. is_long k c.args.name.now ≡ false)
+    (c.key.ensures.key ∙ same_key c.args.self.now.records c.self.inside.ledger.key key (ap (λ w. key_in w.records) (sym c.self.view_is) ∙ c.self.invariant.1) keyed) (search rules) in
     let v = c.args.self.now in
     let key = c.self.inside.ledger.key in
     let keyed = ap (λ w. key_in w.records) (sym c.self.view_is) ∙ c.self.invariant.1 in
@@ -106,7 +109,7 @@ returns-in_err-prepare-clause-step g c =
     made.caches made.spare made.does)
 
 pub check_current-requires-clause-trees : goal.check_current-requires-clause-trees
-check_current-requires-clause-trees g c = subst (λ (k : Key). MakesTrees k.secret c.of-trees.result) c.key.ensures.key c.of-trees.ensures
+check_current-requires-clause-trees g c = subst (λ (k : Key). MakesTrees k.secret c.of-trees.result) c.key-2.ensures.key c.of-trees.ensures
 
 pub check_current-requires-clause-level : goal.check_current-requires-clause-level
 check_current-requires-clause-level g c =
@@ -144,7 +147,8 @@ pub returns-in_err-map_err-clause-step : goal.returns-in_err-map_err-clause-step
 returns-in_err-map_err-clause-step g c =
     let unbound = none_mapped (kept_of c.self.inside.ledger.key.secret c.args.self.now.records) (binding_in c.args.self.now.records c.args.name.now)
     (ap (λ w. binding_kept c.self.inside.ledger.key.secret w.records c.args.name.now) (sym c.self.view_is) ∙ sym c.find.ensures ∙ is_none c.find.result c.in_default.not-Some) in
-    let short : UnderKey c.args.self.now.records (λ key. is_long key c.args.name.now ≡ false) = λ key keyed. sym (c.is_long.ensures key keyed) ∙ c.if-is_long.false in
+    let short : UnderKey c.args.self.now.records (λ key. is_long key c.args.name.now ≡ false) = λ key keyed. subst (λ k. is_long k c.args.name.now ≡ false)
+    (c.key.ensures.key ∙ same_key c.args.self.now.records c.self.inside.ledger.key key (ap (λ w. key_in w.records) (sym c.self.view_is) ∙ c.self.invariant.1) keyed) (search rules) in
     let v = c.args.self.now in
     let key = c.self.inside.ledger.key in
     let keyed = ap (λ w. key_in w.records) (sym c.self.view_is) ∙ c.self.invariant.1 in
@@ -177,7 +181,8 @@ pub bind_below-requires-clause-can : goal.bind_below-requires-clause-can
 bind_below-requires-clause-can g c =
     let unbound = none_mapped (kept_of c.self.inside.ledger.key.secret c.args.self.now.records) (binding_in c.args.self.now.records c.args.name.now)
     (ap (λ w. binding_kept c.self.inside.ledger.key.secret w.records c.args.name.now) (sym c.self.view_is) ∙ sym c.find.ensures ∙ is_none c.find.result c.in_default.not-Some) in
-    let short : UnderKey c.args.self.now.records (λ key. is_long key c.args.name.now ≡ false) = λ key keyed. sym (c.is_long.ensures key keyed) ∙ c.if-is_long.false in
+    let short : UnderKey c.args.self.now.records (λ key. is_long key c.args.name.now ≡ false) = λ key keyed. subst (λ k. is_long k c.args.name.now ≡ false)
+    (c.key.ensures.key ∙ same_key c.args.self.now.records c.self.inside.ledger.key key (ap (λ w. key_in w.records) (sym c.self.view_is) ∙ c.self.invariant.1) keyed) (search rules) in
     let v = c.args.self.now in
     let mid = c.prepare.new.self in
     let whole = c.self-2.inside in
@@ -207,7 +212,8 @@ pub returns-clause-step : goal.returns-clause-step
 returns-clause-step g c =
     let unbound = none_mapped (kept_of c.self.inside.ledger.key.secret c.args.self.now.records) (binding_in c.args.self.now.records c.args.name.now)
     (ap (λ w. binding_kept c.self.inside.ledger.key.secret w.records c.args.name.now) (sym c.self.view_is) ∙ sym c.find.ensures ∙ is_none c.find.result c.in_default.not-Some) in
-    let short : UnderKey c.args.self.now.records (λ key. is_long key c.args.name.now ≡ false) = λ key keyed. sym (c.is_long.ensures key keyed) ∙ c.if-is_long.false in
+    let short : UnderKey c.args.self.now.records (λ key. is_long key c.args.name.now ≡ false) = λ key keyed. subst (λ k. is_long k c.args.name.now ≡ false)
+    (c.key.ensures.key ∙ same_key c.args.self.now.records c.self.inside.ledger.key key (ap (λ w. key_in w.records) (sym c.self.view_is) ∙ c.self.invariant.1) keyed) (search rules) in
     let v = c.args.self.now in
     let key = c.self.inside.ledger.key in
     let keyed = ap (λ w. key_in w.records) (sym c.self.view_is) ∙ c.self.invariant.1 in
