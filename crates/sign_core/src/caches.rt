@@ -1,6 +1,6 @@
 //! The caches of current trees. Each tree is made once, and then its root and a path cost few leaves or none.
 
-ghost use Rattle.std.specs.Prelude.{◌≡◌, ◌≢◌, ◌↔◌, ◌<◌, ◌≤◌, ◌^◌, ◌∷◌, List, Some, None, length, ℕ, IfErr, IfOk};
+ghost use Rattle.std.specs.Prelude.{◌≡◌, ◌≢◌, ◌↔◌, ◌<◌, ◌^◌, ◌∷◌, List, Some, None, length, ℕ, IfErr, IfOk};
 ghost use Rattle.std.specs.Prelude.{IsSome, OnErr, OnOk, replicate};
 ghost use Rattle.merkle.specs.Tree.{path_of, root_of};
 ghost use Rattle.typecodes.specs.Types.{height_of, xmss_height_of};

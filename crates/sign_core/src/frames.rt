@@ -1,6 +1,6 @@
 //! Frames of requests, read from an input: the head before a message.
 
-ghost use Rattle.std.specs.Prelude.{◌≡◌, ◌<◌};
+ghost use Rattle.std.specs.Prelude.{◌<◌};
 ghost use Rattle.sign_core.specs.inner.Frames.{FillsBuffer, ReadsField, ReadsHead, bytes_of, said_by};
 ghost use Rattle.sign_core.specs.Frames.{after_size};
 ghost use Rattle.typecodes.specs.Fields.{block};

@@ -1,7 +1,7 @@
 //! The trees of a key: of LMS or HSS the chain from the top down to one that signs, or the one tree of XMSS; and the
 //! caches of the current ones.
 
-ghost use Rattle.std.specs.Prelude.{◌≡◌, ◌<◌, ◌+◌, ◌^◌, ◌++◌, Some, None, true, false, length, slice_index_or};
+ghost use Rattle.std.specs.Prelude.{◌≡◌, ◌<◌, ◌+◌, ◌^◌, ◌++◌, Some, None, length, slice_index_or};
 ghost use Rattle.std.specs.Prelude.{IfErr, OnOk, IfOk, OnErr};
 ghost use Rattle.arrayvec.specs.ArrayVec.{array_vec_len};
 ghost use Rattle.typecodes.specs.Types.{height_of};
@@ -100,12 +100,11 @@ impl SecretTrees {
 }
 
 impl KeyTrees {
-    ghost use Rattle.state_file.specs.declared.record.Record.TheVariants.{Extend as ExtendRecord};
     ghost use Rattle.state_file.specs.Laws.{IsLegal};
     ghost use Rattle.sign_core.specs.Records.{key_in};
     ghost use Rattle.sign_core.specs.inner.Links.{AreMade, AreTreesOf, IsMade, IsTreeAt, IsTreeBy, signings_of};
     ghost use Rattle.sign_core.specs.inner.Links.{trees_in};
-    ghost use Rattle.sign_core.specs.Textbook.{damaged_in, is_sound_at, secret_at, secret_by, signings_above};
+    ghost use Rattle.sign_core.specs.Textbook.{damaged_in, is_sound_at, secret_at, signings_above};
 
     /// The types of a level's trees; the top tree's, where there is no such level.
     pub(crate) fn pair(&self, level: u8) -> LmsPair

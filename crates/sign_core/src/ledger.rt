@@ -1,11 +1,10 @@
 //! The ledger: a key's records in memory, and what is looked up in them. A Retire takes no memory.
 
 ghost use Rattle.std.specs.Prelude.{◌≡◌, ◌<◌, ◌≤◌, ◌+◌, ◌-◌, ◌∷◌, [], Some, None, true, length};
-ghost use Rattle.std.specs.Prelude.{OnOk, OnErr, IfOk, IfErr, ◌↔◌};
-ghost use Rattle.sign_core.specs.Records.{can_follow, can_follow_legal, can_move, deepest, free_at};
+ghost use Rattle.std.specs.Prelude.{OnOk, OnErr, IfOk, IfErr};
+ghost use Rattle.sign_core.specs.Records.{can_follow, deepest, free_at};
 ghost use Rattle.sign_core.specs.Records.{has_identifier, has_moved, is_free, key_in};
 ghost use Rattle.sign_core.specs.Ledger.{TakesMemory};
-ghost use Rattle.sign_core.specs.Textbook.{public_in};
 
 use crate::key::AnyPublic;
 use crate::trees::{CurrentTrees, Tree};
@@ -118,9 +117,7 @@ impl Model for Ledger {
 impl Ledger {
     ghost use Rattle.state_file.specs.Laws.{IsLegal, levels_of};
     ghost use Rattle.state_file.specs.declared.record.Key.{Key as K};
-    ghost use Rattle.state_file.specs.declared.record.Record.TheVariants.{Key as KeyRecord, Extend as ExtendRecord};
-    ghost use Rattle.state_file.specs.declared.record.Record.TheVariants.{Bound as BoundRecord, Retire as RetireRecord};
-    ghost use Rattle.state_file.specs.declared.record.Record.TheVariants.{Moved as MovedRecord};
+    ghost use Rattle.state_file.specs.declared.record.Record.TheVariants.{Key as KeyRecord};
     ghost use Rattle.sign_core.specs.inner.Ledger.{CanPush, Grows, HasRoomForOne, LacksRoom, Stays, TakesUp};
     ghost use Rattle.sign_core.specs.Ledger.{IsRefused};
     ghost use Rattle.sign_core.specs.Ledger.{binding_kept, made_at};

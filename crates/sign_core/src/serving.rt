@@ -1,6 +1,6 @@
 //! `serve`: requests from an input, each with its reply on an output.
 
-ghost use Rattle.std.specs.Prelude.{◌≡◌, ◌<◌, ◌^◌, vec_capacity};
+ghost use Rattle.std.specs.Prelude.{◌≡◌, ◌<◌, vec_capacity};
 ghost use Rattle.sign_core.specs.inner.Frames.{WasReadOrFailed};
 ghost use Rattle.sign_core.specs.inner.Serving.{Asks, Finishes, Turns, WritesReply, is_unread};
 ghost use Rattle.sign_core.specs.Serving.{Serves};

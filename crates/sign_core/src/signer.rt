@@ -1,14 +1,13 @@
 //! The signer over a store of records.
 
-ghost use Rattle.std.specs.Prelude.{◌≡◌, ◌<◌, ◌≤◌, ◌-◌, ◌^◌, ◌∷◌, [], true, false, Some, Ok, Err, length, IfErr, IfOk};
-ghost use Rattle.std.specs.Prelude.{IfSome, IsTrue, None, OnOk};
+ghost use Rattle.std.specs.Prelude.{◌≡◌, ◌<◌, ◌≤◌, ◌-◌, ◌^◌, [], true, false, Some, Ok, Err, length, IfErr, IfOk};
+ghost use Rattle.std.specs.Prelude.{IsTrue, None, OnOk};
 ghost use Rattle.merkle.specs.Tree.{root_of as tree_root};
-ghost use Rattle.state_file.specs.Store.{CanFollow, is_key};
+ghost use Rattle.state_file.specs.Store.{CanFollow};
 ghost use Rattle.sign_core.specs.inner.Signer.{DrawsSecret, Hinders, IsAppended, IsTakenUp};
 ghost use Rattle.sign_core.specs.Signer.{IsTied, LoadsAll, MakesKey};
 ghost use Rattle.sign_core.specs.inner.Signer.{LoadsRecord, LooksForKey, TakesUpLoaded};
 ghost use Rattle.sign_core.specs.Textbook.{HasSizes, root_by};
-ghost use Rattle.state_file.specs.declared.record.Record.TheVariants.{Key as KeyRecord};
 ghost use Rattle.typecodes.specs.Spec.{IsSpec};
 
 mod bind;

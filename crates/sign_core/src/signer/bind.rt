@@ -42,7 +42,6 @@ fn draw_tree<R: Source>(
 }
 
 impl<S: Store, R: Source> Signer<S, R> {
-    ghost use Rattle.sign_core.specs.inner.Links.{MakesTrees};
 
     // Makes room for a new name's records and signature, and the missing caches; `level` is the deepest with a free
     // leaf. A signer makes each cache once, as long as its tree is current.

@@ -5,7 +5,7 @@ ghost use Rattle.typecodes.specs.declared.secret.XmssSecret.{XmssSecret as X};
 ghost use Rattle.sign_core.specs.Caches.{HasCurrent};
 ghost use Rattle.sign_core.specs.Textbook.{Trees, trees_of};
 ghost use Rattle.state_file.specs.Laws.{levels_of};
-ghost use Rattle.sign_core.specs.Records.{binding_in, is_long};
+ghost use Rattle.sign_core.specs.Records.{binding_in};
 ghost use Rattle.sign_core.specs.Signer.{KeepsForRepeat, Signs, is_before_repeat, is_fault};
 ghost use Rattle.sign_core.specs.Signing.{IsXmssKey, KeepsCapacity, UnderKey, answered_with};
 ghost use Rattle.typecodes.specs.Message.{Digests};
