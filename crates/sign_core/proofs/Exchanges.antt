@@ -22,11 +22,11 @@ use Rattle.sign_core.specs.declared.serving.Reply.{Reply}
 use Rattle.sign_core.specs.declared.serving.Reply.TheVariants.{BadName, Refused, Signed}
 use Rattle.sign_core.specs.declared.source.Source as source
 use Rattle.sign_core.specs.Fault.{serve_number_of}
-use Rattle.sign_core.specs.Frames.{CutsField, Ending, ReadsInput, Request, after_size, broken, ended, given_by, going, head}
+use Rattle.sign_core.specs.Frames.{CutsField, Ending, IsCut, IsWholeMessage, ReadsInput, Request, after_size, broken, ended, given_by, going, head}
 use Rattle.sign_core.specs.inner.Frames.{FillsBuffer, ReadsField, ReadsHead, WasReadOrFailed, bytes_of, said_by}
 use Rattle.sign_core.specs.Records.{binding_in}
-use Rattle.sign_core.specs.inner.Serving.{AnswersFrame, Asks, ComesTo, Finishes}
-use Rattle.sign_core.specs.Serving.{AnswersInTurn, AreFrames, Closes, Exchange, Serves, SignsGiven, Turn}
+use Rattle.sign_core.specs.inner.Serving.{Asks, Finishes}
+use Rattle.sign_core.specs.Serving.{AnswersBy, AnswersInTurn, AreFrames, Closes, Exchange, Serves, SignsGiven, Turn}
 use Rattle.sign_core.specs.inner.Serving.{Turns, WritesReply, is_unread}
 use Rattle.sign_core.specs.Serving.{reply_bytes, reply_frame, reply_of}
 use Rattle.sign_core.specs.Signer.{IsRead, KeepsForRepeat, Signs, View, is_before_repeat, is_fault, state_of}
@@ -34,6 +34,26 @@ use Rattle.sign_core.specs.Signing.{KeepsCapacity}
 use Rattle.sign_core.specs.World.{Outcome}
 use Rattle.sign_core.proofs.InputReading.{IsPart, part_cut, part_done, reads_close, reads_none, reads_then}
 use Rattle.sign_core.proofs.Reported.{IsReported, is_reported}
+
+-- ---- how a frame is answered
+
+-- How a frame's message ends: it came whole, or was cut.
+abbrev pub ComesTo : Ending → Request → (is_whole : Bool) → Type 0
+ComesTo ending request true = (ending ≡ going) × IsWholeMessage request
+ComesTo ending request false = IsCut ending request
+
+-- A request whose head was read is answered: its message is read as far as it comes.
+pub record AnswersFrame {S R I : Type 0} (g : store.Ghosts S) (r : source.Ghosts R) (m : message.Ghosts I)
+    (said : List ℕ × ℕ) (old new : View S R) (before after : I) (capacity room : ℕ) (signature : List ℕ)
+    (result : Reply × Bool) : Type 0 where
+  pub request : Request
+  pub name : request.name ≡ said.0
+  pub announced : request.announced ≡ said.1
+  pub ending : Ending
+  pub comes : ComesTo ending request result.1
+  pub reads : ReadsInput m request.message ending before after
+  pub room_kept : KeepsCapacity old.records capacity room
+  pub answers : AnswersBy g r result.0 signature request old new capacity
 
 -- ---- heads
 

@@ -182,7 +182,7 @@ module _ {P M : Type 0} (p : message.Ghosts P) (m : message.Ghosts M) (input_of 
           subst (λ x. ReadsInput m text broken (input_of old) x) (sym there) (reads_close m text broken (input_of old) (input_of middle) (input_of next)
               came (reads_failure m kind (input_of middle) (input_of next) one kept)),
         )
-        | inr (one, none, end) ↦ (
+        | inr (early, one, none, end) ↦ (
           text,
           ended,
           omega (arith, size, least),

@@ -74,6 +74,7 @@ impl<X: TreeSecret> TreeCache<X> {
     {
         let secret = asked.secret;
         let height = secret.height();
+        // a tree whose leaves are used up has no leaf of this number
         let leaf = asked.leaf.min(2u32.pow(u32::from(height)) - 1);
         let made = PathCache::for_leaf_telling(alloc, secret.tree(), height, leaf, asked.begin());
         let cache = made.map_err(|_| SignFault::OutOfMemory)?;

@@ -135,12 +135,10 @@ impl KeyTrees {
         let Some(Made { extend, parent }) = ledger.made(place) else {
             return ledger.key().root == tree.root;
         };
-        let identifier = self.secret_at(ledger, parent).identifier;
-        let signer = LmOts {
-            identifier,
-            leaf: extend.parent_leaf,
-        };
-        let digest = signer.message_digest(&extend.randomizer, &tree.public().to_bytes());
+        let signer = self.secret_at(ledger, parent);
+        let (identifier, leaf) = (signer.identifier, extend.parent_leaf);
+        let public = tree.public().to_bytes();
+        let digest = LmOts { identifier, leaf }.message_digest(&extend.randomizer, &public);
         extend.root == tree.root && extend.digest == digest
     }
 

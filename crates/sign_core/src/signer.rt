@@ -294,11 +294,13 @@ impl<S: Store, R: Source> Signer<S, R> {
         ensures stays { OnOk result (has_moved self.now.records ≡ false) }
         ensures refused { IfErr result (λ fault. Hinders self.now.is_open (has_moved self.now.records) fault) }
     {
-        match (self.is_open, self.ledger.has_moved()) {
-            (false, _) => Err(SignFault::Stopped),
-            (true, true) => Err(SignFault::Moved),
-            (true, false) => Ok(()),
+        if !self.is_open {
+            return Err(SignFault::Stopped);
         }
+        if self.ledger.has_moved() {
+            return Err(SignFault::Moved);
+        }
+        Ok(())
     }
 
     fn add(&mut self, entry: Record) -> Result<(), SignFault>

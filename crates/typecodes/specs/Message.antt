@@ -5,6 +5,7 @@ use Rattle.std.specs.Io.KnownBytes.{Consumes, IsAtEnd, Keeps}
 use Rattle.std.specs.IoError.{error_kind}
 use Rattle.std.specs.declared.io.Error.{Error}
 use Rattle.std.specs.declared.io.ErrorKind.{ErrorKind}
+use Rattle.std.specs.declared.io.ErrorKind.TheVariants.{UnexpectedEof}
 
 -- what one read gave: some bytes, none at the end; or an error of this kind
 abbrev pub ReadOutcome : Type 0
@@ -96,7 +97,7 @@ Discards transition remaining (Ok _) old new = (text : List ℕ) × ReadWhole tr
 Discards transition remaining (Err error) old new = CantBeRead transition old new
 
 -- A read of the next bytes of an input, with `left` bytes to come. It gives at most as many of the input's, and none
--- where none are left. It fails where a read of the input fails, or the input is at its end.
+-- where none are left. It fails as a read of the input fails, or for an early end where the input is at its end.
 abbrev pub ReadsPart : {M : Type 0} → Transition M → (M → Option (List ℕ)) → (left : ℕ) → M → ReadOutcome
     → (after : ℕ) → M → Type 0
 ReadsPart transition remaining left old (Ok bytes) after new = (after + length bytes ≡ left)
@@ -104,4 +105,5 @@ ReadsPart transition remaining left old (Ok bytes) after new = (after + length b
     ⊎ ((1 ≤ length bytes) × transition old (Ok bytes) new × Consumes (remaining old) (remaining new) bytes))
 ReadsPart transition remaining left old (Err kind) after new = (after ≡ left) × (1 ≤ left)
     × ((transition old (Err kind) new × Keeps (remaining old) (remaining new))
-    ⊎ (transition old (Ok []) new × Consumes (remaining old) (remaining new) [] × IsAtEnd (remaining new)))
+    ⊎ ((kind ≡ UnexpectedEof) × transition old (Ok []) new × Consumes (remaining old) (remaining new) []
+    × IsAtEnd (remaining new)))

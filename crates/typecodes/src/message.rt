@@ -51,7 +51,8 @@ pub struct MessageFailed;
 /// The next bytes of an input, as a message of a known length. A read fails with `UnexpectedEof` where the input ends
 /// before the message does.
 ///
-/// Each read is a read of the input. Which bytes it will give isn't known.
+/// Each read is one read of the input, until no byte is left. A failed read leaves `left` as it was. Which bytes will
+/// come isn't known.
 #[derive(Drop)]
 pub struct NextBytes<'a, I> {
     /// The input.
@@ -74,13 +75,11 @@ impl<I: Message> Message for NextBytes<'_, I> {
             return Ok(0);
         }
         let most = buffer.len().min(self.left as usize);
-        match self.input.read_into(&mut buffer[..most]) {
-            Ok(0) => Err(io::Error::from(ErrorKind::UnexpectedEof)),
-            Ok(n) => {
-                self.left -= n as u32;
-                Ok(n)
-            }
-            Err(error) => Err(error),
+        let n = self.input.read_into(&mut buffer[..most])?;
+        if n == 0 {
+            return Err(io::Error::from(ErrorKind::UnexpectedEof));
         }
+        self.left -= n as u32;
+        Ok(n)
     }
 }

@@ -101,7 +101,7 @@ pub fn read_to_end<M: Message, T: PieceTaker>(
 
 // Takes each piece, and keeps none.
 #[derive(Drop)]
-struct KeepNone {}
+struct KeepNone;
 
 impl PieceTaker for KeepNone {
     ghost use Rattle.std.specs.Prelude.{⊤};
@@ -121,9 +121,10 @@ impl PieceTaker for KeepNone {
     ghost takes_more = { λ _ _ _ _ _ _ _. tt };
 }
 
-/// Reads a message to its end, and discards it.
+/// Reads a message to its end, and discards it. It is refused where a read fails, even if only interrupted, or after
+/// 2^60 bytes; the message has been read up to there.
 pub fn discard<M: Message>(message: &mut M) -> Result<(), MessageFailed>
     ensures { Discards M.transition M.remaining result message.old message.new }
 {
-    read_to_end(message, &mut KeepNone {}).map_err(|_| MessageFailed)
+    read_to_end(message, &mut KeepNone).map_err(|_| MessageFailed)
 }

@@ -20,7 +20,7 @@ impl XmssPublic {
     ghost use Rattle.xmss.specs.Key.{public_key};
     ghost use Rattle.xmss.specs.Secret.{public_with};
 
-    /// The public key of a secret's tree with this root, 32 bytes. The root isn't made, nor checked.
+    /// The public key of a secret's tree. The root, 32 bytes, is taken as it is given.
     pub fn of(secret: &XmssSecret, root: [u8; 32]) -> Self
         ensures { result ≡ public_with secret.now root }
     {

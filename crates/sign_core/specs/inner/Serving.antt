@@ -12,11 +12,10 @@ use Rattle.sign_core.specs.declared.fault.SignFault.TheVariants as refused
 use Rattle.sign_core.specs.declared.serving.Reply.{Reply}
 use Rattle.sign_core.specs.declared.serving.Reply.TheVariants.{BadName, Refused, Signed}
 use Rattle.sign_core.specs.declared.source.Source as source
-use Rattle.sign_core.specs.Frames.{Ending, IsCut, IsWholeMessage, ReadsInput, Request, going}
+use Rattle.sign_core.specs.Frames.{Ending, ReadsInput}
 use Rattle.sign_core.specs.Records.{binding_in}
 use Rattle.sign_core.specs.Signer.{KeepsForRepeat, Signs, View, is_before_repeat}
-use Rattle.sign_core.specs.Signing.{KeepsCapacity}
-use Rattle.sign_core.specs.Serving.{AnswersBy, AnswersInTurn, Exchange, TurnEnds}
+use Rattle.sign_core.specs.Serving.{AnswersInTurn, Exchange, TurnEnds}
 
 -- A turn: the next bytes of the input, their answer and what was written.
 pub record Turns {S R I : Type 0} (g : store.Ghosts S) (r : source.Ghosts R) (m : message.Ghosts I)
@@ -37,24 +36,6 @@ WritesReply bytes old new (Ok _) = Appends old new bytes
 WritesReply bytes old new (Err WriteFailed) =
     (part : List ℕ) × (lost : List ℕ) × (bytes ≡ part ++ lost) × Appends old new part
 WritesReply bytes old new (Err _) = ⊥
-
--- How a frame's message ends: it came whole, or was cut.
-abbrev pub ComesTo : Ending → Request → (is_whole : Bool) → Type 0
-ComesTo ending request true = (ending ≡ going) × IsWholeMessage request
-ComesTo ending request false = IsCut ending request
-
--- A request whose head was read is answered: its message is read as far as it comes.
-pub record AnswersFrame {S R I : Type 0} (g : store.Ghosts S) (r : source.Ghosts R) (m : message.Ghosts I)
-    (said : List ℕ × ℕ) (old new : View S R) (before after : I) (capacity room : ℕ) (signature : List ℕ)
-    (result : Reply × Bool) : Type 0 where
-  pub request : Request
-  pub name : request.name ≡ said.0
-  pub announced : request.announced ≡ said.1
-  pub ending : Ending
-  pub comes : ComesTo ending request result.1
-  pub reads : ReadsInput m request.message ending before after
-  pub room_kept : KeepsCapacity old.records capacity room
-  pub answers : AnswersBy g r result.0 signature request old new capacity
 
 abbrev pub is_message_read : SignFault → Bool
 is_message_read refused.MessageRead = true

@@ -42,7 +42,6 @@ fn draw_tree<R: Source>(
 }
 
 impl<S: Store, R: Source> Signer<S, R> {
-
     // Makes room for a new name's records and signature, and the missing caches; `level` is the deepest with a free
     // leaf. A signer makes each cache once, as long as its tree is current.
     #[inline(never)]
@@ -94,14 +93,12 @@ impl<S: Store, R: Source> Signer<S, R> {
             unreachable!()
         };
         let below = level + 1;
-        let pair = chain.pair(below);
-        let (secret, randomizer) = draw_tree(pair, &mut self.random, &self.ledger)?;
-        let root = self
-            .caches
-            .begin(TreeRequest::new(below, secret, 0, progress))?;
+        let (secret, randomizer) = draw_tree(chain.pair(below), &mut self.random, &self.ledger)?;
+        let asked = TreeRequest::new(below, secret, 0, progress);
+        let root = self.caches.begin(asked)?;
         let public = LmsPublic::of(&secret, root).to_bytes();
-        let identifier = chain.secret_at(&self.ledger, parent.place).identifier;
-        let leaf = parent.next;
+        let signer = chain.secret_at(&self.ledger, parent.place);
+        let (identifier, leaf) = (signer.identifier, parent.next);
         let digest = LmOts { identifier, leaf }.message_digest(&randomizer, &public);
         self.add(Record::Extend(Extend {
             level: below,

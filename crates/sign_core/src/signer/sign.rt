@@ -173,6 +173,7 @@ impl<S: Store, R: Source> Signer<S, R> {
             // 27, 21, 29, 28
             return self.repeat(&binding, message, out, progress);
         }
+        // 33, 22
         if name.as_bytes().len() > usize::from(self.ledger.key().version.name_most()) {
             return Err(SignFault::LongName);
         }

@@ -73,7 +73,7 @@ returns-in_err-secret-clause-step g c key keyed =
     subst (λ (w : View g.row.S.Denot g.row.R.Denot).
     Extends g.S.Store g.R.Source (a.level + 1) w (view_of i.store c.draw_tree.new.random i.ledger i.caches i.is_open)
     (answered_with c.from_residual.result []) key) c.self.view_is
-    (undrawn g.S.Store g.R.Source (a.level + 1) key (trees_in c.in-Chain.chain) these c.pair-pair.result
+    (undrawn g.S.Store g.R.Source (a.level + 1) key (trees_in c.in-Chain.chain) these c.pair.result
     (view_of i.store i.random i.ledger i.caches i.is_open) c.draw_tree.new.random fault (answered_with c.from_residual.result []) rests answer
     c.in_err-secret.ensures)
 
@@ -82,7 +82,7 @@ begin-requires g c =
     let i = c.self.inside in
     let kept : key_in c.args.self.now.records ≡ Some i.ledger.key = ap (λ w. key_in w.records) (sym c.self.view_is) ∙ c.self.invariant.1 in
     let most = (levels_range i.ledger.records i.ledger.key (levels_of i.ledger.key.secret) c.self.invariant.0.sizes c.self.invariant.1 refl).1 in
-    omega (arith, c.requires.below i.ledger.key kept, most, c.new.ensures.level)
+    omega (arith, c.requires.below i.ledger.key kept, most, c.new-asked.ensures.level)
 
 pub returns-in_err-root-clause-step : goal.returns-in_err-root-clause-step
 returns-in_err-root-clause-step g c key keyed =
@@ -108,7 +108,7 @@ returns-in_err-root-clause-step g c key keyed =
     Extends g.S.Store g.R.Source (a.level + 1) w (view_of i.store c.draw_tree.new.random i.ledger i.caches i.is_open)
     (answered_with c.from_residual-in_err-root.result []) key) c.self.view_is
     (ungrown g.S.Store g.R.Source (a.level + 1) key (trees_in c.in-Chain.chain) these
-    (view_of i.store i.random i.ledger i.caches i.is_open) c.draw_tree.new.random c.pair-pair.result (c.in_ok-secret.secret, c.in_ok-secret.randomizer) (answered_with c.from_residual-in_err-root.result []) rests
+    (view_of i.store i.random i.ledger i.caches i.is_open) c.draw_tree.new.random c.pair.result (c.in_ok-secret.secret, c.in_ok-secret.randomizer) (answered_with c.from_residual-in_err-root.result []) rests
     answer c.in_ok-secret.ensures))
 
 pub add-requires-clause-follows : goal.add-requires-clause-follows
@@ -142,7 +142,7 @@ returns-clause-step g c key keyed =
     let these = subst (MakesTrees K.secret) c.in-Chain.is (subst (λ (k : Key). MakesTrees k.secret c.of.result) c.key.ensures.key c.of.ensures) in
     let stands = subst (λ w. Stands w.records a.level K) (sym c.self.view_is) (c.requires.stands K kept) in
     let has = has_free K.secret i.ledger.records a.level c.current.result c.in-Some.parent c.current.ensures c.in-Some.is stands.free in
-    let entry = entry_is K T i.ledger.records a.level c.in-Some.parent.place c.in-Some.parent.next c.secret_at.result
+    let entry = entry_is K T i.ledger.records a.level c.in-Some.parent.place c.in-Some.parent.next c.secret_at-signer.result
     seeds.0
     (public_with seeds.0 c.in_ok-root.root) (record {
       level = a.level + 1;
@@ -152,11 +152,11 @@ returns-clause-step g c key keyed =
       randomizer = seeds.1;
       digest = c.message_digest-digest.result;
       root = c.in_ok-root.root;
-    }) has c.secret_at.ensures refl refl refl refl
-    (ap (public_with seeds.0) (c.in_ok-root.ensures.root ∙ ap root_in c.new.ensures.secret))
-    (c.message_digest-digest.ensures ∙ ap (message_digest_of c.secret_at.result.identifier c.in-Some.parent.next c.in_ok-secret.randomizer) (c.to_bytes-public.ensures.bytes ∙ ap public_bytes c.of-2.ensures))
-    refl (c.in_ok-secret.ensures.4 ∙ c.pair-pair.ensures) in
-    let step = drawn_below g.S.Store g.R.Source K T i.store i.random c.draw_tree.new.random i.ledger i.is_open a.self.now c.add.new.self (a.level + 1) c.pair-pair.result seeds _
+    }) has c.secret_at-signer.ensures refl refl refl refl
+    (ap (public_with seeds.0) (c.in_ok-root.ensures.root ∙ ap root_in c.new-asked.ensures.secret))
+    (c.message_digest-digest.ensures ∙ ap (message_digest_of c.secret_at-signer.result.identifier c.in-Some.parent.next c.in_ok-secret.randomizer) (c.to_bytes-public.ensures.bytes ∙ ap public_bytes c.of-2.ensures))
+    refl (c.in_ok-secret.ensures.4 ∙ c.pair.ensures) in
+    let step = drawn_below g.S.Store g.R.Source K T i.store i.random c.draw_tree.new.random i.ledger i.is_open a.self.now c.add.new.self (a.level + 1) c.pair.result seeds _
     c.add.result c.self.view_is c.requires.ready.is_open these entry c.in_ok-secret.ensures c.add.ensures.adds in
     subst (λ (k : Key). Extends g.S.Store g.R.Source (a.level + 1) a.self.now c.add.new.self (answered_with c.add.result []) k) own step
 
@@ -180,12 +180,12 @@ returns-clause-stands g c =
       digest = c.message_digest-digest.result;
       root = c.in_ok-root.root;
     } in
-    let entry = entry_is K T i.ledger.records a.level c.in-Some.parent.place c.in-Some.parent.next c.secret_at.result
+    let entry = entry_is K T i.ledger.records a.level c.in-Some.parent.place c.in-Some.parent.next c.secret_at-signer.result
     seeds.0
-    (public_with seeds.0 c.in_ok-root.root) extend has c.secret_at.ensures refl refl refl refl
-    (ap (public_with seeds.0) (c.in_ok-root.ensures.root ∙ ap root_in c.new.ensures.secret))
-    (c.message_digest-digest.ensures ∙ ap (message_digest_of c.secret_at.result.identifier c.in-Some.parent.next c.in_ok-secret.randomizer) (c.to_bytes-public.ensures.bytes ∙ ap public_bytes c.of-2.ensures))
-    refl (c.in_ok-secret.ensures.4 ∙ c.pair-pair.ensures) in
+    (public_with seeds.0 c.in_ok-root.root) extend has c.secret_at-signer.ensures refl refl refl refl
+    (ap (public_with seeds.0) (c.in_ok-root.ensures.root ∙ ap root_in c.new-asked.ensures.secret))
+    (c.message_digest-digest.ensures ∙ ap (message_digest_of c.secret_at-signer.result.identifier c.in-Some.parent.next c.in_ok-secret.randomizer) (c.to_bytes-public.ensures.bytes ∙ ap public_bytes c.of-2.ensures))
+    refl (c.in_ok-secret.ensures.4 ∙ c.pair.ensures) in
     let after = stands_below K T i.ledger.records a.level seeds.0.identifier seeds.0.seed seeds.1 c.self.invariant.1 these stands (c.requires.below K kept) in
     if_added c.add.result (λ x is key keyed.
     let grown : c.add.new.self.records ≡ i.ledger.records ++ ExtendRecord extend ∷ [] =
