@@ -287,9 +287,9 @@ impl Ledger {
         None
     }
 
-    /// Whether a record can follow these: none after a Moved; an Extend by a free leaf of the level above, with an I of
-    /// its own; a Bound by a free leaf of the bottom level, under a name of its own, with zeros as C under XMSS; a Retire
-    /// of leaves that the bottom tree has; a Moved in version 1.
+    /// Whether a record can follow these. After a Moved none can. An Extend takes a free leaf of the level above, and
+    /// brings a new I. A Bound takes a free leaf of the bottom level and a new name; under XMSS its C is zeros.
+    /// A Retire names leaves that the bottom tree has. A Moved is of version 1.
     pub(crate) fn can_follow(&self, entry: &Record) -> bool
         ensures { result ≡ can_follow (Some self.now.key) self.now.records entry.now }
     {
