@@ -14,15 +14,15 @@ use Rattle.clap.specs.Walk.{Held as Collected, nothing_held as nothing_collected
 use Rattle.clap.specs.Words.{Rule, Text, all_of, fault_of, first_of, subcommand_of}
 use Rattle.clap.proofs.OnLiterals.{clap_on_literals}
 use Rattle.clap.specs.Simple.{Shape}
-use Rattle.command.specs.Make.{format_in}
+use Rattle.command.specs.Make.{format_of}
 use Rattle.state_file.specs.declared.record.Version.{Version}
 use Rattle.command.specs.Line.{AreTexts, FindsTask, GivesValues, IsCommandLine, IsLineOf, IsPlainWord, Task, audit, audit_anchored, audit_given, audit_given_pairs, audit_given_task, audit_task, hbsign_app, list, make, make_formatted, make_task, migrate, publish, retire, retire_number, serve, serve_task, sign, sign_task, task_found, task_named, verify}
 use Rattle.key_audit.specs.declared.report.Anchor.{Anchor}
-use Rattle.command.specs.Audit.{anchor_in}
-use Rattle.command.specs.AuditGiven.{Pair, pairs_in}
+use Rattle.command.specs.Audit.{anchor_of_texts}
+use Rattle.command.specs.AuditGiven.{Pair, path_pairs}
 use Rattle.command.specs.declared.line.UsageFault.{UsageFault}
 use Rattle.command.specs.LineFault.{usage_faults, line_faults}
-use Rattle.command.specs.Number.{number_in}
+use Rattle.command.specs.Number.{decimal_number}
 use Rattle.command.specs.Retire.{most_leaves}
 use Rattle.command.proofs.Walking.{Enters, IsTaken, TakesValue, at, audit_given_shape, audit_shape, end_fault, enters_audit, enters_audit_given, enters_list, enters_make, enters_migrate, enters_public, enters_retire, enters_serve, enters_sign, enters_verify, entered_faults, entered_rows, finds_list, finds_migrate, finds_public, finds_retire, finds_task, finds_verify, is_no_hyphen, list_1, list_shape, make_shape, migrate_1, migrate_2, migrate_shape, public_1, public_2, public_shape, retire_1, retire_2, retire_shape, serve_shape, sign_shape, takes_either, takes_listed, takes_message, takes_new, takes_old, takes_path, takes_public, takes_published, takes_signature, takes_state, takes_upto, turn_passes, verify_1, verify_2, verify_3, verify_shape, whole, word_is_value, word_walks}
 
@@ -565,7 +565,7 @@ pub ok_same : {A E : Type 0} (a b : A) → ◌≡◌ {A = Result A E} (Ok a) (Ok
 ok_same a b same = cc
 
 -- For each command, the line is one of the task that was found in it.
-of_retire : (words : List Text) (state text : Text) (task : Task) (number : Option ℕ) → number_in most_leaves text ≡ number
+of_retire : (words : List Text) (state text : Text) (task : Task) (number : Option ℕ) → decimal_number most_leaves text ≡ number
     → IsCommandLine words (codes "retire") (state ∷ text ∷ []) → retire_number state number ≡ Ok task → IsLineOf words task
 of_retire words state text task (Some upto) spells line same =
     subst (IsLineOf words) (ok_same (retire state upto) task same) (text, spells, line)
@@ -579,7 +579,7 @@ of_formatted words state public spec None random task same found = absurd cc
 
 of_make : (words : List Text) (state public spec format random : Option Text) (task : Task) → make_task state public spec format random ≡ Ok task
     → FindsTask words task → IsLineOf words task
-of_make words (Some s) (Some p) (Some x) (Some f) (Some r) task same found = of_formatted words s p x (format_in f) r task same found
+of_make words (Some s) (Some p) (Some x) (Some f) (Some r) task same found = of_formatted words s p x (format_of f) r task same found
 of_make words None public spec format random task same found = absurd cc
 of_make words (Some s) None spec format random task same found = absurd cc
 of_make words (Some s) (Some p) None format random task same found = absurd cc
@@ -611,7 +611,7 @@ of_anchor words state (Err fault) task same found = absurd cc
 
 of_audit : (words : List Text) (state count tag : Option Text) (task : Task) → audit_task state count tag ≡ Ok task
     → FindsTask words task → IsLineOf words task
-of_audit words (Some state) count tag task same found = of_anchor words state (anchor_in count tag) task same found
+of_audit words (Some state) count tag task same found = of_anchor words state (anchor_of_texts count tag) task same found
 of_audit words None count tag task same found = absurd cc
 
 of_pairs : (words : List Text) (public : Text) (pairs : Option (List Pair)) (task : Task) → audit_given_pairs public pairs ≡ Ok task
@@ -622,7 +622,7 @@ of_pairs words public None task same found = absurd cc
 
 of_audit_given : (words : List Text) (public : Option Text) (files : Option (List Text)) (task : Task) → audit_given_task public files ≡ Ok task
     → FindsTask words task → IsLineOf words task
-of_audit_given words (Some public) (Some paths) task same found = of_pairs words public (pairs_in paths) task same found
+of_audit_given words (Some public) (Some paths) task same found = of_pairs words public (path_pairs paths) task same found
 of_audit_given words None files task same found = absurd cc
 of_audit_given words (Some public) None task same found = absurd cc
 
@@ -678,7 +678,7 @@ is_line_of (word ∷ names) task none found texts = elim (is_named word names te
       let (state, text, same) = two_values values long in
       let line : IsCommandLine (word ∷ names) (codes "retire") (state ∷ text ∷ []) =
       (names, ap (λ w. w ∷ names) is, subst (GivesValues names) same given) in
-      of_retire (word ∷ names) state text task (number_in most_leaves text) refl line
+      of_retire (word ∷ names) state text task (decimal_number most_leaves text) refl line
       (sym (finds_retire (word ∷ names) state text line).1 ∙ found)
 ]
 

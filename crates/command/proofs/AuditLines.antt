@@ -13,10 +13,10 @@ use Rattle.clap.specs.declared.builder.value_parser.ValueParser.{ValueParser}
 use Rattle.clap.specs.declared.builder.value_parser.ValueParser.TheVariants.{String as TextParser}
 use Rattle.clap.proofs.OnLiterals.{clap_on_literals}
 use Rattle.state_file.specs.File.{most_records}
-use Rattle.command.specs.Audit.{anchor_with, tag_in}
-use Rattle.command.specs.AuditGiven.{Pair, pairs_in, paths_of}
+use Rattle.command.specs.Audit.{anchor_of_parts, tag_of_text}
+use Rattle.command.specs.AuditGiven.{Pair, path_pairs, paths_of}
 use Rattle.command.specs.Line.{FindsTask, GivesValues, IsAuditLine, IsCommandLine, IsLineOf, IsPlainWord, IsShownLineOf, Task, audit, audit_anchored, audit_given, audit_given_pairs, audit_given_task, hbsign_app, list, make, migrate, publish, retire, serve, sign, task_found, verify}
-use Rattle.command.specs.Number.{number_in}
+use Rattle.command.specs.Number.{decimal_number}
 use Rattle.command.proofs.Walking.{AllTaken, Goes, IsTaken, TakesAll, any_taken, at, audit_given_shape, audit_shape, end_fault, enters_audit, enters_audit_given, first_collected, goes, is_no_hyphen, plain_taken, stays, takes_line, turn_passes, word_walks}
 use Rattle.command.proofs.WithOption.{after_value_word, after_word, finds_make, finds_serve, finds_sign, goes_line, goes_on, value_turn_passes, value_walks}
 
@@ -69,7 +69,7 @@ unfolding clap_on_literals
 audit_all_ends state count tag = refl
 
 audit_all_found : (state count tag : Text) → task_found (Some (codes "audit", finished audit_shape.rules (audit_all state count tag).held))
-    ≡ audit_anchored state (anchor_with (number_in most_records count) (tag_in tag))
+    ≡ audit_anchored state (anchor_of_parts (decimal_number most_records count) (tag_of_text tag))
 unfolding clap_on_literals
 audit_all_found state count tag = refl
 
@@ -199,8 +199,8 @@ given_found : (b : Bool) (public file : Text) (files : List Text)
 unfolding clap_on_literals
 given_found b public file files = refl
 
-paths_are : (pairs : List Pair) → pairs_in (paths_of pairs) ≡ Some pairs
-unfolding pairs_in paths_of
+paths_are : (pairs : List Pair) → path_pairs (paths_of pairs) ≡ Some pairs
+unfolding path_pairs paths_of
 paths_are [] = refl
 paths_are (pair ∷ pairs) = rw (paths_are pairs) refl
 

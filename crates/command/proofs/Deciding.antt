@@ -15,7 +15,7 @@ use Rattle.typecodes.specs.Types.{chains_of, height_of, ots_code, ots_types, lms
 use Rattle.typecodes.specs.Layout.{Layout, done, refuse, ◌>>=◌}
 use Rattle.typecodes.specs.Fields.{number, block, values, ots_type, lms_type}
 use Rattle.lms.specs.declared.key.LmsPublic.{LmsPublic}
-use Rattle.lms.specs.Signature.{Signature as LmsSignature, signature_with, type_end, signature as lms_signature}
+use Rattle.lms.specs.Signature.{Signature as LmsSignature, whole_signature, type_end, signature as lms_signature}
 use Rattle.lms.specs.Key.{public_key as lms_public_key}
 use Rattle.lms.specs.Verification.{Verdict as LmsVerdict}
 use Rattle.hss.specs.declared.key.HssPublic.{HssPublic}
@@ -62,7 +62,7 @@ most-lms_type = most-typed lms_code lms_types
 -- the rest of a signature's layout, field by field
 abbrev with_path : ℕ → OtsType → List ℕ → List (List ℕ) → LmsType → List (List ℕ) → Layout LmsSignature
 with_path q ots randomizer chains tree path =
-    done (signature_with (record { tree = tree; ots = ots }) q randomizer chains path)
+    done (whole_signature (record { tree = tree; ots = ots }) q randomizer chains path)
 
 abbrev path_of : ℕ → OtsType → LmsType → Layout (List (List ℕ))
 path_of q ots tree = cond (nat_lt q (2 ^ height_of tree)) (values (height_of tree)) (refuse (type_end ots) LeafOutOfRange)
@@ -94,7 +94,7 @@ most-lms_signature =
     (most-if (nat_lt q (2 ^ height_of tree)) (values (height_of tree)) (refuse (type_end ots) LeafOutOfRange) 800 Any
     (λ inside. most-greater (values (height_of tree)) (32 * height_of tree) 800 Any (most_path tree) (most-values (height_of tree)))
     (most-refuse (type_end ots) LeafOutOfRange 800 Any))
-    (λ path any. most-done (signature_with (record { tree = tree; ots = ots }) q randomizer chains path) 0 Any tt))))))
+    (λ path any. most-done (whole_signature (record { tree = tree; ots = ots }) q randomizer chains path) 0 Any tt))))))
 
 lms_decided : {A : Type 0} (count : ℕ) (key : LmsPublic) (message bytes : List ℕ) (r : Result A SignatureRefusal) → 9324 < count
     → LmsVerdict key message (take count bytes) r → LmsVerdict key message bytes r

@@ -19,7 +19,7 @@ use Rattle.command.specs.Audit.{IsAudit}
 use Rattle.command.specs.AuditGiven.{IsAuditGiven, pairs_of}
 use Rattle.command.specs.declared.audit.Audit.{Audit}
 use Rattle.command.specs.declared.audit_given.AuditGiven.{AuditGiven}
-use Rattle.command.specs.Make.{IsMake, format_in}
+use Rattle.command.specs.Make.{IsMake, format_of}
 use Rattle.command.specs.ListState.{IsListState}
 use Rattle.command.specs.Migrate.{IsMigrate}
 use Rattle.command.specs.Public.{IsPublic}
@@ -70,7 +70,7 @@ is_make_task state public spec format random words (state_is, public_is, spec_is
     rw (state_is, public_is, spec_is, format_is, random_is, names) refl
 
 no_version : (state public spec format random : Option Text) (text : Text) → state ≢ None → public ≢ None → spec ≢ None → format ≡ Some text
-    → format_in text ≡ None → random ≢ None → Err Format ≡ make_task state public spec format random
+    → format_of text ≡ None → random ≢ None → Err Format ≡ make_task state public spec format random
 no_version (Some s) (Some p) (Some x) format (Some r) text state public spec is names random = rw (is, names) refl
 no_version None p x format r text state public spec is names random = absurd (state refl)
 no_version (Some s) None x format r text state public spec is names random = absurd (public refl)

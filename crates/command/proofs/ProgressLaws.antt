@@ -7,7 +7,7 @@ use Rattle.std.proofs.Math.Nat.{div-lt_iff_lt-mul, div-mul-le_self, le-div_iff_m
 use Rattle.std.proofs.lemmas.Fmt.{decimal_digit, decimal_nonempty, decimal_step, length-decimal-le}
 use Rattle.std.proofs.lemmas.Bool.{cases_lt}
 use Rattle.command.specs.Progress.{bar, full_block, group, grouped, has_room, in_seconds, is_due, light_block, long_text, percent, short_text, times}
-use Rattle.command.specs.ProgressLaws.{IsGrouped, LineLaws, characters, goes_on}
+use Rattle.command.specs.ProgressLaws.{IsGrouped, LineLaws, characters, is_continuation}
 
 by_less : (C : Bool → Type 0) (a b : ℕ) → (a < b → C true) → (b ≤ a → C false) → C (nat_lt a b)
 by_less C a b below above = ⊎_elim (λ l. subst C (sym (lt-ltb a b l)) (below l)) (λ l. subst C (sym (le-ltb a b l)) (above l)) (cases_lt a b)
@@ -124,7 +124,7 @@ nothing_more spent leaves =
 
 characters-append : (a b : List ℕ) → characters (a ++ b) ≡ characters a + characters b
 characters-append [] b = omega arith
-characters-append (byte ∷ bytes) b = more (goes_on byte) _ _ _ (characters-append bytes b)
+characters-append (byte ∷ bytes) b = more (is_continuation byte) _ _ _ (characters-append bytes b)
   where
     more : (on : Bool) (n m k : ℕ) → n ≡ m + k → (if on then n else 1 + n) ≡ (if on then m else 1 + m) + k
     more true n m k is = is
@@ -132,7 +132,7 @@ characters-append (byte ∷ bytes) b = more (goes_on byte) _ _ _ (characters-app
 
 characters-le : (a : List ℕ) → characters a ≤ length a
 characters-le [] = omega arith
-characters-le (byte ∷ bytes) = more (goes_on byte) _ _ (characters-le bytes)
+characters-le (byte ∷ bytes) = more (is_continuation byte) _ _ (characters-le bytes)
   where
     more : (on : Bool) (n m : ℕ) → n ≤ m → (if on then n else 1 + n) ≤ suc m
     more true n m le = omega (arith, le)

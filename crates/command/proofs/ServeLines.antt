@@ -15,14 +15,14 @@ use Rattle.state_file.specs.declared.store.file_store.FileStore.{FileStore}
 use Rattle.command.specs.declared.line.UsageFault.{UsageFault}
 use Rattle.command.specs.declared.line_fault.LineFault.{LineFault}
 use Rattle.command.specs.declared.line_fault.LineFault.TheVariants.{OutOfMemory}
-use Rattle.command.specs.AuditGiven.{Pair, pairs_in}
-use Rattle.command.specs.Audit.{anchor_in}
+use Rattle.command.specs.AuditGiven.{Pair, path_pairs}
+use Rattle.command.specs.Audit.{anchor_of_texts}
 use Rattle.state_file.specs.declared.record.Version.{Version}
 use Rattle.command.specs.Files.{FilesSeen}
 use Rattle.command.specs.Line.{AreTexts, FindsTask, Task, audit, audit_anchored, audit_given, audit_given_pairs, audit_given_task, audit_task, hbsign_app, list, list_task, make, make_formatted, make_task, migrate, migrate_task, publish, publish_task, retire, retire_number, retire_task, serve, serve_task, sign, sign_task, task_found, verify, verify_task}
 use Rattle.command.specs.LineFault.{HasLineFault, usage_faults, line_faults}
-use Rattle.command.specs.Make.{format_in}
-use Rattle.command.specs.Number.{number_in}
+use Rattle.command.specs.Make.{format_of}
+use Rattle.command.specs.Number.{decimal_number}
 use Rattle.command.specs.Output.{Taken}
 use Rattle.command.specs.Program.{AsksToServe, Explains, HasRepliesAlone, KeepsErrorsUnlessServing, ReportsOutOfMemory, ReportsTask, begins_with_serve}
 use Rattle.command.specs.Retire.{most_leaves}
@@ -50,7 +50,7 @@ not_formatted state public spec (Some version) random = refl
 not_formatted state public spec None random = refl
 
 not_make : (state public spec format random : Option Text) → serves (make_task state public spec format random) ≡ false
-not_make (Some s) (Some p) (Some x) (Some f) (Some r) = not_formatted s p x (format_in f) r
+not_make (Some s) (Some p) (Some x) (Some f) (Some r) = not_formatted s p x (format_of f) r
 not_make None public spec format random = refl
 not_make (Some s) None spec format random = refl
 not_make (Some s) (Some p) None format random = refl
@@ -76,7 +76,7 @@ not_number state (Some upto) = refl
 not_number state None = refl
 
 not_retire : (state upto : Option Text) → serves (retire_task state upto) ≡ false
-not_retire (Some state) (Some upto) = not_number state (number_in most_leaves upto)
+not_retire (Some state) (Some upto) = not_number state (decimal_number most_leaves upto)
 not_retire None upto = refl
 not_retire (Some state) None = refl
 
@@ -85,7 +85,7 @@ not_anchored state (Ok anchor) = refl
 not_anchored state (Err fault) = refl
 
 not_audit : (state count tag : Option Text) → serves (audit_task state count tag) ≡ false
-not_audit (Some state) count tag = not_anchored state (anchor_in count tag)
+not_audit (Some state) count tag = not_anchored state (anchor_of_texts count tag)
 not_audit None count tag = refl
 
 not_migrate : (old new : Option Text) → serves (migrate_task old new) ≡ false
@@ -107,7 +107,7 @@ not_pairs public (Some pairs) = refl
 not_pairs public None = refl
 
 not_audit_given : (public : Option Text) (files : Option (List Text)) → serves (audit_given_task public files) ≡ false
-not_audit_given (Some public) (Some paths) = not_pairs public (pairs_in paths)
+not_audit_given (Some public) (Some paths) = not_pairs public (path_pairs paths)
 not_audit_given None files = refl
 not_audit_given (Some public) None = refl
 

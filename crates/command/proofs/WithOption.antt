@@ -10,8 +10,8 @@ use Rattle.clap.proofs.OnLiterals.{clap_on_literals}
 use Rattle.state_file.specs.declared.record.Version.TheVariants.{Two}
 use Rattle.command.specs.Argument.{default_random}
 use Rattle.command.specs.Line.{FindsTask, IsFormattedLine, IsLineWithOption, IsMakeLine, IsPlainWord, hbsign_app, make, make_formatted, serve, sign, task_found}
-use Rattle.command.specs.Make.{format_in}
-use Rattle.command.specs.Number.{number_after}
+use Rattle.command.specs.Make.{format_of}
+use Rattle.command.specs.Number.{continued_number}
 use Rattle.command.proofs.Accepting.{none_of}
 use Rattle.command.proofs.Walking.{Enters, Goes, TakesAll, at, end_fault, entered_faults, entered_rows, enters_make, enters_serve, enters_sign, first_collected, goes, is_no_hyphen, make_shape, next_collected, over_all, plain_taken, serve_shape, sign_shape, stays, takes_line}
 
@@ -94,7 +94,7 @@ make_ends state public spec b = refl
 
 make_found : (state public spec : Text)
     → task_found (Some (codes "make", finished make_shape.rules (make_3 state public spec))) ≡ Ok (make state public spec Two default_random)
-unfolding number_after
+unfolding continued_number
 make_found state public spec = refl
 
 -- then the file of random bytes
@@ -118,7 +118,7 @@ make_all_ends state public spec random = refl
 
 make_all_found : (state public spec random : Text)
     → task_found (Some (codes "make", finished make_shape.rules (make_all state public spec random).held)) ≡ Ok (make state public spec Two random)
-unfolding clap_on_literals number_after
+unfolding clap_on_literals continued_number
 make_all_found state public spec random = refl
 
 finds_version_two : (words : List Text) (state public spec random : Text) → IsLineWithOption words (codes "make") (state ∷ public ∷ spec ∷ []) random
@@ -154,7 +154,7 @@ formatted_ends state public spec format = refl
 
 formatted_found : (state public spec format : Text)
     → task_found (Some (codes "make", finished make_shape.rules (formatted state public spec format).held))
-    ≡ make_formatted state public spec (format_in format) default_random
+    ≡ make_formatted state public spec (format_of format) default_random
 unfolding clap_on_literals
 formatted_found state public spec format = refl
 
@@ -179,7 +179,7 @@ then_all_ends state public spec format random = refl
 
 then_all_found : (state public spec format random : Text)
     → task_found (Some (codes "make", finished make_shape.rules (then_all state public spec format random).held))
-    ≡ make_formatted state public spec (format_in format) random
+    ≡ make_formatted state public spec (format_of format) random
 unfolding clap_on_literals
 then_all_found state public spec format random = refl
 

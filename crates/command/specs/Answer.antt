@@ -25,7 +25,7 @@ use Rattle.command.specs.Refusal.{refusal_line}
 use Rattle.state_file.specs.declared.record.Record.{Record}
 use Rattle.state_file.specs.Slot.{version_code}
 use Rattle.typecodes.specs.Spec.{spec_text}
-use Rattle.key_audit.specs.Listing.{ListingLaw, Shown, names_among, shown_by, shown_in, without_secret}
+use Rattle.key_audit.specs.Listing.{ListingLaw, Shown, names_among, shown_of_listing, shown_of_records, without_secret}
 use Rattle.command.specs.Output.{Taken, WritesText, Fails, entry_lines, level_lines, moved_line}
 
 -- the lines of a report, after the bytes of the public key
@@ -44,7 +44,7 @@ listing_lines shown =
 
 -- the listing of records; None without a key
 abbrev pub listed_lines : List Record → Option (List ℕ)
-listed_lines records = option_map listing_lines (shown_in records)
+listed_lines records = option_map listing_lines (shown_of_records records)
 
 -- Nothing secret is listed: two lists of records that differ only in secrets have the same lines.
 pub secrets_have_no_part : ListingLaw → (a b : List Record) → map without_secret a ≡ map without_secret b
@@ -57,7 +57,7 @@ done_lines (Retired upto) = codes "retired upto " ++ decimal upto ++ codes "\n"
 done_lines (Published public) = codes "public " ++ encode_lower public.items ++ codes "\n"
 done_lines (Signed name size) = codes "signed " ++ name ++ codes " " ++ decimal size ++ codes " bytes\n"
 done_lines (Audited public report) = report_lines public.items report
-done_lines (Listed listing) = listing_lines (shown_by listing)
+done_lines (Listed listing) = listing_lines (shown_of_listing listing)
 done_lines (Checked count) = codes "given " ++ decimal count ++ codes " signatures, no leaf twice\n"
 done_lines (Migrated count) = codes "migrated " ++ decimal count ++ codes " records\n"
 
@@ -135,11 +135,11 @@ line_is_lowercase (Ok (Migrated count)) after = refl
 line_is_lowercase (Err refusal) after = refl
 
 -- and so has one in which this stands after a line's end.
-line_after : (byte : ℕ) (before line : List ℕ) → has_lowercase_line 10 line ≡ true
+later_line : (byte : ℕ) (before line : List ℕ) → has_lowercase_line 10 line ≡ true
     → has_lowercase_line byte (before ++ 10 ∷ line) ≡ true
 unfolding has_lowercase_line
-line_after byte [] line lowercase = or_right _ _ lowercase
-line_after byte (next ∷ before) line lowercase = or_right _ _ (line_after next before line lowercase)
+later_line byte [] line lowercase = or_right _ _ lowercase
+later_line byte (next ∷ before) line lowercase = or_right _ _ (later_line next before line lowercase)
 
 -- So no line of help is an answer's line, neither its first nor a later one.
 pub help_has_no_answer : (text before after : List ℕ) (answer : Result Done Refusal) → IsHelp text
@@ -147,4 +147,4 @@ pub help_has_no_answer : (text before after : List ℕ) (answer : Result Done Re
 help_has_no_answer text before after answer (capital, none) (inl first) =
     false≢true (sym none ∙ ap (has_lowercase_line 10) first ∙ line_is_lowercase answer after)
 help_has_no_answer text before after answer (capital, none) (inr later) =
-    false≢true (sym none ∙ ap (has_lowercase_line 10) later ∙ line_after 10 before _ (line_is_lowercase answer after))
+    false≢true (sym none ∙ ap (has_lowercase_line 10) later ∙ later_line 10 before _ (line_is_lowercase answer after))

@@ -18,7 +18,7 @@ use Rattle.command.specs.FileDisk.{IsStateRefusal}
 use Rattle.command.specs.Files.{FilesSeen}
 use Rattle.state_file.specs.File.{most_records}
 use Rattle.command.specs.KeyFile.{AuditsOn}
-use Rattle.command.specs.Number.{number_in}
+use Rattle.command.specs.Number.{decimal_number}
 use Rattle.command.specs.Signing.{PublicBytes}
 use Rattle.command.specs.Trace.{Happening, opened_to_read, opening_state_to_read}
 
@@ -33,26 +33,26 @@ decoded (Ok bytes) = Some bytes
 decoded (Err _) = None
 
 -- from 64 hex digits
-abbrev pub tag_in : Text → Option (List ℕ)
-tag_in text = decoded (decode_sized text 32)
+abbrev pub tag_of_text : Text → Option (List ℕ)
+tag_of_text text = decoded (decode_sized text 32)
 
-abbrev pub anchor_with : Option ℕ → Option (List ℕ) → Result (Option Anchor) UsageFault
-anchor_with (Some count) (Some tag) = Ok (Some (record { count = count; tag = tag }))
-anchor_with None _ = Err usage.Count
-anchor_with (Some _) None = Err usage.Tag
+abbrev pub anchor_of_parts : Option ℕ → Option (List ℕ) → Result (Option Anchor) UsageFault
+anchor_of_parts (Some count) (Some tag) = Ok (Some (record { count = count; tag = tag }))
+anchor_of_parts None _ = Err usage.Count
+anchor_of_parts (Some _) None = Err usage.Tag
 
 -- both texts, or neither
-abbrev pub anchor_in : (count tag : Option Text) → Result (Option Anchor) UsageFault
-anchor_in None None = Ok None
-anchor_in (Some count) (Some tag) = anchor_with (number_in most_records count) (tag_in tag)
-anchor_in None (Some _) = Err usage.Anchor
-anchor_in (Some _) None = Err usage.Anchor
+abbrev pub anchor_of_texts : (count tag : Option Text) → Result (Option Anchor) UsageFault
+anchor_of_texts None None = Ok None
+anchor_of_texts (Some count) (Some tag) = anchor_of_parts (decimal_number most_records count) (tag_of_text tag)
+anchor_of_texts None (Some _) = Err usage.Anchor
+anchor_of_texts (Some _) None = Err usage.Anchor
 
 -- The values of the words; or the state file is missing, or the anchor is wrong.
 abbrev pub IsAudit : (state count tag : Option Text) → Result Audit UsageFault → Type 0
-IsAudit state count tag (Ok words) = (state ≡ Some words.state.now) × (anchor_in count tag ≡ Ok words.anchor)
+IsAudit state count tag (Ok words) = (state ≡ Some words.state.now) × (anchor_of_texts count tag ≡ Ok words.anchor)
 IsAudit state count tag (Err fault) = ((state ≡ None) × (fault ≡ usage.Command))
-    ⊎ ((path : Text) × (state ≡ Some path) × (anchor_in count tag ≡ Err fault))
+    ⊎ ((path : Text) × (state ≡ Some path) × (anchor_of_texts count tag ≡ Err fault))
 
 -- ---- what it does
 

@@ -36,10 +36,10 @@ paths_of [] = []
 paths_of (pair ∷ pairs) = pair.0 ∷ pair.1 ∷ paths_of pairs
 
 -- None if the number of paths is odd
-unfoldable pub pairs_in : List Text → Option (List Pair)
-pairs_in [] = Some []
-pairs_in (message ∷ []) = None
-pairs_in (message ∷ signature ∷ paths) = option_map (λ pairs. (message, signature) ∷ pairs) (pairs_in paths)
+unfoldable pub path_pairs : List Text → Option (List Pair)
+path_pairs [] = Some []
+path_pairs (message ∷ []) = None
+path_pairs (message ∷ signature ∷ paths) = option_map (λ pairs. (message, signature) ∷ pairs) (path_pairs paths)
 
 abbrev pub pair_of : GivenFiles → Pair
 pair_of files = (files.message.now, files.signature.now)
@@ -50,10 +50,10 @@ pairs_of words = map pair_of words.files.items
 -- The values of the words; or one is missing, or the number of files is odd.
 abbrev pub IsAuditGiven : (public : Option Text) → (files : Option (List Text)) → Result AuditGiven UsageFault → Type 0
 IsAuditGiven public files (Ok words) = (public ≡ Some words.public.now)
-    × ((paths : List Text) × (files ≡ Some paths) × (pairs_in paths ≡ Some (pairs_of words)))
+    × ((paths : List Text) × (files ≡ Some paths) × (path_pairs paths ≡ Some (pairs_of words)))
 IsAuditGiven public files (Err fault) = (((public ≡ None) ⊎ (files ≡ None)) × (fault ≡ usage.Command))
     ⊎ ((path : Text) × (paths : List Text) × (public ≡ Some path) × (files ≡ Some paths)
-    × (pairs_in paths ≡ None) × (fault ≡ usage.Pairs))
+    × (path_pairs paths ≡ None) × (fault ≡ usage.Pairs))
 
 -- ---- how they are read
 

@@ -28,8 +28,8 @@ use Rattle.command.specs.declared.refusal.Refusal.{Refusal}
 use Rattle.command.specs.declared.refusal.Refusal.TheVariants.{Audit, Migration, Opening, Preparing, Serving, Signer}
 use Rattle.command.specs.Signing.{RetiresBelow}
 
-abbrev pub refused_with : {T F : Type 0} → F → T → Refused T F
-refused_with fault given = record { fault = fault; given = given }
+abbrev pub given_back : {T F : Type 0} → F → T → Refused T F
+given_back fault given = record { fault = fault; given = given }
 
 -- The disk's records were found, and a signer opened on them. Or one of the two was refused, and the disk is handed
 -- back.
@@ -38,10 +38,10 @@ abbrev pub OpensOn : {K R : Type 0} {bound : _} → disk.Ghosts K → store.Ghos
 OpensOn {K} {R} {bound} d g given random (Ok signer) =
     (found : FileStore K bound) × FindsRecords d given (Ok found) × Opens g found random (Ok signer)
 OpensOn {K} {R} {bound} d g given random (Err refused) =
-    ((fault : OpenFault) × FindsRecords {bound = bound} d given (Err (refused_with fault refused.given))
+    ((fault : OpenFault) × FindsRecords {bound = bound} d given (Err (given_back fault refused.given))
     × (refused.fault ≡ Opening fault))
     ⊎ ((found : FileStore K bound) × (fault : SignFault) × (after : FileStore K bound) × (unused : R)
-    × FindsRecords d given (Ok found) × Opens g found random (Err (refused_with fault (after, unused)))
+    × FindsRecords d given (Ok found) × Opens g found random (Err (given_back fault (after, unused)))
     × (refused.fault ≡ Signer fault) × (refused.given ≡ disk_of after))
 
 -- A signer was opened on the disk, retired the leaves, and gave the disk back; or it couldn't be opened. A retire draws
@@ -50,7 +50,7 @@ abbrev pub RetiresOn : {K : Type 0} {bound : _} → disk.Ghosts K → store.Ghos
     → (upto : ℕ) → Result Unit Refusal → Type 0
 RetiresOn {K} {bound} d g old new upto answer =
     ((random : TapeSource) × (refusal : Refusal) × (answer ≡ Err refusal)
-    × OpensOn {bound = bound} d g old random (Err (refused_with refusal new)))
+    × OpensOn {bound = bound} d g old random (Err (given_back refusal new)))
     ⊎ ((random : TapeSource) × (before after : View (FileStore K bound) TapeSource)
     × OpensOn d g old random (Ok before) × RetiresBelow g before after upto answer × (new ≡ disk_of after.store))
 
@@ -62,11 +62,11 @@ MakesOn {K} {R} {bound} d g r given version spec random (Ok signer) =
     (prepared : FileStore K bound) × PreparesDisk d given (Ok prepared)
     × Creates g r version spec prepared random (Ok signer)
 MakesOn {K} {R} {bound} d g r given version spec random (Err refused) =
-    ((fault : FormatFault) × PreparesDisk {bound = bound} d given (Err (refused_with fault refused.given))
+    ((fault : FormatFault) × PreparesDisk {bound = bound} d given (Err (given_back fault refused.given))
     × (refused.fault ≡ Preparing fault))
     ⊎ ((prepared : FileStore K bound) × (fault : SignFault) × (after : FileStore K bound) × (drawn : R)
     × PreparesDisk d given (Ok prepared)
-    × Creates g r version spec prepared random (Err (refused_with fault (after, drawn)))
+    × Creates g r version spec prepared random (Err (given_back fault (after, drawn)))
     × (refused.fault ≡ Signer fault) × (refused.given ≡ disk_of after))
 
 -- The output has the signature, or the refusal is reported.
@@ -88,7 +88,7 @@ abbrev pub SignsOn : {K R M : Type 0} {bound : _} → disk.Ghosts K → store.Gh
     → (output : List ℕ) → Result Unit Refusal → Type 0
 SignsOn {K} {R} {M} {bound} d g r m old new random name before after capacity output answer =
     ((refusal : Refusal) × (answer ≡ Err refusal) × (after ≡ before)
-    × OpensOn {bound = bound} d g old random (Err (refused_with refusal new)))
+    × OpensOn {bound = bound} d g old random (Err (given_back refusal new)))
     ⊎ ((opened left : View (FileStore K bound) R) × OpensOn d g old random (Ok opened)
     × SignsFor g r m opened left name before after capacity output answer × (new ≡ disk_of left.store))
 
@@ -103,7 +103,7 @@ abbrev pub ServesOn : {K R I W : Type 0} {bound : _} → disk.Ghosts K → store
     → (from to : I × W) → Result ℕ Refusal → Type 0
 ServesOn {K} {R} {I} {W} {bound} d g r m contents old new random from to served =
     ((refusal : Refusal) × (served ≡ Err refusal) × (to ≡ from)
-    × OpensOn {bound = bound} d g old random (Err (refused_with refusal new)))
+    × OpensOn {bound = bound} d g old random (Err (given_back refusal new)))
     ⊎ ((opened left : View (FileStore K bound) R) × (ended : Result ℕ ServeFault)
     × OpensOn d g old random (Ok opened)
     × Serves g r m opened left from.0 to.0 (contents from.1) (contents to.1) ended
@@ -117,7 +117,7 @@ audit_reported (Err fault) = Err (Audit fault)
 abbrev pub AuditsOn : {K : Type 0} → (d : disk.Ghosts K) → (old new : K) → Option Anchor → Result Report Refusal
     → Type 0
 AuditsOn {K} d old new anchor answer =
-    ((fault : OpenFault) × FindsRecords {bound = d} d old (Err (refused_with fault new))
+    ((fault : OpenFault) × FindsRecords {bound = d} d old (Err (given_back fault new))
     × (answer ≡ Err (Opening fault)))
     ⊎ ((found after : FileStore K d) × (audited : Result Report AuditFault) × FindsRecords d old (Ok found)
     × Audits d found after anchor audited × (answer ≡ audit_reported audited) × (new ≡ disk_of after))
@@ -125,7 +125,7 @@ AuditsOn {K} d old new anchor answer =
 -- The disk's records were found and listed, and the disk given back; or they couldn't be found.
 abbrev pub ListsOn : {K : Type 0} → (d : disk.Ghosts K) → (old new : K) → Result Listing Refusal → Type 0
 ListsOn {K} d old new answer =
-    ((fault : OpenFault) × FindsRecords {bound = d} d old (Err (refused_with fault new))
+    ((fault : OpenFault) × FindsRecords {bound = d} d old (Err (given_back fault new))
     × (answer ≡ Err (Opening fault)))
     ⊎ ((found after : FileStore K d) × (listed : Result Listing AuditFault) × FindsRecords d old (Ok found)
     × Lists d found after listed × (answer ≡ audit_reported listed) × (new ≡ disk_of after))

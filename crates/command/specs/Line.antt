@@ -22,13 +22,13 @@ use Rattle.command.specs.declared.line.Request.TheVariants.{Serve, Migrate, List
 use Rattle.command.specs.declared.answer.Done.{Done}
 use Rattle.command.specs.declared.refusal.Refusal.{Refusal}
 use Rattle.command.specs.Argument.{default_random}
-use Rattle.command.specs.Audit.{AuditsIn, anchor_in, audit_app, tag_in}
-use Rattle.command.specs.AuditGiven.{ChecksIn, Pair, audit_given_app, pairs_in, pairs_of, paths_of}
+use Rattle.command.specs.Audit.{AuditsIn, anchor_of_texts, audit_app, tag_of_text}
+use Rattle.command.specs.AuditGiven.{ChecksIn, Pair, audit_given_app, path_pairs, pairs_of, paths_of}
 use Rattle.command.specs.Files.{FilesSeen}
 use Rattle.command.specs.ListState.{ListsIn, list_app}
-use Rattle.command.specs.Make.{MakesIn, format_in, make_app}
+use Rattle.command.specs.Make.{MakesIn, format_of, make_app}
 use Rattle.command.specs.Migrate.{MigratesIn, migrate_app}
-use Rattle.command.specs.Number.{number_in}
+use Rattle.command.specs.Number.{decimal_number}
 use Rattle.command.specs.Public.{PublishesIn, public_app}
 use Rattle.command.specs.Verify.{verify_app, VerifiesIn}
 use Rattle.command.specs.Retire.{RetiresIn, most_leaves, retire_app}
@@ -123,7 +123,7 @@ make_formatted state public spec None random = Err usage.Format
 
 abbrev pub make_task : (state public spec format random : Option Text) → Result Task UsageFault
 make_task (Some state) (Some public) (Some spec) (Some format) (Some random) =
-    make_formatted state public spec (format_in format) random
+    make_formatted state public spec (format_of format) random
 make_task _ _ _ _ _ = Err Command
 
 abbrev pub sign_task : (state name message out random : Option Text) → Result Task UsageFault
@@ -139,7 +139,7 @@ retire_number state (Some upto) = Ok (retire state upto)
 retire_number state None = Err Number
 
 abbrev pub retire_task : Option Text → Option Text → Result Task UsageFault
-retire_task (Some state) (Some upto) = retire_number state (number_in most_leaves upto)
+retire_task (Some state) (Some upto) = retire_number state (decimal_number most_leaves upto)
 retire_task _ _ = Err Command
 
 abbrev pub audit_anchored : Text → Result (Option Anchor) UsageFault → Result Task UsageFault
@@ -147,7 +147,7 @@ audit_anchored state (Ok anchor) = Ok (audit state anchor)
 audit_anchored state (Err fault) = Err fault
 
 abbrev pub audit_task : (state count tag : Option Text) → Result Task UsageFault
-audit_task (Some state) count tag = audit_anchored state (anchor_in count tag)
+audit_task (Some state) count tag = audit_anchored state (anchor_of_texts count tag)
 audit_task None _ _ = Err Command
 
 abbrev pub serve_task : (state random : Option Text) → Result Task UsageFault
@@ -171,7 +171,7 @@ audit_given_pairs public (Some pairs) = Ok (audit_given public pairs)
 audit_given_pairs public None = Err usage.Pairs
 
 abbrev pub audit_given_task : Option Text → Option (List Text) → Result Task UsageFault
-audit_given_task (Some public) (Some paths) = audit_given_pairs public (pairs_in paths)
+audit_given_task (Some public) (Some paths) = audit_given_pairs public (path_pairs paths)
 audit_given_task _ _ = Err Command
 
 -- the task of a command with a fixed number of values, by its name and the rows of its values
@@ -222,7 +222,7 @@ IsLineOf words (make state public spec version random) = FindsTask words (make s
 IsLineOf words (sign state name message out random) = FindsTask words (sign state name message out random)
 IsLineOf words (verify public message signature) =
     IsCommandLine words (codes "verify") (public ∷ message ∷ signature ∷ [])
-IsLineOf words (retire state upto) = (text : List ℕ) × (number_in most_leaves text ≡ Some upto)
+IsLineOf words (retire state upto) = (text : List ℕ) × (decimal_number most_leaves text ≡ Some upto)
     × IsCommandLine words (codes "retire") (state ∷ text ∷ [])
 IsLineOf words (audit state anchor) = FindsTask words (audit state anchor)
 IsLineOf words (audit_given public files) = FindsTask words (audit_given public files)
@@ -242,7 +242,7 @@ pub record IsFormattedLine (words : List (List ℕ)) (state public spec : List �
     (random : List ℕ) : Type 0 where
   pub format : List ℕ
   pub plain : ArePlainWords (state ∷ public ∷ spec ∷ format ∷ random ∷ [])
-  pub format_is : format_in format ≡ Some version
+  pub format_is : format_of format ≡ Some version
   pub words_are : ((words ≡ codes "make" ∷ state ∷ public ∷ spec ∷ codes "--format" ∷ format ∷ [])
       × (random ≡ default_random))
       ⊎ (words ≡ codes "make" ∷ state ∷ public ∷ spec ∷ codes "--format" ∷ format ∷ codes "--random" ∷ random ∷ [])
@@ -259,8 +259,8 @@ pub record IsAnchoredLine (words : List (List ℕ)) (state : List ℕ) (anchor :
   pub tag : List ℕ
   pub words_are : words ≡ codes "audit" ∷ state ∷ codes "--count" ∷ count ∷ codes "--tag" ∷ tag ∷ []
   pub plain : ArePlainWords (state ∷ count ∷ tag ∷ [])
-  pub count_is : number_in most_records count ≡ Some anchor.count
-  pub tag_is : tag_in tag ≡ Some anchor.tag
+  pub count_is : decimal_number most_records count ≡ Some anchor.count
+  pub tag_is : tag_of_text tag ≡ Some anchor.tag
 
 -- .. or without one
 abbrev pub IsAuditLine : List (List ℕ) → (state : List ℕ) → Option Anchor → Type 0

@@ -5,7 +5,7 @@ use Rattle.typecodes.specs.declared.spec.Spec.{Spec}
 use Rattle.typecodes.specs.Spec.{IsSpec, spec_text}
 use Rattle.typecodes.specs.Types.{named}
 use Rattle.sign_core.specs.declared.source.Source as source
-use Rattle.sign_core.specs.Records.{key_in}
+use Rattle.sign_core.specs.Records.{the_key}
 use Rattle.sign_core.specs.Signer.{View}
 use Rattle.state_file.specs.declared.disk.Disk as disk
 use Rattle.state_file.specs.declared.record.Version.{Version}
@@ -24,8 +24,8 @@ use Rattle.command.specs.declared.trace.Role.TheVariants as role
 use Rattle.command.specs.Argument.{default_rule, random_rule, required_rule}
 use Rattle.command.specs.FileDisk.{IsStateRefusal}
 use Rattle.command.specs.Files.{FilesSeen, KeepsOtherContents, ShowsContent}
-use Rattle.command.specs.KeyFile.{MakesOn, refused_with}
-use Rattle.command.specs.Number.{number_in}
+use Rattle.command.specs.KeyFile.{MakesOn, given_back}
+use Rattle.command.specs.Number.{decimal_number}
 use Rattle.command.specs.Signing.{PublicBytes, Publishes}
 use Rattle.command.specs.Trace.{Happening, made, making, not_opened, opened}
 
@@ -43,16 +43,16 @@ version_numbered (Some number) = named version_code versions number
 version_numbered None = None
 
 -- 1 or 2
-abbrev pub format_in : Text → Option Version
-format_in text = version_numbered (number_in 2 text)
+abbrev pub format_of : Text → Option Version
+format_of text = version_numbered (decimal_number 2 text)
 
 -- The values of the words; or one is missing, or the format isn't 1 or 2.
 abbrev pub IsMake : (state public spec format random : Option Text) → Result Make UsageFault → Type 0
 IsMake state public spec format random (Ok words) = (state ≡ Some words.state.now) × (public ≡ Some words.public.now)
-    × (spec ≡ Some words.spec.now) × ((text : Text) × (format ≡ Some text) × (format_in text ≡ Some words.version))
+    × (spec ≡ Some words.spec.now) × ((text : Text) × (format ≡ Some text) × (format_of text ≡ Some words.version))
     × (random ≡ Some words.random.now)
 IsMake state public spec format random (Err Format) = (state ≢ None) × (public ≢ None) × (spec ≢ None)
-    × ((text : Text) × (format ≡ Some text) × (format_in text ≡ None)) × (random ≢ None)
+    × ((text : Text) × (format ≡ Some text) × (format_of text ≡ None)) × (random ≢ None)
 IsMake state public spec format random (Err Command) =
     (state ≡ None) ⊎ (public ≡ None) ⊎ (spec ≡ None) ⊎ (format ≡ None) ⊎ (random ≡ None)
 IsMake state public spec format random (Err _) = ⊥
@@ -65,9 +65,9 @@ abbrev pub MakesAndPublishes : {K R : Type 0} {bound : _} → disk.Ghosts K → 
     → Result PublicBytes Refusal → (old new : List Happening) → Type 0
 MakesAndPublishes {K} {R} {bound} d g r before after version spec random public answer old new =
     ((refusal : Refusal) × (answer ≡ Err refusal) × (new ≡ old)
-    × MakesOn {bound = bound} d g r before version spec random (Err (refused_with refusal after)))
+    × MakesOn {bound = bound} d g r before version spec random (Err (given_back refusal after)))
     ⊎ ((signer : View (FileStore K bound) R) × MakesOn d g r before version spec random (Ok signer)
-    × Publishes (key_in signer.records) public old new answer × (after ≡ disk_of signer.store))
+    × Publishes (the_key signer.records) public old new answer × (after ≡ disk_of signer.store))
 
 -- On the disk of an open state file: the file of random bytes was opened, and a key made and published. Or the file
 -- couldn't be opened, and the disk is as it was.

@@ -7,14 +7,14 @@ abbrev pub with_digit : ℕ → ℕ → ℕ
 with_digit number byte = number * 10 + (byte - 48)
 
 -- These digits continue a number. None for a byte that is no digit, or past `most`.
-unfoldable pub number_after : (most number : ℕ) → List ℕ → Option ℕ
-number_after most number [] = Some number
-number_after most number (byte ∷ bytes) =
+unfoldable pub continued_number : (most number : ℕ) → List ℕ → Option ℕ
+continued_number most number [] = Some number
+continued_number most number (byte ∷ bytes) =
     if is_ascii_digit byte
-    then (if nat_lt most (with_digit number byte) then None else number_after most (with_digit number byte) bytes)
+    then (if nat_lt most (with_digit number byte) then None else continued_number most (with_digit number byte) bytes)
     else None
 
 -- The number of a text of decimal digits, at least one, up to `most`.
-abbrev pub number_in : (most : ℕ) → List ℕ → Option ℕ
-number_in most [] = None
-number_in most (byte ∷ bytes) = number_after most 0 (byte ∷ bytes)
+abbrev pub decimal_number : (most : ℕ) → List ℕ → Option ℕ
+decimal_number most [] = None
+decimal_number most (byte ∷ bytes) = continued_number most 0 (byte ∷ bytes)

@@ -13,13 +13,13 @@ pub record IsGrouped (number : ℕ) (text : List ℕ) : Type 0 where
   pub first_is_short : (1 ≤ length first) × (length first ≤ 3)
   pub groups_of_three : AllByRecursion (λ group. length group ≡ 3) groups
 
--- how many characters a text of UTF-8 has: bytes 128 to 191 go on with one (RFC 3629 3)
-abbrev pub goes_on : (byte : ℕ) → Bool
-goes_on byte = nat_le 128 byte && nat_lt byte 192
+-- how many characters a text of UTF-8 has: bytes 128 to 191 continue one (RFC 3629 3)
+abbrev pub is_continuation : (byte : ℕ) → Bool
+is_continuation byte = nat_le 128 byte && nat_lt byte 192
 
 abbrev pub characters : List ℕ → ℕ
 characters [] = 0
-characters (byte ∷ bytes) = if goes_on byte then characters bytes else 1 + characters bytes
+characters (byte ∷ bytes) = if is_continuation byte then characters bytes else 1 + characters bytes
 
 pub record LineLaws : Type 0 where
   pub numbers : (number : ℕ) → number < 1000000000 → IsGrouped number (grouped number)

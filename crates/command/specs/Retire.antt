@@ -15,7 +15,7 @@ use Rattle.command.specs.Argument.{required_rule}
 use Rattle.command.specs.FileDisk.{IsStateRefusal}
 use Rattle.command.specs.Files.{FilesSeen}
 use Rattle.command.specs.KeyFile.{RetiresOn}
-use Rattle.command.specs.Number.{number_in}
+use Rattle.command.specs.Number.{decimal_number}
 use Rattle.command.specs.Trace.{Happening, opened, opening_state}
 
 abbrev pub retire_app : App
@@ -29,9 +29,9 @@ most_leaves = 33554432
 -- The values of the words; or one is missing, or UPTO isn't a number up to 2^25.
 abbrev pub IsRetire : Option Text → Option Text → Result Retire UsageFault → Type 0
 IsRetire state upto (Ok words) = (state ≡ Some words.state.now)
-    × ((text : Text) × (upto ≡ Some text) × (number_in most_leaves text ≡ Some words.upto))
+    × ((text : Text) × (upto ≡ Some text) × (decimal_number most_leaves text ≡ Some words.upto))
 IsRetire state upto (Err Number) = (text : Text) × (path : Text) × (state ≡ Some path) × (upto ≡ Some text)
-    × (number_in most_leaves text ≡ None)
+    × (decimal_number most_leaves text ≡ None)
 IsRetire state upto (Err Command) = (state ≡ None) ⊎ (upto ≡ None)
 IsRetire state upto (Err _) = ⊥
 

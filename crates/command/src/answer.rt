@@ -3,7 +3,7 @@
 ghost use Rattle.std.specs.Prelude.{◌≡◌};
 ghost use Rattle.command.specs.Answer.{IsOfWord, ReportsRequest, ReportsServing, answer_line, done_lines};
 ghost use Rattle.command.specs.Answer.{listing_lines, report_lines, status_of};
-ghost use Rattle.key_audit.specs.Listing.{shown_by};
+ghost use Rattle.key_audit.specs.Listing.{shown_of_listing};
 ghost use Rattle.command.specs.Output.{Prints, WritesText};
 ghost use Rattle.command.specs.Streams.{taken};
 
@@ -99,7 +99,7 @@ fn print_report<'a, O: Output>(
 }
 
 fn print_listing<O: Output>(listing: &Listing, output: &mut O) -> io::Result<()>
-    ensures { Prints (listing_lines (shown_by listing.now)) (taken O.contents O.failures output.old)
+    ensures { Prints (listing_lines (shown_of_listing listing.now)) (taken O.contents O.failures output.old)
         (taken O.contents O.failures output.new) result }
 {
     let names = count_names(listing.entries.as_slice());

@@ -4,9 +4,10 @@ ghost use Rattle.std.specs.Prelude.{◌≡◌, IfOk, MatchOption, codes};
 ghost use Rattle.std.specs.Option.{option_map};
 ghost use Rattle.clap.specs.declared.builder.command.Command.{Command as ClapCommand};
 ghost use Rattle.clap.specs.Words.{AddsSubcommand, app_of, first_value, found_of, with_subcommand};
-ghost use Rattle.command.specs.Audit.{AuditsIn, IsAudit, IsAudited, anchor_in, anchor_with, audit_app, tag_in};
+ghost use Rattle.command.specs.Audit.{AuditsIn, IsAudit, IsAudited, anchor_of_parts, anchor_of_texts};
+ghost use Rattle.command.specs.Audit.{audit_app, tag_of_text};
 ghost use Rattle.command.specs.Files.{files_seen};
-ghost use Rattle.command.specs.Number.{number_in};
+ghost use Rattle.command.specs.Number.{decimal_number};
 
 use crate::answer::{Answer, Done};
 use crate::argument::{option, required};
@@ -112,7 +113,8 @@ fn answer_to(audited: Result<Report, Refusal>) -> Answer
 
 // Both texts, or neither.
 fn anchor_of(count: Option<&str>, tag: Option<&str>) -> Result<Option<Anchor>, UsageFault>
-    ensures { result ≡ anchor_in (option_map (λ text. text.now) count.entry) (option_map (λ text. text.now) tag.entry) }
+    ensures { result
+        ≡ anchor_of_texts (option_map (λ text. text.now) count.entry) (option_map (λ text. text.now) tag.entry) }
 {
     match (count, tag) {
         (None, None) => Ok(None),
@@ -122,7 +124,7 @@ fn anchor_of(count: Option<&str>, tag: Option<&str>) -> Result<Option<Anchor>, U
 }
 
 fn read_anchor(count: &str, tag: &str) -> Result<Option<Anchor>, UsageFault>
-    ensures { result ≡ anchor_in (Some count.now) (Some tag.now) }
+    ensures { result ≡ anchor_of_texts (Some count.now) (Some tag.now) }
 {
     let Some(count) = read_number(count.as_bytes(), MOST_RECORDS) else {
         return Err(UsageFault::Count);
@@ -135,7 +137,7 @@ fn read_anchor(count: &str, tag: &str) -> Result<Option<Anchor>, UsageFault>
 
 // From 64 hex digits.
 fn read_tag(text: &str) -> Option<[u8; 32]>
-    ensures { result ≡ tag_in text.now }
+    ensures { result ≡ tag_of_text text.now }
 {
     let mut tag = [0; 32];
     match hex::decode_to_slice(text.as_bytes(), &mut tag) {

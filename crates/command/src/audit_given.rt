@@ -6,7 +6,7 @@ ghost use Rattle.clap.specs.declared.builder.command.Command.{Command as ClapCom
 ghost use Rattle.clap.specs.Matches.{matched_of, raw_values};
 ghost use Rattle.clap.specs.Words.{AddsSubcommand, app_of, first_value, found_of, with_subcommand};
 ghost use Rattle.command.specs.AuditGiven.{AnswersGiven, ChecksIn, FailsPair, FailsPairs, IsAuditGiven, JudgesPairs};
-ghost use Rattle.command.specs.AuditGiven.{ReadsPair, ReadsPairs, audit_given_app, pair_of, pairs_in, pairs_of};
+ghost use Rattle.command.specs.AuditGiven.{ReadsPair, ReadsPairs, audit_given_app, pair_of, path_pairs, pairs_of};
 ghost use Rattle.command.specs.Files.{KeepsContents};
 
 use crate::answer::{Answer, Done};
@@ -105,7 +105,7 @@ fn pair_paths<'a>(
     paths: &[&'a str],
 ) -> Result<Option<Vec<GivenFiles<'a>>>, AllocError>
     ensures { IfOk result (λ files.
-        option_map (λ pairs. map pair_of pairs.items) files ≡ pairs_in (map (λ path. path.now) paths.now)) }
+        option_map (λ pairs. map pair_of pairs.items) files ≡ path_pairs (map (λ path. path.now) paths.now)) }
 {
     if paths.len() % 2 != 0 {
         return Ok(None);

@@ -4,7 +4,7 @@ ghost use Rattle.std.specs.Prelude.{◌≡◌, IfOk, codes};
 ghost use Rattle.clap.specs.declared.builder.command.Command.{Command as ClapCommand};
 ghost use Rattle.clap.specs.Words.{AddsSubcommand, app_of, first_value, found_of, with_subcommand};
 ghost use Rattle.command.specs.Files.{files_seen};
-ghost use Rattle.command.specs.Make.{IsMake, MakesAndPublishes, MakesIn, MakesOpened, format_in, make_app};
+ghost use Rattle.command.specs.Make.{IsMake, MakesAndPublishes, MakesIn, MakesOpened, format_of, make_app};
 
 use crate::answer::{Answer, Done};
 use crate::argument::{option_or, random_file, required};
@@ -170,7 +170,7 @@ impl<'a> Make<'a> {
 }
 
 fn read_format(text: &str) -> Option<Version>
-    ensures { result ≡ format_in text.now }
+    ensures { result ≡ format_of text.now }
 {
     match read_number(text.as_bytes(), 2) {
         Some(1) => Some(Version::One),

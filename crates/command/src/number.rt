@@ -1,11 +1,11 @@
 //! Decimal numbers in the words of a line.
 
 ghost use Rattle.std.specs.Prelude.{◌≡◌};
-ghost use Rattle.command.specs.Number.{number_in};
+ghost use Rattle.command.specs.Number.{decimal_number};
 
 /// The number of a text of decimal digits. None if it is greater than `most`, or the text is empty or has another byte.
 pub fn read_number(text: &[u8], most: u32) -> Option<u32>
-    ensures { result ≡ number_in most text.now }
+    ensures { result ≡ decimal_number most text.now }
 {
     if text.is_empty() {
         return None;

@@ -1,7 +1,7 @@
 //! What the commands do with a signer over any store, and what they write after its Ok.
 
 ghost use Rattle.std.specs.Prelude.{Ok};
-ghost use Rattle.sign_core.specs.Records.{key_in};
+ghost use Rattle.sign_core.specs.Records.{the_key};
 ghost use Rattle.command.specs.Signing.{Delivers, Publishes, RetiresBelow, WritesPublic};
 
 use crate::files::Outlet;
@@ -26,7 +26,7 @@ pub fn publish<S: Store, R: Source, W: Outlet>(
     outlet: &mut W,
     path: &str,
 ) -> Result<ArrayVec<u8, 68>, Refusal>
-    ensures { Publishes (key_in signer.now.records) path.now (W.trace outlet.old) (W.trace outlet.new) result }
+    ensures { Publishes (the_key signer.now.records) path.now (W.trace outlet.old) (W.trace outlet.new) result }
 {
     write_public(&signer.public_key(), outlet, path)
 }

@@ -24,8 +24,8 @@ use Rattle.hss.specs.declared.secret.Level.{Level}
 use Rattle.hss.specs.Key.{level_number, public_key}
 use Rattle.hss.specs.SignedKey.{SignedKey, signed_key, signed_keys}
 use Rattle.hss.specs.Signature.{Signature, signature, signature_size}
-use Rattle.hss.specs.Secret.{key_of, signature_by}
-use Rattle.hss.specs.Writing.{level_in, levels_in, pairs_of, part_size, public_bytes, signature_bytes, signed_by, signed_key_by, signed_key_bytes}
+use Rattle.hss.specs.Secret.{key_of, signature_of_level}
+use Rattle.hss.specs.Writing.{level_at, all_levels, pairs_of, part_size, public_bytes, signature_bytes, made_signature, made_signed_key, signed_key_bytes}
 use Rattle.hss.proofs.Making.{signed-at, signed-count}
 
 -- a number of levels within its bounds is spelled by 4 bytes
@@ -104,7 +104,7 @@ part-more above i level within is =
 pub size-parts : (above : List Level) (bottom : Level) → signature_size (pairs_of above bottom) ≡ 4 + sum_by part_size above + lms_signature_len_of bottom.tree.secret.pair
 size-parts above bottom =
     let pair : Level → LmsPair = λ level. level.tree.secret.pair in
-    let levels = levels_in above bottom in
+    let levels = all_levels above bottom in
     let count : length (map pair levels) ≡ length above + 1 = omega (arith, length-map levels pair, length-append above (bottom ∷ [])) in
     let sum : sum_by lms_signature_len_of (map pair levels) ≡ sum_by lms_signature_len_of (map pair above) + lms_signature_len_of bottom.tree.secret.pair =
     ap (sum_by lms_signature_len_of) (map-append pair above (bottom ∷ [])) ∙ sum_by_push lms_signature_len_of (map pair above) (bottom.tree.secret.pair) in
@@ -118,42 +118,42 @@ size-parts above bottom =
 -- ---- one more part is written
 
 -- the next signed key has the level's signature and the key below
-signed-next : (above : List Level) (bottom level : Level) (next : LmsPublic) (i : ℕ) → i < length above → level ≡ get_or above i level → next ≡ key_of (level_in above bottom (i + 1))
-    → get_or (signed_by above bottom).signed i (signed_key_by level next) ≡ signed_key_by level next
+signed-next : (above : List Level) (bottom level : Level) (next : LmsPublic) (i : ℕ) → i < length above → level ≡ get_or above i level → next ≡ key_of (level_at above bottom (i + 1))
+    → get_or (made_signature above bottom).signed i (made_signed_key level next) ≡ made_signed_key level next
 signed-next above bottom level next i within is next_is =
-    let here : level_in above bottom i ≡ level = get_or_append_left above (bottom ∷ []) bottom i within ∙ get_or_default above i bottom level within ∙ sym is in
-    signed-at signature_by key_of above bottom i (signed_key_by level next) within ∙ ap₂ (λ l k. signed_key_by l k) here (sym next_is)
+    let here : level_at above bottom i ≡ level = get_or_append_left above (bottom ∷ []) bottom i within ∙ get_or_default above i bottom level within ∙ sym is in
+    signed-at signature_of_level key_of above bottom i (made_signed_key level next) within ∙ ap₂ (λ l k. made_signed_key l k) here (sym next_is)
 
-module _ (above : List Level) (bottom level : Level) (next : LmsPublic) (i : ℕ) (within : i < length above) (is : level ≡ get_or above i level) (next_is : next ≡ key_of (level_in above bottom (i + 1))) where
+module _ (above : List Level) (bottom level : Level) (next : LmsPublic) (i : ℕ) (within : i < length above) (is : level ≡ get_or above i level) (next_is : next ≡ key_of (level_at above bottom (i + 1))) where
   -- one more signed key
-  signed-more : take (i + 1) (signed_by above bottom).signed ≡ take i (signed_by above bottom).signed ++ signed_key_by level next ∷ []
+  signed-more : take (i + 1) (made_signature above bottom).signed ≡ take i (made_signature above bottom).signed ++ made_signed_key level next ∷ []
   signed-more =
-      let signed = (signed_by above bottom).signed in
-      take_more signed i (signed_key_by level next) (omega (arith, signed-count signature_by key_of above bottom))
+      let signed = (made_signature above bottom).signed in
+      take_more signed i (made_signed_key level next) (omega (arith, signed-count signature_of_level key_of above bottom))
       ∙ ap (λ one. take i signed ++ one ∷ []) (signed-next above bottom level next i within is next_is)
 
-  bytes-more : flat_map signed_key_bytes (take (i + 1) (signed_by above bottom).signed) ≡ flat_map signed_key_bytes (take i (signed_by above bottom).signed) ++ signed_key_bytes (signed_key_by level next)
+  bytes-more : flat_map signed_key_bytes (take (i + 1) (made_signature above bottom).signed) ≡ flat_map signed_key_bytes (take i (made_signature above bottom).signed) ++ signed_key_bytes (made_signed_key level next)
   bytes-more =
-      let front = take i (signed_by above bottom).signed in
-      let one = signed_key_by level next in
+      let front = take i (made_signature above bottom).signed in
+      let one = made_signed_key level next in
       ap (flat_map signed_key_bytes) signed-more ∙ flat_map-append signed_key_bytes front (one ∷ []) ∙ ap (λ b. flat_map signed_key_bytes front ++ b) (append-nil (signed_key_bytes one))
 
   -- its bytes follow the earlier ones
-  pub written-more : (head old part : List ℕ) (offset end : ℕ) → take offset old ≡ head ++ flat_map signed_key_bytes (take i (signed_by above bottom).signed)
-      → part ≡ signed_key_bytes (signed_key_by level next) → offset ≤ length old → end ≡ offset + length part
-      → take end (put_mid offset (end - offset) old part) ≡ head ++ flat_map signed_key_bytes (take (i + 1) (signed_by above bottom).signed)
+  pub written-more : (head old part : List ℕ) (offset end : ℕ) → take offset old ≡ head ++ flat_map signed_key_bytes (take i (made_signature above bottom).signed)
+      → part ≡ signed_key_bytes (made_signed_key level next) → offset ≤ length old → end ≡ offset + length part
+      → take end (put_mid offset (end - offset) old part) ≡ head ++ flat_map signed_key_bytes (take (i + 1) (made_signature above bottom).signed)
   written-more head old part offset end before part_is inside ends =
       take-put_mid offset (end - offset) old part end ends inside ∙ ap₂ (λ a b. a ++ b) before part_is
-      ∙ append_assoc head (flat_map signed_key_bytes (take i (signed_by above bottom).signed)) (signed_key_bytes (signed_key_by level next))
+      ∙ append_assoc head (flat_map signed_key_bytes (take i (made_signature above bottom).signed)) (signed_key_bytes (made_signed_key level next))
       ∙ ap (λ b. head ++ b) (sym bytes-more)
 
   -- and all so far spell themselves
-  pub spelled-more : Spells (signed_keys i) (take i (signed_by above bottom).signed) (flat_map signed_key_bytes (take i (signed_by above bottom).signed))
-      → Spells signed_key (signed_key_by level next) (signed_key_bytes (signed_key_by level next))
-      → Spells (signed_keys (i + 1)) (take (i + 1) (signed_by above bottom).signed) (flat_map signed_key_bytes (take (i + 1) (signed_by above bottom).signed))
+  pub spelled-more : Spells (signed_keys i) (take i (made_signature above bottom).signed) (flat_map signed_key_bytes (take i (made_signature above bottom).signed))
+      → Spells signed_key (made_signed_key level next) (signed_key_bytes (made_signed_key level next))
+      → Spells (signed_keys (i + 1)) (take (i + 1) (made_signature above bottom).signed) (flat_map signed_key_bytes (take (i + 1) (made_signature above bottom).signed))
   spelled-more before one =
-      let front = take i (signed_by above bottom).signed in
-      let pushed = keys-more i front (signed_key_by level next) (flat_map signed_key_bytes front) (signed_key_bytes (signed_key_by level next)) before one in
+      let front = take i (made_signature above bottom).signed in
+      let pushed = keys-more i front (made_signed_key level next) (flat_map signed_key_bytes front) (signed_key_bytes (made_signed_key level next)) before one in
       subst₂ (Spells (signed_keys (i + 1))) (sym signed-more) (sym bytes-more) pushed
 
 -- The number of signed keys, these, and the bottom's signature to the end are a signature's bytes.

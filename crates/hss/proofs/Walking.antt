@@ -22,7 +22,7 @@ use Rattle.lms.proofs.Parts.{laid_out}
 use Rattle.lms.proofs.Sizes.{size-public_key}
 use Rattle.hss.specs.Key.{level_number}
 use Rattle.hss.specs.SignedKey.{SignedKey, signed_key, signed_keys, taken}
-use Rattle.hss.specs.Signature.{Signature, key_at, keys_of, level_count, signature, signature_at, signature_size, signatures_of, start_of}
+use Rattle.hss.specs.Signature.{Signature, key_at, keys_of, level_count, signature, signature_at, signature_size, signatures_of, start_at}
 use Rattle.hss.proofs.Passing.{keys-more, keys-split, read-after}
 
 -- ---- how long the parts are
@@ -175,21 +175,21 @@ is_read s bytes found =
     is_read-parts s bytes n.0 n.1 keys.1 bottom.1 keys.0 bottom.0 n_found keys_found bottom_found (cc)
 
 -- level i begins where the levels above it end
-pub starts : (s : Signature) (i : ℕ) → i ≤ length s.signed → 4 + sum_by taken (map (λ signed. signed.signature) (take i s.signed)) ≡ start_of s i
+pub starts : (s : Signature) (i : ℕ) → i ≤ length s.signed → 4 + sum_by taken (map (λ signed. signed.signature) (take i s.signed)) ≡ start_at s i
 starts s i within =
     let above = map (λ signed. signed.signature) s.signed in
     let few : i ≤ length above = omega (arith, length-map s.signed (λ signed. signed.signature)) in
     ap (λ front. 4 + sum_by taken front) (sym (take-map (λ signed. signed.signature) i s.signed) ∙ sym (take-append-le i above (s.bottom ∷ []) few))
 
 -- i signed keys stand before level i
-pub above_read : (s : Signature) (bytes : List ℕ) (i : ℕ) → IsRead s bytes → i ≤ length s.signed → read (signed_keys i) bytes 4 ≡ Ok (take i s.signed, start_of s i)
+pub above_read : (s : Signature) (bytes : List ℕ) (i : ℕ) → IsRead s bytes → i ≤ length s.signed → read (signed_keys i) bytes 4 ≡ Ok (take i s.signed, start_at s i)
 above_read s bytes i parts within =
     let (middle, front, back) = keys-prefix i (length s.signed) bytes 4 parts.end s.signed within parts.keys in
     let ends = keys-end i bytes 4 middle (take i s.signed) parts.at_least_4 front in
     front ∙ ap (λ at. Ok (take i s.signed, at)) (ends.1 ∙ starts s i within)
 
 -- each level begins after the signature and the key of the one above
-pub start-more : (s : Signature) (i : ℕ) → i < length s.signed → start_of s (i + 1) ≡ start_of s i + taken (signature_at s i)
+pub start-more : (s : Signature) (i : ℕ) → i < length s.signed → start_at s (i + 1) ≡ start_at s i + taken (signature_at s i)
 start-more s i within =
     let all = signatures_of s in
     let above = map (λ signed. signed.signature) s.signed in
@@ -214,23 +214,23 @@ key_at-below top s i first rest is =
     ∙ get_or-drop i (map of s.signed) 0 top ∙ ap (λ k. get_or (map of s.signed) k top) (add-zero i) ∙ sym (ap (λ k. get_or (keys_of top s) k top) (add-one i))
 
 -- what was read of one level
-signed_read-parts : (s : Signature) (bytes : List ℕ) (i : ℕ) (top : LmsPublic) (middle next : ℕ) (first : SignedKey) (rest : List SignedKey) → i < length s.signed → middle ≡ start_of s i → middle ≤ length bytes
+signed_read-parts : (s : Signature) (bytes : List ℕ) (i : ℕ) (top : LmsPublic) (middle next : ℕ) (first : SignedKey) (rest : List SignedKey) → i < length s.signed → middle ≡ start_at s i → middle ≤ length bytes
     → drop i s.signed ≡ first ∷ rest → read signed_key bytes middle ≡ Ok (first, next)
-    → (read lms_signature bytes (start_of s i) ≡ Ok (signature_at s i, start_of s i + lms_signature_len_of (signature_at s i).pair))
-    × (read lms_public_key bytes (start_of s i + lms_signature_len_of (signature_at s i).pair) ≡ Ok (key_at top s (i + 1), start_of s (i + 1)))
+    → (read lms_signature bytes (start_at s i) ≡ Ok (signature_at s i, start_at s i + lms_signature_len_of (signature_at s i).pair))
+    × (read lms_public_key bytes (start_at s i + lms_signature_len_of (signature_at s i).pair) ≡ Ok (key_at top s (i + 1), start_at s (i + 1)))
 signed_read-parts s bytes i top middle next first rest within at inside keys_are first_found =
     let (signature_found, key_found, next_is, _) = signed_key-split bytes middle next first inside first_found in
     let signature_is = signature_at-above s i first rest within keys_are in
     let key_is = key_at-below top s i first rest keys_are in
-    let next_at : next ≡ start_of s (i + 1) = next_is ∙ ap₂ (λ at s. at + taken s) at signature_is ∙ sym (start-more s i within) in (
+    let next_at : next ≡ start_at s (i + 1) = next_is ∙ ap₂ (λ at s. at + taken s) at signature_is ∙ sym (start-more s i within) in (
       ap (λ at. read lms_signature bytes at) (sym at) ∙ signature_found ∙ ap₂ (λ at s. Ok (s, at + lms_signature_len_of s.pair)) at signature_is,
       ap₂ (λ at s. read lms_public_key bytes (at + lms_signature_len_of s.pair)) (sym at) (sym signature_is) ∙ key_found ∙ ap₂ (λ k at. Ok (k, at)) key_is next_at,
     )
 
 -- a signature above the bottom stands where its level begins, and after it the next level's key
 pub signed_read : (s : Signature) (bytes : List ℕ) (i : ℕ) (top : LmsPublic) → IsRead s bytes → i < length s.signed
-    → (read lms_signature bytes (start_of s i) ≡ Ok (signature_at s i, start_of s i + lms_signature_len_of (signature_at s i).pair))
-    × (read lms_public_key bytes (start_of s i + lms_signature_len_of (signature_at s i).pair) ≡ Ok (key_at top s (i + 1), start_of s (i + 1)))
+    → (read lms_signature bytes (start_at s i) ≡ Ok (signature_at s i, start_at s i + lms_signature_len_of (signature_at s i).pair))
+    × (read lms_public_key bytes (start_at s i + lms_signature_len_of (signature_at s i).pair) ≡ Ok (key_at top s (i + 1), start_at s (i + 1)))
 signed_read s bytes i top parts within =
     let n = length s.signed in
     let left : n - i ≡ suc (n - (i + 1)) = omega arith in
@@ -241,18 +241,18 @@ signed_read s bytes i top parts within =
 
 -- the bottom one stands after all signed keys
 pub bottom_read : (s : Signature) (bytes : List ℕ) → IsRead s bytes
-    → read lms_signature bytes (start_of s (length s.signed)) ≡ Ok (signature_at s (length s.signed), length bytes)
+    → read lms_signature bytes (start_at s (length s.signed)) ≡ Ok (signature_at s (length s.signed), length bytes)
 bottom_read s bytes parts =
     let n = length s.signed in
     let above = map (λ signed. signed.signature) s.signed in
     let ends = keys-end n bytes 4 parts.end s.signed parts.at_least_4 parts.keys in
-    let at : parts.end ≡ start_of s n = ends.1 ∙ ap (λ keys. 4 + sum_by taken (map (λ signed. signed.signature) keys)) (sym (take_all n s.signed (omega arith))) ∙ starts s n (omega arith) in
+    let at : parts.end ≡ start_at s n = ends.1 ∙ ap (λ keys. 4 + sum_by taken (map (λ signed. signed.signature) keys)) (sym (take_all n s.signed (omega arith))) ∙ starts s n (omega arith) in
     let bottom_is : s.bottom ≡ signature_at s n = sym (get_or_at above s.bottom [] s.bottom n (length-map s.signed (λ signed. signed.signature))) in
     ap (λ at. read lms_signature bytes at) (sym at) ∙ parts.bottom ∙ ap (λ b. Ok (b, length bytes)) bottom_is
 
 -- So every level's signature stands where its level begins, and is as long as its types say.
 pub level_read : (s : Signature) (bytes : List ℕ) (i : ℕ) → IsRead s bytes → i < level_count s
-    → read lms_signature bytes (start_of s i) ≡ Ok (signature_at s i, start_of s i + lms_signature_len_of (signature_at s i).pair)
+    → read lms_signature bytes (start_at s i) ≡ Ok (signature_at s i, start_at s i + lms_signature_len_of (signature_at s i).pair)
 level_read s bytes i parts within =
     let n = length s.signed in
     elim (cases_lt i n) [
@@ -261,43 +261,43 @@ level_read s bytes i parts within =
           let same : i ≡ n = omega arith in
           let found = bottom_read s bytes parts in
           let ends = keys-end n bytes 4 parts.end s.signed parts.at_least_4 parts.keys in
-          let at : parts.end ≡ start_of s n = ends.1 ∙ ap (λ keys. 4 + sum_by taken (map (λ signed. signed.signature) keys)) (sym (take_all n s.signed (omega arith))) ∙ starts s n (omega arith) in
-          let inside : start_of s n ≤ length bytes = omega (arith, at, ends.2) in
-          let end_is = signature-end (signature_at s n) bytes (start_of s n) (length bytes) inside found in
-          ap (λ k. read lms_signature bytes (start_of s k)) same ∙ found ∙ ap (λ at. Ok (signature_at s n, at)) end_is
-          ∙ ap (λ k. Ok (signature_at s k, start_of s k + lms_signature_len_of (signature_at s k).pair)) (sym same)
+          let at : parts.end ≡ start_at s n = ends.1 ∙ ap (λ keys. 4 + sum_by taken (map (λ signed. signed.signature) keys)) (sym (take_all n s.signed (omega arith))) ∙ starts s n (omega arith) in
+          let inside : start_at s n ≤ length bytes = omega (arith, at, ends.2) in
+          let end_is = signature-end (signature_at s n) bytes (start_at s n) (length bytes) inside found in
+          ap (λ k. read lms_signature bytes (start_at s k)) same ∙ found ∙ ap (λ at. Ok (signature_at s n, at)) end_is
+          ∙ ap (λ k. Ok (signature_at s k, start_at s k + lms_signature_len_of (signature_at s k).pair)) (sym same)
     ]
 
 -- ---- what a view finds in its bytes
 
 -- no level begins past the end
-pub start_inside : (s : Signature) (bytes : List ℕ) (i : ℕ) → read signature bytes 0 ≡ Ok (s, length bytes) → i < level_count s → start_of s i ≤ length bytes
+pub start_inside : (s : Signature) (bytes : List ℕ) (i : ℕ) → read signature bytes 0 ≡ Ok (s, length bytes) → i < level_count s → start_at s i ≤ length bytes
 start_inside s bytes i found within =
     let parts = is_read s bytes found in
-    (keys-end i bytes 4 (start_of s i) (take i s.signed) parts.at_least_4 (above_read s bytes i parts (omega arith))).2
+    (keys-end i bytes 4 (start_at s i) (take i s.signed) parts.at_least_4 (above_read s bytes i parts (omega arith))).2
 
 -- the key of level i
 pub key_found : (s : Signature) (bytes : List ℕ) (top : LmsPublic) (i : ℕ) → read signature bytes 0 ≡ Ok (s, length bytes) → 1 ≤ i → i < level_count s
-    → (read lms_public_key bytes (start_of s i - 56) ≡ Ok (key_at top s i, start_of s i)) × (start_of s i - 56 ≤ length bytes)
+    → (read lms_public_key bytes (start_at s i - 56) ≡ Ok (key_at top s i, start_at s i)) × (start_at s i - 56 ≤ length bytes)
 key_found s bytes top i found above within =
     let below : i ≡ (i - 1) + 1 = omega arith in
     let key = (signed_read s bytes (i - 1) top (is_read s bytes found) (omega arith)).1 in
     let next = start-more s (i - 1) (omega arith) in
-    let before : start_of s (i - 1) + lms_signature_len_of (signature_at s (i - 1)).pair ≡ start_of s i - 56 = omega (arith, next, ap (start_of s) below) in (
-      ap (λ at. read lms_public_key bytes at) (sym before) ∙ key ∙ ap (λ i. Ok (key_at top s i, start_of s i)) (sym below),
+    let before : start_at s (i - 1) + lms_signature_len_of (signature_at s (i - 1)).pair ≡ start_at s i - 56 = omega (arith, next, ap (start_at s) below) in (
+      ap (λ at. read lms_public_key bytes at) (sym before) ∙ key ∙ ap (λ i. Ok (key_at top s i, start_at s i)) (sym below),
       omega (arith, start_inside s bytes i found within),
     )
 
 -- the 56 bytes before a level's signature spell its key
 pub key_spelled : (s : Signature) (bytes : List ℕ) (top : LmsPublic) (i : ℕ) → read signature bytes 0 ≡ Ok (s, length bytes) → 1 ≤ i → i < level_count s
-    → Spells lms_public_key (key_at top s i) (take 56 (drop (start_of s i - 56) bytes))
+    → Spells lms_public_key (key_at top s i) (take 56 (drop (start_at s i - 56) bytes))
 key_spelled s bytes top i found above within =
     let (key, inside) = key_found s bytes top i found above within in
-    let place = start_of s i - 56 in
-    let size = public-end (key_at top s i) bytes place (start_of s i) inside key in
-    let long : start_of s i - place ≡ 56 = omega (arith, size) in
-    let part = take (start_of s i - place) (drop place bytes) in
-    let spelled = ends-spelled lms_public_key part (key_at top s i) (length part) (part_read lms_public_key (key_at top s i) bytes place (start_of s i) inside key) refl in
+    let place = start_at s i - 56 in
+    let size = public-end (key_at top s i) bytes place (start_at s i) inside key in
+    let long : start_at s i - place ≡ 56 = omega (arith, size) in
+    let part = take (start_at s i - place) (drop place bytes) in
+    let spelled = ends-spelled lms_public_key part (key_at top s i) (length part) (part_read lms_public_key (key_at top s i) bytes place (start_at s i) inside key) refl in
     subst (λ n. Spells lms_public_key (key_at top s i) (take n (drop place bytes))) long spelled
 
 -- signatures with a key after each

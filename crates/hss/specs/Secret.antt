@@ -27,6 +27,6 @@ signing_of level = record {
 abbrev pub key_of : Level → LmsPublic
 key_of level = key_of_tree level.tree
 
-abbrev pub signature_by : Level → LmsSignature
-signature_by level =
+abbrev pub signature_of_level : Level → LmsSignature
+signature_of_level level =
     lms_signed level.tree.secret level.tree.leaf level.randomizer level.digest (path_of_tree level.tree)

@@ -10,7 +10,7 @@ use Rattle.lms.specs.View.{signature_of as lms_signature_of}
 use Rattle.lms.specs.declared.signature.LmsSigView.{LmsSigView}
 use Rattle.hss.specs.Key.{level_number}
 use Rattle.hss.specs.declared.signed_key.SignedKeyView.{SignedKeyView}
-use Rattle.hss.specs.SignedKey.{SignedKey, signed_in, signed_keys, taken}
+use Rattle.hss.specs.SignedKey.{SignedKey, shown_keys, signed_keys, taken}
 
 -- ---- how signatures are spelled
 
@@ -58,11 +58,11 @@ message_at message s i = slice_index_or (messages_of message s) i message
 -- ---- where the levels stand in the bytes
 
 -- where the signature of level i begins: after the first 4 bytes, and the signatures and keys of the levels above
-abbrev pub start_of : Signature → ℕ → ℕ
-start_of s i = 4 + sum_by taken (take i (signatures_of s))
+abbrev pub start_at : Signature → ℕ → ℕ
+start_at s i = 4 + sum_by taken (take i (signatures_of s))
 
-abbrev pub pairs_in : Signature → List LmsPair
-pairs_in s = map (λ level. level.pair) (signatures_of s)
+abbrev pub pairs_of_signature : Signature → List LmsPair
+pairs_of_signature s = map (λ level. level.pair) (signatures_of s)
 
 -- the bytes of a signature of levels of these pairs
 abbrev pub signature_size : List LmsPair → ℕ
@@ -71,5 +71,5 @@ signature_size pairs = 4 + sum_by lms_signature_len_of pairs + 56 * (length pair
 -- ---- what views show
 
 -- the signature of these slots and this signature at the bottom
-abbrev pub shown_by : List (Option SignedKeyView) → LmsSigView → Signature
-shown_by slots bottom = record { signed = signed_in slots; bottom = lms_signature_of bottom }
+abbrev pub shown_signature : List (Option SignedKeyView) → LmsSigView → Signature
+shown_signature slots bottom = record { signed = shown_keys slots; bottom = lms_signature_of bottom }

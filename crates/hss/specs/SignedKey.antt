@@ -33,8 +33,8 @@ signed_keys (suc n) = do
 abbrev pub taken : LmsSignature → ℕ
 taken s = lms_signature_len_of s.pair + 56
 
-abbrev pub taken_by : List SignedKey → ℕ
-taken_by keys = sum_by taken (map (λ signed. signed.signature) keys)
+abbrev pub bytes_taken : List SignedKey → ℕ
+bytes_taken keys = sum_by taken (map (λ signed. signed.signature) keys)
 
 -- ---- what views show
 
@@ -53,8 +53,8 @@ abbrev pub shown : Option SignedKeyView → List SignedKey
 shown (Some view) = signed_key_of view ∷ []
 shown None = []
 
-abbrev pub signed_in : List (Option SignedKeyView) → List SignedKey
-signed_in slots = flat_map shown slots
+abbrev pub shown_keys : List (Option SignedKeyView) → List SignedKey
+shown_keys slots = flat_map shown slots
 
 -- the view in slot i, if there is one
 abbrev pub slot : List (Option SignedKeyView) → ℕ → Option SignedKeyView
@@ -63,10 +63,10 @@ slot slots i = slice_index_or slots i None
 -- the first n slots are in use, and no others
 abbrev pub AreFirst : ℕ → List (Option SignedKeyView) → Type 0
 AreFirst n slots =
-    ((i : ℕ) → i ≤ n → length (signed_in (take i slots)) ≡ i) × (signed_in (drop n slots) ≡ [])
+    ((i : ℕ) → i ≤ n → length (shown_keys (take i slots)) ≡ i) × (shown_keys (drop n slots) ≡ [])
 
 -- the views stand one after the other, the first one at a place
 abbrev pub StandInTurn : ℕ → List ℕ → List (Option SignedKeyView) → Type 0
 StandInTurn place bytes slots =
     (i : ℕ) (view : SignedKeyView) → slot slots i ≡ Some view
-    → BeginsAt (place + taken_by (signed_in (take i slots))) bytes view
+    → BeginsAt (place + bytes_taken (shown_keys (take i slots))) bytes view

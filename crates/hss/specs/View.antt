@@ -2,10 +2,10 @@
 use denote.Bor.{Bor}
 use Rattle.std.specs.Prelude.{ℕ, List}
 use Rattle.hss.specs.declared.signature.HssSigView.{HssSigView}
-use Rattle.hss.specs.Signature.{Signature, shown_by}
+use Rattle.hss.specs.Signature.{Signature, shown_signature}
 
 abbrev pub signature_of : HssSigView → Signature
-signature_of view = shown_by view.signed.slots view.bottom
+signature_of view = shown_signature view.signed.slots view.bottom
 
 -- the bytes that spell the signature, as they were lent
 abbrev pub lent_of : HssSigView → Bor (List ℕ)

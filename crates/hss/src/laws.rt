@@ -13,7 +13,7 @@ ghost use Rattle.hss.specs.SignedKey.{SignedKey, signed_key, signed_keys};
 ghost use Rattle.hss.specs.Signature.{Signature, signature};
 ghost use Rattle.hss.specs.Verification.{IsValid, Verdict};
 ghost use Rattle.hss.specs.Secret.{Signing};
-ghost use Rattle.hss.specs.Writing.{AreSigning, AreSized, IsSized, level_in};
+ghost use Rattle.hss.specs.Writing.{AreSigning, AreSized, IsSized, level_at};
 ghost use Rattle.hss.specs.Writing.{public_bytes, public_of, signature_bytes, textbook};
 
 /// No public key or signature has two spellings, no bytes spell two of them, and no spelling begins another.
@@ -40,7 +40,7 @@ pub fn verdict_laws()
 pub fn textbook_laws()
     ensures valid { (above : List Signing) (bottom : Signing) (message : List ℕ) → AreSigning above bottom message
         → IsValid (public_of above bottom) message (textbook above bottom) }
-    ensures key { (above : List Signing) (bottom : Signing) → length above ≤ 7 → IsSized (level_in above bottom 0)
+    ensures key { (above : List Signing) (bottom : Signing) → length above ≤ 7 → IsSized (level_at above bottom 0)
         → Spells public_key (public_of above bottom) (public_bytes (public_of above bottom)) }
     ensures signature { (above : List Signing) (bottom : Signing) → length above ≤ 7 → AreSized above bottom
         → Spells signature (textbook above bottom) (signature_bytes (textbook above bottom)) }

@@ -3,7 +3,7 @@
 ghost use Rattle.std.specs.Prelude.{◌≡◌, length};
 ghost use Rattle.typecodes.specs.Layout.{Spells};
 ghost use Rattle.typecodes.specs.Types.{lms_signature_len_of};
-ghost use Rattle.lms.specs.Secret.{path_in};
+ghost use Rattle.lms.specs.Secret.{leaf_path};
 ghost use Rattle.lms.specs.Signature.{signature as lms_signature};
 ghost use Rattle.lms.specs.SigningTree.{path_of_tree};
 ghost use Rattle.lms.specs.Writing.{signature_bytes as lms_signature_bytes, textbook as lms_textbook};
@@ -22,7 +22,7 @@ pub struct Level {
 }
 
 impl Level {
-    ghost use Rattle.hss.specs.Secret.{key_of, signature_by};
+    ghost use Rattle.hss.specs.Secret.{key_of, signature_of_level};
 
     /// A level's tree with C and Q, 32 bytes each.
     pub fn new(tree: SigningTree, randomizer: [u8; 32], digest: [u8; 32]) -> Self
@@ -46,10 +46,10 @@ impl Level {
     /// 1292 for H5/W8.
     pub fn write(&self, into: &mut [u8])
         requires { length into.old ≡ lms_signature_len_of self.now.tree.secret.pair }
-        ensures bytes { into.new ≡ lms_signature_bytes (signature_by self.now) }
-        ensures spells { Spells lms_signature (signature_by self.now) into.new }
+        ensures bytes { into.new ≡ lms_signature_bytes (signature_of_level self.now) }
+        ensures spells { Spells lms_signature (signature_of_level self.now) into.new }
         // If the path is the leaf's, it is the textbook signature.
-        ensures textbook { path_of_tree self.now.tree ≡ path_in self.now.tree.secret self.now.tree.leaf →
+        ensures textbook { path_of_tree self.now.tree ≡ leaf_path self.now.tree.secret self.now.tree.leaf →
             into.new ≡ lms_signature_bytes
             (lms_textbook self.now.tree.secret self.now.tree.leaf self.now.randomizer self.now.digest) }
     {

@@ -10,9 +10,9 @@ ghost use Rattle.lms.specs.declared.key.LmsPublic.{LmsPublic};
 ghost use Rattle.lms.specs.Key.{public_key as lms_public_key};
 ghost use Rattle.lms.specs.View.{bytes_of as lms_bytes_of, pair_of as lms_pair_of, signature_of as lms_signature_of};
 ghost use Rattle.hss.specs.Key.{level_number};
-ghost use Rattle.hss.specs.SignedKey.{BeginsAt, StandInTurn, signed_in, taken_by};
-ghost use Rattle.hss.specs.Signature.{key_at, level_count, pairs_in, shown_by, signature, signature_at};
-ghost use Rattle.hss.specs.Signature.{signature_size, start_of};
+ghost use Rattle.hss.specs.SignedKey.{BeginsAt, StandInTurn, shown_keys, bytes_taken};
+ghost use Rattle.hss.specs.Signature.{key_at, level_count, pairs_of_signature, shown_signature};
+ghost use Rattle.hss.specs.Signature.{signature, signature_at, signature_size, start_at};
 
 use crate::signed_key::SignedKeyView;
 use crate::signed_keys::SignedKeys;
@@ -25,10 +25,10 @@ pub struct HssSigView<'a> {
     signed: SignedKeys<'a>,
     bottom: LmsSigView<'a>,
     bytes: &'a [u8],
-    ghost spelled: { read signature bytes.now 0 ≡ Ok (shown_by signed.slots bottom, length bytes.now) },
+    ghost spelled: { read signature bytes.now 0 ≡ Ok (shown_signature signed.slots bottom, length bytes.now) },
     ghost stand: { StandInTurn 4 bytes.now signed.slots },
     ghost last: { lms_bytes_of bottom ≡ take (lms_signature_len_of (lms_pair_of bottom))
-        (drop (4 + taken_by (signed_in signed.slots)) bytes.now) },
+        (drop (4 + bytes_taken (shown_keys signed.slots)) bytes.now) },
 }
 
 impl<'a> HssSigView<'a> {
@@ -68,7 +68,7 @@ impl<'a> HssSigView<'a> {
         requires { i < level_count (signature_of self.now) }
         ensures value { lms_signature_of result ≡ signature_at (signature_of self.now) i }
         ensures range { lms_bytes_of result ≡ take (lms_signature_len_of (lms_pair_of result))
-            (drop (start_of (signature_of self.now) i) (bytes_of self.now)) }
+            (drop (start_at (signature_of self.now) i) (bytes_of self.now)) }
     {
         match self.signed_key(i) {
             Some(signed) => signed.signature,
@@ -83,7 +83,7 @@ impl<'a> HssSigView<'a> {
             lms_signature_of view.signature ≡ signature_at (signature_of self.now) i) }
         ensures key { (top : LmsPublic) → IfSome result (λ view.
             view.key ≡ key_at top (signature_of self.now) (i + 1)) }
-        ensures range { IfSome result (BeginsAt (start_of (signature_of self.now) i) (bytes_of self.now)) }
+        ensures range { IfSome result (BeginsAt (start_at (signature_of self.now) i) (bytes_of self.now)) }
         ensures spells { IfSome result (λ view. Spells lms_public_key view.key view.key_bytes.now) }
     {
         self.signed.get(i)
@@ -100,7 +100,7 @@ impl<'a> HssSigView<'a> {
     pub fn bytes(&self) -> &'a [u8]
         ensures whole { result ≡ lent_of self.now }
         ensures spells { Spells signature (signature_of self.now) result.now }
-        ensures len { length result.now ≡ signature_size (pairs_in (signature_of self.now)) }
+        ensures len { length result.now ≡ signature_size (pairs_of_signature (signature_of self.now)) }
     {
         self.bytes
     }

@@ -2,7 +2,7 @@
 
 ghost use Rattle.std.specs.Prelude.{◌≡◌, ◌+◌, ◌*◌, ◌<◌, ◌≤◌, ◌^◌, IfOk, OnOk};
 ghost use Rattle.typecodes.specs.Cursor.{Gives, Keeps, read};
-ghost use Rattle.hss.specs.SignedKey.{AreFirst, StandInTurn, signed_in, signed_keys, slot};
+ghost use Rattle.hss.specs.SignedKey.{AreFirst, StandInTurn, shown_keys, signed_keys, slot};
 
 use crate::signed_key::SignedKeyView;
 use typecodes::{Cursor, ReadFault};
@@ -23,7 +23,7 @@ impl<'a> SignedKeys<'a> {
     pub(crate) fn from_cursor(cursor: &mut Cursor<'a>, count: u8) -> Result<Self, ReadFault>
         requires at_most_7 { count ≤ 7 }
         requires room { cursor.old.place + 9380 * count < 2 ^ 31 }
-        ensures read { Gives (λ keys. (signed_in keys.slots, cursor.new.place)) result
+        ensures read { Gives (λ keys. (shown_keys keys.slots, cursor.new.place)) result
             (read (signed_keys count) cursor.old.bytes.now cursor.old.place) }
         ensures count { IfOk result (λ keys. keys.count ≡ count) }
         ensures stand { IfOk result (λ keys. StandInTurn cursor.old.place cursor.old.bytes.now keys.slots) }

@@ -10,8 +10,8 @@ ghost use Rattle.hss.specs.SignedKey.{signed_key, signed_keys};
 ghost use Rattle.hss.specs.Signature.{signature, signature_size};
 ghost use Rattle.hss.specs.Verification.{IsValid};
 ghost use Rattle.hss.specs.Secret.{key_of, signing_of};
-ghost use Rattle.hss.specs.Writing.{AreDigests, FromSecrets, level_in, pairs_of, part_size, public_by};
-ghost use Rattle.hss.specs.Writing.{public_bytes, signature_bytes, signed_by, signed_key_by, signed_key_bytes};
+ghost use Rattle.hss.specs.Writing.{AreDigests, FromSecrets, level_at, pairs_of, part_size, made_public};
+ghost use Rattle.hss.specs.Writing.{public_bytes, signature_bytes, made_signature, made_signed_key, signed_key_bytes};
 ghost use Rattle.hss.specs.Writing.{textbook};
 
 use crate::key::HssPublic;
@@ -56,8 +56,8 @@ impl HssPublic {
 /// Writes the signature of a level above the bottom, then the next level's public key, which it signs (RFC 8554 6.2).
 pub fn write_signed_key(level: &Level, next: &LmsPublic, into: &mut [u8])
     requires { length into.old ≡ lms_signature_len_of level.now.tree.secret.pair + 56 }
-    ensures bytes { into.new ≡ signed_key_bytes (signed_key_by level.now next.now) }
-    ensures spells { Spells signed_key (signed_key_by level.now next.now) into.new }
+    ensures bytes { into.new ≡ signed_key_bytes (made_signed_key level.now next.now) }
+    ensures spells { Spells signed_key (made_signed_key level.now next.now) into.new }
 {
     let len = into.len();
     let end = len - 56;
@@ -70,14 +70,14 @@ pub fn write_signed_key(level: &Level, next: &LmsPublic, into: &mut [u8])
 pub fn write_signature(above: &[Level], bottom: &Level, into: &mut [u8])
     requires at_most_7 { length above.now ≤ 7 }
     requires room { length into.old ≡ signature_size (pairs_of above.now bottom.now) }
-    ensures bytes { into.new ≡ signature_bytes (signed_by above.now bottom.now) }
-    ensures spells { Spells signature (signed_by above.now bottom.now) into.new }
+    ensures bytes { into.new ≡ signature_bytes (made_signature above.now bottom.now) }
+    ensures spells { Spells signature (made_signature above.now bottom.now) into.new }
     // If roots and paths are the levels' secrets', it is the textbook signature.
     ensures textbook { FromSecrets above.now bottom.now
-        → signed_by above.now bottom.now ≡ textbook (map signing_of above.now) (signing_of bottom.now) }
+        → made_signature above.now bottom.now ≡ textbook (map signing_of above.now) (signing_of bottom.now) }
     // If also each digest is the digest of what the level signs, it is valid.
     ensures valid { (message : List ℕ) → FromSecrets above.now bottom.now → AreDigests above.now bottom.now message
-        → IsValid (public_by above.now bottom.now) message (signed_by above.now bottom.now) }
+        → IsValid (made_public above.now bottom.now) message (made_signature above.now bottom.now) }
 {
     write_number(above.len() as u8, into);
     let offset = write_above(above, bottom, into);
@@ -92,8 +92,8 @@ fn write_above(above: &[Level], bottom: &Level, into: &mut [u8]) -> usize
         ≡ 4 + sum_by part_size above.now + lms_signature_len_of bottom.now.tree.secret.pair }
     ensures offset { result ≡ 4 + sum_by part_size above.now }
     ensures bytes { take result into.new
-        ≡ take 4 into.old ++ flat_map signed_key_bytes (signed_by above.now bottom.now).signed }
-    ensures spells { let signed = (signed_by above.now bottom.now).signed in
+        ≡ take 4 into.old ++ flat_map signed_key_bytes (made_signature above.now bottom.now).signed }
+    ensures spells { let signed = (made_signature above.now bottom.now).signed in
         Spells (signed_keys (length above.now)) signed (flat_map signed_key_bytes signed) }
 {
     let mut offset = 4;
@@ -109,7 +109,7 @@ fn write_above(above: &[Level], bottom: &Level, into: &mut [u8]) -> usize
 // The public key of the level below level i.
 fn key_below(above: &[Level], bottom: &Level, i: usize) -> LmsPublic
     requires { i < length above.now }
-    ensures { result ≡ key_of (level_in above.now bottom.now (i + 1)) }
+    ensures { result ≡ key_of (level_at above.now bottom.now (i + 1)) }
 {
     let below = above.get(i + 1).unwrap_or(bottom);
     below.public()

@@ -9,9 +9,9 @@ use Rattle.state_file.specs.declared.record.Record.TheVariants as entry
 use Rattle.state_file.specs.declared.record.Secret.{Secret}
 use Rattle.state_file.specs.declared.record.Secret.TheVariants.{Lms, Hss, Xmss}
 use Rattle.state_file.specs.Laws.{bottom_of, leaves_at, levels_of}
-use Rattle.sign_core.specs.Records.{current, free_at, free_counts, in_tree, last_from, makes, number_in, numbers_from, reaches, same_tree, under}
+use Rattle.sign_core.specs.Records.{current, free_at, free_counts, in_tree, last_extend, makes, reached_number, reached_numbers, reaches, same_tree, under}
 use Rattle.sign_core.proofs.Found.{next_of}
-use Rattle.key_audit.specs.Listing.{ListingLaw, entry_of, shown_in, shown_of, types_of, without_secret, without_seeds}
+use Rattle.key_audit.specs.Listing.{ListingLaw, entry_of, shown_of_records, shown_of, types_of, without_secret, without_seeds}
 
 -- ---- a secret
 
@@ -43,10 +43,10 @@ makes_kept level (entry.Retire upto) = refl
 makes_kept level entry.Moved = refl
 
 last_kept : (level k : ℕ) (found : Option ℕ) (records : List Record)
-    → last_from level k found (map without_secret records) ≡ last_from level k found records
+    → last_extend level k found (map without_secret records) ≡ last_extend level k found records
 last_kept level k found [] = refl
 last_kept level k found (r ∷ rest) =
-    ap (λ b. last_from level (k + 1) (if b then Some k else found) (map without_secret rest)) (makes_kept level r)
+    ap (λ b. last_extend level (k + 1) (if b then Some k else found) (map without_secret rest)) (makes_kept level r)
     ∙ last_kept level (k + 1) (if makes level r then Some k else found) rest
 
 under_kept : (above : List Record → Option ℕ) (records : List Record) (found : Option ℕ)
@@ -61,7 +61,7 @@ current_kept : (level : ℕ) (records : List Record) → current level (map with
 current_kept zero records = refl
 current_kept (suc level) records =
     ap (under (current level) (map without_secret records)) (last_kept (suc level) 0 None records)
-    ∙ under_kept (current level) records (last_from (suc level) 0 None records) (λ rs. current_kept level rs)
+    ∙ under_kept (current level) records (last_extend (suc level) 0 None records) (λ rs. current_kept level rs)
 
 -- ---- leaves
 
@@ -79,12 +79,12 @@ reaches_kept secret before (entry.Retire upto) =
 reaches_kept secret before entry.Moved = refl
 
 numbers_kept : (secret : Secret) (all : List Record) (tree k : ℕ) (records : List Record)
-    → numbers_from (without_seeds secret) (map without_secret all) tree k (map without_secret records)
-    ≡ numbers_from secret all tree k records
+    → reached_numbers (without_seeds secret) (map without_secret all) tree k (map without_secret records)
+    ≡ reached_numbers secret all tree k records
 numbers_kept secret all tree k [] = refl
 numbers_kept secret all tree k (r ∷ rest) =
     ap₂ (λ n ns. n ∷ ns)
-    (ap (number_in tree) (ap (λ before. reaches (without_seeds secret) before (without_secret r)) (take-map without_secret k all)
+    (ap (reached_number tree) (ap (λ before. reaches (without_seeds secret) before (without_secret r)) (take-map without_secret k all)
     ∙ reaches_kept secret (take k all) r))
     (numbers_kept secret all tree (k + 1) rest)
 
@@ -130,7 +130,7 @@ shown_kept_of : (records : List Record) (key : Key)
 shown_kept_of records key =
     rw (types_kept key.secret, counts_kept key.secret records, entries_kept records) refl
 
-shown_kept : (records : List Record) → shown_in (map without_secret records) ≡ shown_in records
+shown_kept : (records : List Record) → shown_of_records (map without_secret records) ≡ shown_of_records records
 shown_kept [] = refl
 shown_kept (entry.Key key ∷ rest) = ap (λ s. Some s) (shown_kept_of (entry.Key key ∷ rest) key)
 shown_kept (entry.Extend extend ∷ rest) = refl
@@ -139,4 +139,4 @@ shown_kept (entry.Retire upto ∷ rest) = refl
 shown_kept (entry.Moved ∷ rest) = refl
 
 pub listing_law : ListingLaw
-listing_law a b same = sym (shown_kept a) ∙ ap shown_in same ∙ shown_kept b
+listing_law a b same = sym (shown_kept a) ∙ ap shown_of_records same ∙ shown_kept b

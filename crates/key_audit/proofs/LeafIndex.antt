@@ -12,37 +12,37 @@ use Rattle.sign_core.specs.Ledger.{ByText, of_text}
 use Rattle.sign_core.specs.Records.{are_same}
 use Rattle.key_audit.specs.declared.leaf_index.FirstUse.{FirstUse}
 use Rattle.key_audit.specs.declared.uses.LeafUse.{LeafUse}
-use Rattle.key_audit.specs.inner.LeafIndex.{AddsUse, AreKept, AreUpTo, IsFirstConflict, IsFirstUse, IsKept, UseAt, conflict_in, min_some, use_at, with_use}
+use Rattle.key_audit.specs.inner.LeafIndex.{AddsUse, AreKept, AreUpTo, IsFirstConflict, IsFirstUse, IsKept, UseAt, conflict_at, min_some, use_at, with_use}
 
 -- ---- the least place
 
 pub least_push : (entries : ByText FirstUse) (uses : List LeafUse) (used : LeafUse) (least found : Option ℕ)
-    → conflict_in entries used ≡ found → IsFirstConflict entries uses least
+    → conflict_at entries used ≡ found → IsFirstConflict entries uses least
     → IsFirstConflict entries (uses ++ used ∷ []) (min_some least found)
 least_push entries uses used None None at before = λ x has. elim (Contains-push_cases uses used x has) [
   | inl old ↦ before x old
-  | inr same ↦ ap (conflict_in entries) (sym same) ∙ at
+  | inr same ↦ ap (conflict_at entries) (sym same) ∙ at
 ]
 least_push entries uses used None (Some k) at before = (
   (used, Contains-push uses used, at),
   λ x j has other. elim (Contains-push_cases uses used x has) [
     | inl old ↦ absurd (none-some j (sym (before x old) ∙ other))
     | inr same ↦
-        let is : k ≡ j = same_Some k j (sym at ∙ ap (conflict_in entries) same ∙ other) in omega arith
+        let is : k ≡ j = same_Some k j (sym at ∙ ap (conflict_at entries) same ∙ other) in omega arith
   ],
 )
 least_push entries uses used (Some i) None at ((x, has, here), least) = (
   (x, Contains-append_left uses (used ∷ []) x has, here),
   λ y j in_all other. elim (Contains-push_cases uses used y in_all) [
     | inl old ↦ least y j old other
-    | inr same ↦ absurd (none-some j (sym at ∙ ap (conflict_in entries) same ∙ other))
+    | inr same ↦ absurd (none-some j (sym at ∙ ap (conflict_at entries) same ∙ other))
   ],
 )
 least_push entries uses used (Some i) (Some k) at ((x, has, here), least) =
-    let other_ends : (y : LeafUse) (j : ℕ) → Contains (uses ++ used ∷ []) y → conflict_in entries y ≡ Some j → (i ≤ j) ⊎ (k ≡ j) =
+    let other_ends : (y : LeafUse) (j : ℕ) → Contains (uses ++ used ∷ []) y → conflict_at entries y ≡ Some j → (i ≤ j) ⊎ (k ≡ j) =
     λ y j in_all other. elim (Contains-push_cases uses used y in_all) [
       | inl old ↦ inl (least y j old other)
-      | inr same ↦ inr (same_Some k j (sym at ∙ ap (conflict_in entries) same ∙ other))
+      | inr same ↦ inr (same_Some k j (sym at ∙ ap (conflict_at entries) same ∙ other))
     ] in
     elim (cases_lt i k) [
       | inl below ↦

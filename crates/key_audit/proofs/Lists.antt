@@ -10,18 +10,18 @@ use Rattle.state_file.specs.Disk.{Counts}
 use Rattle.state_file.specs.FileStore.{disk_of, records_of}
 use Rattle.state_file.specs.Laws.{IsLegal}
 use Rattle.state_file.specs.Store.{Collects}
-use Rattle.sign_core.specs.Records.{free_counts, key_in}
+use Rattle.sign_core.specs.Records.{free_counts, the_key}
 use Rattle.key_audit.specs.declared.listing.Listing.{Listing}
 use Rattle.key_audit.specs.declared.report.AuditFault.{AuditFault}
 use Rattle.key_audit.specs.declared.report.AuditFault.TheVariants.{Stopped, NoKey, Damaged, Illegal, DeviceFailed, OutOfMemory, AnchorCount, AnchorTag}
 use Rattle.key_audit.specs.Audit.{Judges, ReadsStore, is_device_failed, is_fault, is_stopped, unreadable_slot}
 use Rattle.key_audit.specs.inner.Listing.{ListsRecords}
-use Rattle.key_audit.specs.Listing.{AnswersListing, Lists, entry_of, shown_by, shown_in, shown_of, types_of}
+use Rattle.key_audit.specs.Listing.{AnswersListing, Lists, entry_of, shown_of_listing, shown_of_records, shown_of, types_of}
 use Rattle.key_audit.specs.inner.Loading.{AreLoaded, StopsLoading}
 use Rattle.key_audit.proofs.Audits.{refused_alike}
 use Rattle.key_audit.proofs.Loads.{answered, kept_by}
 
-pub key_first : (records : List Record) → (legal : IsLegal records) → key_in records ≡ Some legal.key
+pub key_first : (records : List Record) → (legal : IsLegal records) → the_key records ≡ Some legal.key
 key_first [] legal = let first = legal.first in absurd cc
 key_first (entry.Key key ∷ rest) legal = let first = legal.first in cc
 key_first (entry.Extend extend ∷ rest) legal = let first = legal.first in absurd cc
@@ -29,12 +29,12 @@ key_first (entry.Bound bound ∷ rest) legal = let first = legal.first in absurd
 key_first (entry.Retire upto ∷ rest) legal = let first = legal.first in absurd cc
 key_first (entry.Moved ∷ rest) legal = let first = legal.first in absurd cc
 
-pub has_key : (records : List Record) → IsLegal records → key_in records ≡ None → ⊥
+pub has_key : (records : List Record) → IsLegal records → the_key records ≡ None → ⊥
 has_key records legal none = let some = key_first records legal in cc
 
-pub shown_so : (records : List Record) (key : Key) (listing : Listing) → key_in records ≡ Some key → listing.spec ≡ types_of key.secret
+pub shown_so : (records : List Record) (key : Key) (listing : Listing) → the_key records ≡ Some key → listing.spec ≡ types_of key.secret
     → listing.version ≡ key.version → listing.left.items ≡ free_counts key.secret records → listing.entries.items ≡ map entry_of records
-    → shown_in records ≡ Some (shown_by listing)
+    → shown_of_records records ≡ Some (shown_of_listing listing)
 shown_so records key listing is spec version left entries =
     ap (option_map (shown_of records)) is ∙ rw (spec, version, left, entries) refl
 

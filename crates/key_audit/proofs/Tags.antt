@@ -5,7 +5,7 @@ use Rattle.typecodes.specs.Layout.{AreBytes, Spells}
 use Rattle.state_file.specs.declared.record.Record.{Record}
 use Rattle.state_file.specs.File.{SpellsRecords, fields_at, previous_tag, tag_of}
 use Rattle.std.specs.Prelude.{slice_get, Some}
-use Rattle.state_file.specs.Slot.{slot_record, version_in}
+use Rattle.state_file.specs.Slot.{slot_record, file_version}
 use Rattle.state_file.proofs.OneWay.{one_way-slot_record}
 use Rattle.sign_core.proofs.Lists.{slice_get_some, slice_get_stays}
 use Rattle.key_audit.specs.Tags.{IsTagBefore, TagLaw}
@@ -25,7 +25,7 @@ one_before : (records : List Record) (k : ℕ) (a b : List ℕ) → IsTagBefore 
 one_before records zero a b first second = first ∙ sym second
 one_before records (suc k) a b (entry, fields, previous, at, are, spelled, before, is) (other, others, earlier, other_at, others_are, others_spelled, before_too, other_is) =
     let same : entry ≡ other = same_Some entry other (sym at ∙ other_at) in
-    let written : fields ≡ others = one_way-slot_record (version_in records) other fields others are others_are (subst (λ e. Spells (slot_record (version_in records)) e fields) same spelled) others_spelled in
+    let written : fields ≡ others = one_way-slot_record (file_version records) other fields others are others_are (subst (λ e. Spells (slot_record (file_version records)) e fields) same spelled) others_spelled in
     is ∙ ap₂ tag_of (one_before records k previous earlier before before_too) written ∙ sym other_is
 
 tag_before : (content : List ℕ) (records : List Record) (k : ℕ) → AreBytes content → SpellsRecords content records → k < length records + 1
@@ -45,8 +45,8 @@ tag_before content records (suc k) are spells inside =
     )
 
 -- a longer list has the same version
-spelled_on : (records more : List Record) (k : ℕ) (entry : Record) (fields : List ℕ) → slice_get records k ≡ Some entry → Spells (slot_record (version_in records)) entry fields
-    → Spells (slot_record (version_in (records ++ more))) entry fields
+spelled_on : (records more : List Record) (k : ℕ) (entry : Record) (fields : List ℕ) → slice_get records k ≡ Some entry → Spells (slot_record (file_version records)) entry fields
+    → Spells (slot_record (file_version (records ++ more))) entry fields
 spelled_on [] more k entry fields at spelled = absurd cc
 spelled_on (first ∷ rest) more k entry fields at spelled = spelled
 

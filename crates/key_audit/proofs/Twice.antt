@@ -33,7 +33,7 @@ use Rattle.key_audit.specs.declared.given.Given.{Given}
 use Rattle.key_audit.specs.declared.leaf_index.FirstUse.{FirstUse}
 use Rattle.key_audit.specs.declared.uses.LeafUse.{LeafUse}
 use Rattle.key_audit.specs.Given.{AreValid, IsFirstTwice, IsTwice, IsValidGiven, NoneTwice, Uses}
-use Rattle.key_audit.specs.inner.LeafIndex.{AddsUses, AreKept, IsFirstConflict, IsKept, UseAt, conflict_in, conflict_of_use, use_at}
+use Rattle.key_audit.specs.inner.LeafIndex.{AddsUses, AreKept, IsFirstConflict, IsKept, UseAt, conflict_at, conflict_of_use, use_at}
 use Rattle.key_audit.specs.inner.Uses.{AreUsesOf, kept_use, leaf_bytes}
 
 -- ---- lists
@@ -283,7 +283,7 @@ among_kept public each uses k (us, makes, are) has =
 twice_seen : (public : AnyPublic) (given : List Given) (n i : ℕ) (each : Given) (uses : List LeafUse) (entries : ByText FirstUse)
     → Indexed public given n entries → slice_get given n ≡ Some each → AreUsesOf public each.message.items each.signature.items uses
     → i < n → IsTwice public given i n
-    → (k : LeafUse) × Contains uses k × ((p : ℕ) × (conflict_in entries k ≡ Some p) × (p ≤ i))
+    → (k : LeafUse) × Contains uses k × ((p : ℕ) × (conflict_at entries k ≡ Some p) × (p ≤ i))
 unfolding use_of
 twice_seen public given n i each uses entries indexed stands are below two =
     let own : two.b ≡ each = same_Some two.b each (sym two.at_j ∙ stands) in

@@ -12,7 +12,7 @@ use Rattle.state_file.specs.Laws.{IsLegal}
 use Rattle.state_file.specs.Store.{Collects}
 pub use Rattle.state_file.specs.Store.{is_fault}
 use Rattle.sign_core.specs.Once.{public_of_key}
-use Rattle.sign_core.specs.Records.{first_illegal, free_counts, has_moved, key_in}
+use Rattle.sign_core.specs.Records.{first_illegal, free_counts, has_moved, the_key}
 use Rattle.key_audit.specs.declared.report.Anchor.{Anchor}
 use Rattle.key_audit.specs.declared.report.AuditFault.{AuditFault}
 use Rattle.key_audit.specs.declared.report.AuditFault.TheVariants.{Stopped, NoKey, Damaged, Illegal, DeviceFailed}
@@ -61,16 +61,16 @@ pub record ReadsStore {D A : Type 0} (d : disk.Ghosts D) (old new : FileStore D 
 -- ---- what the records say
 
 -- the version of the file that carries the records on, if one does
-abbrev pub moved_to : List Record → Option ℕ
-moved_to records = if has_moved records then Some 2 else None
+abbrev pub moved_version : List Record → Option ℕ
+moved_version records = if has_moved records then Some 2 else None
 
 -- The report says of these records: the public key, their number, the free leaves of each level's current tree, and
 -- whether they go on elsewhere.
 pub record Reports (records : List Record) (report : Report) : Type 0 where
-  pub public_is : public_of_key (key_in records) ≡ Some report.public
+  pub public_is : public_of_key (the_key records) ≡ Some report.public
   pub count : report.records ≡ length records
-  pub left_are : (key : Key) → key_in records ≡ Some key → report.left.items ≡ free_counts key.secret records
-  pub moved_is : report.moved ≡ moved_to records
+  pub left_are : (key : Key) → the_key records ≡ Some key → report.left.items ≡ free_counts key.secret records
+  pub moved_is : report.moved ≡ moved_version records
 
 -- ---- anchors
 

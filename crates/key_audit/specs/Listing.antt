@@ -13,7 +13,7 @@ use Rattle.state_file.specs.FileStore.{disk_of, records_of}
 use Rattle.state_file.specs.Laws.{IsLegal}
 use Rattle.typecodes.specs.declared.spec.Spec.{Spec}
 use Rattle.typecodes.specs.declared.spec.Spec.TheVariants as spec
-use Rattle.sign_core.specs.Records.{free_counts, key_in}
+use Rattle.sign_core.specs.Records.{free_counts, the_key}
 use Rattle.key_audit.specs.declared.listing.Entry.{Entry}
 use Rattle.key_audit.specs.declared.listing.Entry.TheVariants.{Key as KeyEntry, Tree, Name, Retired, Moved}
 use Rattle.key_audit.specs.declared.listing.Listing.{Listing}
@@ -51,11 +51,11 @@ shown_of records key = record {
   entries = map entry_of records;
 }
 
-abbrev pub shown_in : List Record → Option Shown
-shown_in records = option_map (shown_of records) (key_in records)
+abbrev pub shown_of_records : List Record → Option Shown
+shown_of_records records = option_map (shown_of records) (the_key records)
 
-abbrev pub shown_by : Listing → Shown
-shown_by listing = record {
+abbrev pub shown_of_listing : Listing → Shown
+shown_of_listing listing = record {
   spec = listing.spec;
   version = listing.version;
   left = listing.left.items;
@@ -78,7 +78,8 @@ names_among (first ∷ rest) = name_count first + names_among rest
 
 -- Records are answered by a listing of what they show, or refused as by an audit without an anchor.
 abbrev pub AnswersListing : (honest : Bool) → List Record → Result Listing AuditFault → Type 0
-AnswersListing honest records (Ok listing) = IsLegal records × (shown_in records ≡ Some (shown_by listing))
+AnswersListing honest records (Ok listing) =
+    IsLegal records × (shown_of_records records ≡ Some (shown_of_listing listing))
 AnswersListing honest records (Err fault) = Judges honest records None (Err fault)
 
 -- A listing reads the store and shows what it loads: as many records as the store has, and over an honest disk the same
@@ -109,4 +110,4 @@ without_secret entry.Moved = entry.Moved
 
 -- Lists of records that differ only in secrets show the same.
 abbrev pub ListingLaw : Type 0
-ListingLaw = (a b : List Record) → map without_secret a ≡ map without_secret b → shown_in a ≡ shown_in b
+ListingLaw = (a b : List Record) → map without_secret a ≡ map without_secret b → shown_of_records a ≡ shown_of_records b

@@ -3,14 +3,14 @@ use Rattle.std.specs.Prelude.{◌≡◌, ℕ, zero, suc, ◌<◌, List, ◌++◌
 use Rattle.typecodes.specs.Layout.{AreBytes, Spells}
 use Rattle.state_file.specs.declared.record.Record.{Record}
 use Rattle.state_file.specs.File.{SpellsRecords, tag_at, tag_of}
-use Rattle.state_file.specs.Slot.{slot_record, version_in}
+use Rattle.state_file.specs.Slot.{slot_record, file_version}
 
 -- The tag before record k: 32 zeros before the first. Each other one is the hash of the tag before it and of a record's
 -- bytes in the list's version; a record has one list of bytes there.
 abbrev pub IsTagBefore : List Record → ℕ → List ℕ → Type 0
 IsTagBefore records zero tag = tag ≡ replicate 32 0
 IsTagBefore records (suc k) tag = (entry : Record) × (fields previous : List ℕ)
-    × (slice_get records k ≡ Some entry) × AreBytes fields × Spells (slot_record (version_in records)) entry fields
+    × (slice_get records k ≡ Some entry) × AreBytes fields × Spells (slot_record (file_version records)) entry fields
     × IsTagBefore records k previous × (tag ≡ tag_of previous fields)
 
 abbrev pub IsTag : List Record → ℕ → List ℕ → Type 0

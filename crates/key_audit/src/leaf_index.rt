@@ -2,7 +2,7 @@
 
 ghost use Rattle.std.specs.Prelude.{◌≡◌, [], Contains, OnOk};
 ghost use Rattle.key_audit.specs.inner.LeafIndex.{AddsUse, AddsUses, AreKept, IsFirstConflict};
-ghost use Rattle.key_audit.specs.inner.LeafIndex.{conflict_in, min_some};
+ghost use Rattle.key_audit.specs.inner.LeafIndex.{conflict_at, min_some};
 
 use crate::leaf::Leaf;
 use crate::uses::LeafUse;
@@ -35,7 +35,7 @@ impl LeafIndex {
 
     // The first signature that used the leaf, if any use had another digest.
     fn conflict_of_use(&self, used: &LeafUse) -> Option<usize>
-        ensures { result ≡ conflict_in self.now.entries used.now }
+        ensures { result ≡ conflict_at self.now.entries used.now }
     {
         let first = self.entries.get(&used.leaf)?;
         if first.one_digest && first.digest == used.digest {

@@ -2,7 +2,7 @@
 use Rattle.std.proofs.Common.{◌≡◌, sym, ℕ, ◌<◌, List, [], length, get_or}
 use Rattle.std.specs.List.{concat}
 use Rattle.sha2.proofs.Facts256.{length-sha256}
-use Rattle.typecodes.specs.Fields.{values_in}
+use Rattle.typecodes.specs.Fields.{first_values}
 use Rattle.typecodes.specs.Types.{chains_of, width_of}
 use Rattle.typecodes.specs.declared.types.OtsType.{OtsType}
 use Rattle.winternitz.specs.Digest.{digits_of}
@@ -26,7 +26,7 @@ signed_sizes identifier q ots seed digest =
 
 -- what bytes that contain the values of a signature climb to
 pub bytes_climb : (identifier : List ℕ) (q : ℕ) (ots : OtsType) (seed digest bytes : List ℕ) → bytes ≡ concat (signed_values identifier q ots seed digest)
-    → ClimbTo identifier q ots digest (values_in (chains_of ots) bytes) (ends_of_seed identifier q ots seed)
+    → ClimbTo identifier q ots digest (first_values (chains_of ots) bytes) (ends_of_seed identifier q ots seed)
 bytes_climb identifier q ots seed digest bytes are =
     chains.bytes_climb (step_of identifier q) (private_value identifier q seed) (width_of ots) (chains_of ots) digest bytes
     (sym (digits_are_chains ots)) (λ i j v. length-sha256 _) (λ i. length-sha256 _) are

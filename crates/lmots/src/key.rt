@@ -8,7 +8,7 @@ ghost use Rattle.lmots.specs.Hashes.{message_separator, u8str, u16str, u32str};
 ghost use Rattle.lmots.specs.Key as spec;
 ghost use Rattle.lmots.specs.Key.{ClimbTo, ends_of_seed, ends_of_signature, message_digest_of, message_prefix_of};
 ghost use Rattle.lmots.specs.Key.{signed_values, step_of};
-ghost use Rattle.typecodes.specs.Fields.{values_in};
+ghost use Rattle.typecodes.specs.Fields.{first_values};
 ghost use Rattle.typecodes.specs.Message.{Digests};
 ghost use Rattle.typecodes.specs.Types.{chains_of, width_of};
 ghost use Rattle.winternitz.specs.Lanes.{lanes};
@@ -140,7 +140,7 @@ impl LmOts {
         ensures value { into.new ≡ concat (signed_values self.now.identifier self.now.leaf ots seed.now digest.now) }
         // They climb to the ends of the key's chains.
         ensures climbs { ClimbTo self.now.identifier self.now.leaf ots digest.now
-            (values_in (chains_of ots) into.new) (ends_of_seed self.now.identifier self.now.leaf ots seed.now) }
+            (first_values (chains_of ots) into.new) (ends_of_seed self.now.identifier self.now.leaf ots seed.now) }
     {
         let count = usize::from(ots.chains());
         let chains = Chains::of(self);

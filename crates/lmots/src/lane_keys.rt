@@ -8,7 +8,7 @@ ghost use Rattle.lmots.specs.Key as spec;
 ghost use Rattle.lmots.specs.Key.{chain_value, ends_of_seed};
 ghost use Rattle.typecodes.specs.Types.{chains_of};
 ghost use Rattle.winternitz.specs.Beginning.{BeginsWith};
-ghost use Rattle.winternitz.specs.Lanes.{lanes, value_in};
+ghost use Rattle.winternitz.specs.Lanes.{lanes, value_at};
 
 use crate::chains::key_prefix;
 use crate::hashes::PUBLIC;
@@ -67,7 +67,7 @@ impl LaneKeys {
 
     // The end of one chain of each key. `seeds` has the seed's words in each lane.
     fn ends(&self, chain: u16, last: u8, seeds: &States) -> [[u8; 32]; LANES]
-        ensures { (j : ℕ) → j < lanes → (seed : List ℕ) → value_in seeds.now j ≡ seed → slice_index_or result j []
+        ensures { (j : ℕ) → j < lanes → (seed : List ℕ) → value_at seeds.now j ≡ seed → slice_index_or result j []
             ≡ chain_value self.now.identifier (slice_index self.now.leaves j) seed chain last }
     {
         let chains = [chain; LANES];

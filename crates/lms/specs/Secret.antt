@@ -18,22 +18,22 @@ leaves_of secret q = leaf_of secret.identifier (height_of secret.pair.tree) q
 abbrev pub joins_of : LmsSecret → Joins
 joins_of secret = join_of secret.identifier (height_of secret.pair.tree)
 
-abbrev pub root_in : LmsSecret → List ℕ
-root_in secret = root_of (leaves_of secret) (joins_of secret) (height_of secret.pair.tree)
+abbrev pub root_of_secret : LmsSecret → List ℕ
+root_of_secret secret = root_of (leaves_of secret) (joins_of secret) (height_of secret.pair.tree)
 
 -- the public key of a secret's tree with this root, whether or not the root is the tree's
-abbrev pub public_with : LmsSecret → (root : List ℕ) → LmsPublic
-public_with secret root = record { pair = secret.pair; identifier = secret.identifier; root = root }
+abbrev pub rooted_public : LmsSecret → (root : List ℕ) → LmsPublic
+rooted_public secret root = record { pair = secret.pair; identifier = secret.identifier; root = root }
 
 abbrev pub public_of : LmsSecret → LmsPublic
-public_of secret = public_with secret (root_in secret)
+public_of secret = rooted_public secret (root_of_secret secret)
 
-abbrev pub path_in : LmsSecret → ℕ → List (List ℕ)
-path_in secret q = path_of (leaves_of secret) (joins_of secret) (height_of secret.pair.tree) q
+abbrev pub leaf_path : LmsSecret → ℕ → List (List ℕ)
+leaf_path secret q = path_of (leaves_of secret) (joins_of secret) (height_of secret.pair.tree) q
 
 -- the digest Q of a message that leaf q signs with the randomizer C
-abbrev pub digest_in : LmsSecret → ℕ → List ℕ → List ℕ → List ℕ
-digest_in secret q randomizer message = message_digest_of secret.identifier q randomizer message
+abbrev pub digest_at : LmsSecret → ℕ → List ℕ → List ℕ → List ℕ
+digest_at secret q randomizer message = message_digest_of secret.identifier q randomizer message
 
 -- the secret that a tree's leaves are made from
 abbrev pub secret_of : LmsTree → LmsSecret

@@ -15,8 +15,8 @@ pub record Signature : Type 0 where
   pub chains : List (List ℕ)
   pub path : List (List ℕ)
 
-abbrev pub signature_with : LmsPair → ℕ → List ℕ → List (List ℕ) → List (List ℕ) → Signature
-signature_with pair q randomizer chains path =
+abbrev pub whole_signature : LmsPair → ℕ → List ℕ → List (List ℕ) → List (List ℕ) → Signature
+whole_signature pair q randomizer chains path =
     record { pair = pair; q = q; randomizer = randomizer; chains = chains; path = path }
 
 -- the offset where the tree's type ends in a signature
@@ -33,4 +33,4 @@ signature = do
   chains ← values (chains_of ots)
   tree ← lms_type
   path ← if nat_lt q (2 ^ height_of tree) then values (height_of tree) else refuse (type_end ots) LeafOutOfRange
-  done (signature_with (record { tree = tree; ots = ots }) q randomizer chains path)
+  done (whole_signature (record { tree = tree; ots = ots }) q randomizer chains path)

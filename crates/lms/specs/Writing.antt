@@ -6,18 +6,18 @@ use Rattle.lmots.specs.Hashes.{u32str}
 use Rattle.lmots.specs.Key.{signed_values}
 use Rattle.lms.specs.declared.key.LmsPublic.{LmsPublic}
 use Rattle.typecodes.specs.declared.secret.LmsSecret.{LmsSecret}
-use Rattle.lms.specs.Secret.{path_in}
-use Rattle.lms.specs.Signature.{Signature, signature_with}
+use Rattle.lms.specs.Secret.{leaf_path}
+use Rattle.lms.specs.Signature.{Signature, whole_signature}
 
 -- the signature of the digest Q by leaf q, with the randomizer C and a path
 abbrev pub signed : LmsSecret → ℕ → List ℕ → List ℕ → List (List ℕ) → Signature
 signed secret q randomizer digest path =
     let chains = signed_values secret.identifier q secret.pair.ots secret.seed digest in
-    signature_with secret.pair q randomizer chains path
+    whole_signature secret.pair q randomizer chains path
 
 -- The textbook signature: it has the path of leaf q.
 abbrev pub textbook : LmsSecret → ℕ → List ℕ → List ℕ → Signature
-textbook secret q randomizer digest = signed secret q randomizer digest (path_in secret q)
+textbook secret q randomizer digest = signed secret q randomizer digest (leaf_path secret q)
 
 -- the bytes of a signature (5.4)
 abbrev pub signature_bytes : Signature → List ℕ

@@ -18,11 +18,11 @@ pub struct LmsPublic {
 
 impl LmsPublic {
     ghost use Rattle.lms.specs.Key.{public_key};
-    ghost use Rattle.lms.specs.Secret.{public_with};
+    ghost use Rattle.lms.specs.Secret.{rooted_public};
 
     /// The public key of a secret's tree. The root, 32 bytes, is taken as it is given.
     pub fn of(secret: &LmsSecret, root: [u8; 32]) -> Self
-        ensures { result ≡ public_with secret.now root }
+        ensures { result ≡ rooted_public secret.now root }
     {
         LmsPublic {
             pair: secret.pair,

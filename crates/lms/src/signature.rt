@@ -4,10 +4,10 @@ ghost use Rattle.std.specs.Prelude.{◌≡◌, ◌+◌, ◌-◌, ◌*◌, ◌<�
 ghost use Rattle.std.specs.Prelude.{[], length, take, drop, slice_index_or};
 ghost use Rattle.byteorder.specs.Endian.{big_number};
 ghost use Rattle.typecodes.specs.Layout.{Spells};
-ghost use Rattle.typecodes.specs.Fields.{values_in};
+ghost use Rattle.typecodes.specs.Fields.{first_values};
 ghost use Rattle.typecodes.specs.Cursor.{Gives, Keeps, Reads, read};
 ghost use Rattle.typecodes.specs.Types.{chains_of, height_of, lms_signature_len_of, signature_len_of};
-ghost use Rattle.lms.specs.Signature.{signature, signature_with};
+ghost use Rattle.lms.specs.Signature.{signature, whole_signature};
 
 use typecodes::{Cause, Cursor, LmsPair, ReadFault};
 
@@ -24,12 +24,12 @@ pub struct LmsSigView<'a> {
     ghost chain_count: { length chains.now ≡ chains_of pair.ots },
     ghost path_length: { length path.now ≡ height_of pair.tree },
     ghost spelled: { read signature bytes.now 0
-        ≡ Ok (signature_with pair q randomizer.now chains.now path.now, length bytes.now) },
+        ≡ Ok (whole_signature pair q randomizer.now chains.now path.now, length bytes.now) },
     ghost size: { length bytes.now ≡ lms_signature_len_of pair },
     ghost q_at: { q ≡ big_number 4 (take 4 bytes.now) },
     ghost randomizer_at: { randomizer.now ≡ take 32 (drop 8 bytes.now) },
-    ghost chains_at: { chains.now ≡ values_in (chains_of pair.ots) (drop 40 bytes.now) },
-    ghost path_at: { path.now ≡ values_in (height_of pair.tree) (drop (8 + signature_len_of pair.ots) bytes.now) },
+    ghost chains_at: { chains.now ≡ first_values (chains_of pair.ots) (drop 40 bytes.now) },
+    ghost path_at: { path.now ≡ first_values (height_of pair.tree) (drop (8 + signature_len_of pair.ots) bytes.now) },
 }
 
 impl<'a> LmsSigView<'a> {

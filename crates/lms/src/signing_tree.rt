@@ -3,7 +3,7 @@
 ghost use Rattle.std.specs.Prelude.{◌≡◌, ◌<◌, ◌^◌, length};
 ghost use Rattle.typecodes.specs.Layout.{Spells};
 ghost use Rattle.typecodes.specs.Types.{height_of, lms_signature_len_of};
-ghost use Rattle.lms.specs.Secret.{path_in};
+ghost use Rattle.lms.specs.Secret.{leaf_path};
 ghost use Rattle.lms.specs.Signature.{signature};
 ghost use Rattle.lms.specs.Writing.{signature_bytes, signed, textbook};
 
@@ -46,7 +46,7 @@ impl SigningTree {
         ensures spells { Spells signature
             (signed self.now.secret self.now.leaf randomizer.now digest.now (path_of_tree self.now)) into.new }
         // If the path is the leaf's, it is the textbook signature.
-        ensures textbook { path_of_tree self.now ≡ path_in self.now.secret self.now.leaf →
+        ensures textbook { path_of_tree self.now ≡ leaf_path self.now.secret self.now.leaf →
             into.new ≡ signature_bytes (textbook self.now.secret self.now.leaf randomizer.now digest.now) }
     {
         let height = usize::from(self.secret.pair.tree.height());

@@ -5,7 +5,7 @@ ghost use Rattle.typecodes.specs.Layout.{Spells};
 ghost use Rattle.typecodes.specs.Types.{height_of, lms_signature_len_of};
 ghost use Rattle.lms.specs.Key.{public_key};
 ghost use Rattle.lms.specs.Signature.{signature};
-ghost use Rattle.lms.specs.Secret.{digest_in, path_in, public_of};
+ghost use Rattle.lms.specs.Secret.{digest_at, leaf_path, public_of};
 ghost use Rattle.lms.specs.Writing.{public_bytes, signature_bytes, signed, textbook};
 ghost use Rattle.lms.specs.Verification.{IsValid};
 
@@ -53,12 +53,12 @@ pub fn write_signature(
     ensures bytes { into.new ≡ signature_bytes (signed secret.now leaf randomizer.now digest.now path.now) }
     ensures spells { Spells signature (signed secret.now leaf randomizer.now digest.now path.now) into.new }
     // If the path is the leaf's, it is the textbook signature.
-    ensures textbook { path.now ≡ path_in secret.now leaf →
+    ensures textbook { path.now ≡ leaf_path secret.now leaf →
         into.new ≡ signature_bytes (textbook secret.now leaf randomizer.now digest.now) }
     // If also the digest is a message's, the signature is valid.
     ensures valid { (message : List ℕ) →
-        digest.now ≡ digest_in secret.now leaf randomizer.now message →
-        path.now ≡ path_in secret.now leaf →
+        digest.now ≡ digest_at secret.now leaf randomizer.now message →
+        path.now ≡ leaf_path secret.now leaf →
         IsValid (public_of secret.now) message (signed secret.now leaf randomizer.now digest.now path.now) }
 {
     let key = LmOts {

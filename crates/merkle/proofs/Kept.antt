@@ -7,7 +7,7 @@ use Rattle.std.proofs.lemmas.List.FromFn.{map-range_with_len_more}
 use Rattle.std.proofs.lemmas.Nat.{pow-add, pow_pos}
 use Rattle.std.proofs.Math.Nat.{div-div-eq-div-mul, div-lt_iff_lt-mul, pow-le-pow_right}
 use Rattle.merkle.specs.Tree.{Leaves, Joins, node, path_of, root_of, sibling}
-use Rattle.merkle.specs.Nodes.{path_from}
+use Rattle.merkle.specs.Nodes.{part_path}
 use Rattle.merkle.specs.Cache.{View, KeepsNodes, block_height, block_nodes, upper_nodes}
 use Rattle.merkle.proofs.Listing.{nodes_count, nodes_last}
 
@@ -82,7 +82,7 @@ upper_count leaf join height nodes are =
     ap (λ xs. length xs + 1) are ∙ nodes_count leaf join (block_height height) (height - block_height height) 0
 
 -- a path that begins at the leaves is the path
-from_lowest : (leaf : Leaves) (join : Joins) (depth q : ℕ) → path_of leaf join depth q ≡ path_from leaf join 0 depth q
+from_lowest : (leaf : Leaves) (join : Joins) (depth q : ℕ) → path_of leaf join depth q ≡ part_path leaf join 0 depth q
 from_lowest leaf join zero q = refl
 from_lowest leaf join (suc depth) q =
     let f : ℕ → List ℕ = λ k. node leaf join k (sibling (q / 2 ^ k)) in
@@ -91,23 +91,23 @@ from_lowest leaf join (suc depth) q =
     ap (λ h. path_of leaf join h q) (sym (add-one depth))
     ∙ map-range_with_len_more f 0 depth depth (omega arith)
     ∙ ap (λ xs. xs ++ f depth ∷ []) (from_lowest leaf join depth q)
-    ∙ ap (λ h. path_from leaf join 0 depth q ++ node leaf join h (sibling (q / 2 ^ depth)) ∷ []) low
+    ∙ ap (λ h. part_path leaf join 0 depth q ++ node leaf join h (sibling (q / 2 ^ depth)) ∷ []) low
     ∙ sym (map-range_with_len_more g 0 depth depth (omega arith))
-    ∙ ap (λ d. path_from leaf join 0 d q) (add-one depth)
+    ∙ ap (λ d. part_path leaf join 0 d q) (add-one depth)
 
 -- a path up to a height, and from there on
 path_parts : (leaf : Leaves) (join : Joins) (base depth q : ℕ)
-    → path_of leaf join (base + depth) q ≡ path_from leaf join 0 base q ++ path_from leaf join base depth (q / 2 ^ base)
+    → path_of leaf join (base + depth) q ≡ part_path leaf join 0 base q ++ part_path leaf join base depth (q / 2 ^ base)
 path_parts leaf join base zero q =
     let same : base + 0 ≡ base = omega arith in
     ap (λ h. path_of leaf join h q) same
     ∙ from_lowest leaf join base q
-    ∙ sym (append-nil (path_from leaf join 0 base q))
+    ∙ sym (append-nil (part_path leaf join 0 base q))
 path_parts leaf join base (suc depth) q =
     let f : ℕ → List ℕ = λ k. node leaf join k (sibling (q / 2 ^ k)) in
     let g : ℕ → List ℕ = λ k. node leaf join (base + k) (sibling (q / 2 ^ base / 2 ^ k)) in
-    let lower = path_from leaf join 0 base q in
-    let upper = path_from leaf join base depth (q / 2 ^ base) in
+    let lower = part_path leaf join 0 base q in
+    let upper = part_path leaf join base depth (q / 2 ^ base) in
     let e : base + suc depth ≡ base + depth + 1 = omega arith in
     let over : q / 2 ^ (base + depth) ≡ q / 2 ^ base / 2 ^ depth
     = ap (λ n. q / n) (pow-add 2 base depth) ∙ sym (div-div-eq-div-mul q (2 ^ base) (2 ^ depth)) in
@@ -117,19 +117,19 @@ path_parts leaf join base (suc depth) q =
     ∙ append_assoc lower upper (f (base + depth) ∷ [])
     ∙ ap (λ i. lower ++ (upper ++ node leaf join (base + depth) (sibling i) ∷ [])) over
     ∙ ap (λ xs. lower ++ xs) (sym (map-range_with_len_more g 0 depth depth (omega arith)))
-    ∙ ap (λ d. lower ++ path_from leaf join base d (q / 2 ^ base)) (add-one depth)
+    ∙ ap (λ d. lower ++ part_path leaf join base d (q / 2 ^ base)) (add-one depth)
 
 -- a path out of a block, and on out of the upper tree
 pub whole_path : (leaf : Leaves) (join : Joins) (height q index : ℕ) (lower upper : List (List ℕ))
-    → lower ≡ path_from leaf join 0 (block_height height) q
-    → upper ≡ path_from leaf join (block_height height) (height - block_height height) index
+    → lower ≡ part_path leaf join 0 (block_height height) q
+    → upper ≡ part_path leaf join (block_height height) (height - block_height height) index
     → index ≡ q / 2 ^ block_height height
     → lower ++ upper ≡ path_of leaf join height q
 whole_path leaf join height q index lower upper lower_is upper_is is =
     let b = block_height height in
     let all : b + (height - b) ≡ height = omega arith in
     ap (λ xs. xs ++ upper) lower_is
-    ∙ ap (λ xs. path_from leaf join 0 b q ++ xs) (upper_is ∙ ap (path_from leaf join b (height - b)) is)
+    ∙ ap (λ xs. part_path leaf join 0 b q ++ xs) (upper_is ∙ ap (part_path leaf join b (height - b)) is)
     ∙ sym (path_parts leaf join b (height - b) q)
     ∙ ap (λ h. path_of leaf join h q) all
 

@@ -6,59 +6,59 @@ use Rattle.std.proofs.lemmas.Grind.{pow_more}
 use Rattle.std.proofs.lemmas.List.{get_or-append_right}
 use Rattle.std.proofs.lemmas.Nat.{pow_pos}
 use Rattle.merkle.specs.Tree.{Leaves, Joins, node}
-use Rattle.merkle.specs.Nodes.{nodes_under}
+use Rattle.merkle.specs.Nodes.{part_nodes}
 use Rattle.merkle.proofs.Building.{children_inside, leaves_twice, node_children}
 
 pub nodes_one : (leaf : Leaves) (join : Joins) (base depth j : ℕ) → depth ≡ 0
-    → nodes_under leaf join base depth j ≡ node leaf join base j ∷ []
-unfolding nodes_under
-nodes_one leaf join base depth j low = ap (λ d. nodes_under leaf join base d j) low
+    → part_nodes leaf join base depth j ≡ node leaf join base j ∷ []
+unfolding part_nodes
+nodes_one leaf join base depth j low = ap (λ d. part_nodes leaf join base d j) low
 
 -- both halves and the node over them
 pub nodes_more : (leaf : Leaves) (join : Joins) (base depth j : ℕ)
-    → nodes_under leaf join base (depth + 1) j
-    ≡ nodes_under leaf join base depth (2 * j)
-    ++ (nodes_under leaf join base depth (2 * j + 1) ++ node leaf join (base + (depth + 1)) j ∷ [])
-unfolding nodes_under
+    → part_nodes leaf join base (depth + 1) j
+    ≡ part_nodes leaf join base depth (2 * j)
+    ++ (part_nodes leaf join base depth (2 * j + 1) ++ node leaf join (base + (depth + 1)) j ∷ [])
+unfolding part_nodes
 nodes_more leaf join base depth j =
-    ap (λ d. nodes_under leaf join base d j) (add-one depth)
-    ∙ (let left = nodes_under leaf join base depth (2 * j) in
-    let right = nodes_under leaf join base depth (2 * j + 1) in
+    ap (λ d. part_nodes leaf join base d j) (add-one depth)
+    ∙ (let left = part_nodes leaf join base depth (2 * j) in
+    let right = part_nodes leaf join base depth (2 * j + 1) in
     ap (λ d. left ++ (right ++ node leaf join (base + d) j ∷ [])) (sym (add-one depth)))
 
 -- the same of a depth that isn't 0
 pub nodes_halves : (leaf : Leaves) (join : Joins) (base depth j : ℕ) → 0 < depth
-    → nodes_under leaf join base depth j
-    ≡ nodes_under leaf join base (depth - 1) (2 * j)
-    ++ (nodes_under leaf join base (depth - 1) (2 * j + 1) ++ node leaf join (base + depth) j ∷ [])
+    → part_nodes leaf join base depth j
+    ≡ part_nodes leaf join base (depth - 1) (2 * j)
+    ++ (part_nodes leaf join base (depth - 1) (2 * j + 1) ++ node leaf join (base + depth) j ∷ [])
 nodes_halves leaf join base depth j above =
     let e : depth - 1 + 1 ≡ depth = omega arith in
-    let left = nodes_under leaf join base (depth - 1) (2 * j) in
-    let right = nodes_under leaf join base (depth - 1) (2 * j + 1) in
-    ap (λ d. nodes_under leaf join base d j) (sym e)
+    let left = part_nodes leaf join base (depth - 1) (2 * j) in
+    let right = part_nodes leaf join base (depth - 1) (2 * j + 1) in
+    ap (λ d. part_nodes leaf join base d j) (sym e)
     ∙ nodes_more leaf join base (depth - 1) j
     ∙ ap (λ d. left ++ (right ++ node leaf join (base + d) j ∷ [])) e
 
 pub nodes_count : (leaf : Leaves) (join : Joins) (base depth j : ℕ)
-    → length (nodes_under leaf join base depth j) + 1 ≡ 2 ^ (depth + 1)
+    → length (part_nodes leaf join base depth j) + 1 ≡ 2 ^ (depth + 1)
 nodes_count leaf join base zero j = ap (λ xs. length xs + 1) (nodes_one leaf join base zero j refl)
 nodes_count leaf join base (suc depth) j =
-    let left = nodes_under leaf join base depth (2 * j) in
-    let right = nodes_under leaf join base depth (2 * j + 1) in
+    let left = part_nodes leaf join base depth (2 * j) in
+    let right = part_nodes leaf join base depth (2 * j + 1) in
     let top = node leaf join (base + (depth + 1)) j ∷ [] in
-    let all : length (nodes_under leaf join base (depth + 1) j) ≡ length left + (length right + 1)
+    let all : length (part_nodes leaf join base (depth + 1) j) ≡ length left + (length right + 1)
     = ap length (nodes_more leaf join base depth j) ∙ length-append left (right ++ top)
     ∙ ap (λ n. length left + n) (length-append right top) in
-    ap (λ d. length (nodes_under leaf join base d j) + 1) (sym (add-one depth))
+    ap (λ d. length (part_nodes leaf join base d j) + 1) (sym (add-one depth))
     ∙ (let p = pow_more 2 (depth + 1) in
     let l = nodes_count leaf join base depth (2 * j) in
     let r = nodes_count leaf join base depth (2 * j + 1) in
-    let sum : length (nodes_under leaf join base (depth + 1) j) + 1 ≡ 2 ^ (depth + 1 + 1) = omega arith in sum)
+    let sum : length (part_nodes leaf join base (depth + 1) j) + 1 ≡ 2 ^ (depth + 1 + 1) = omega arith in sum)
     ∙ ap (λ d. 2 ^ (d + 1)) (add-one depth)
 
 -- the last of them is the node over all
 pub nodes_last : (leaf : Leaves) (join : Joins) (base depth j n : ℕ) (xs : List (List ℕ)) (other : List ℕ)
-    → xs ≡ nodes_under leaf join base depth j → n + 2 ≡ 2 ^ (depth + 1)
+    → xs ≡ part_nodes leaf join base depth j → n + 2 ≡ 2 ^ (depth + 1)
     → slice_index_or xs n other ≡ node leaf join (base + depth) j
 nodes_last leaf join base zero j n xs other is last =
     let first : n ≡ 0 = omega arith in
@@ -67,8 +67,8 @@ nodes_last leaf join base zero j n xs other is last =
     ∙ ap (λ ys. slice_index_or ys 0 other) (is ∙ nodes_one leaf join base zero j refl)
     ∙ ap (λ h. node leaf join h j) low
 nodes_last leaf join base (suc depth) j n xs other is last =
-    let left = nodes_under leaf join base depth (2 * j) in
-    let right = nodes_under leaf join base depth (2 * j + 1) in
+    let left = part_nodes leaf join base depth (2 * j) in
+    let right = part_nodes leaf join base depth (2 * j + 1) in
     let top = node leaf join (base + (depth + 1)) j ∷ [] in
     let l = nodes_count leaf join base depth (2 * j) in
     let r = nodes_count leaf join base depth (2 * j + 1) in
@@ -77,7 +77,7 @@ nodes_last leaf join base (suc depth) j n xs other is last =
     let last' : n + 2 ≡ 2 ^ (depth + 1 + 1) = last ∙ ap (λ d. 2 ^ (d + 1)) e in
     let at_end : n - length left - length right ≡ 0 = omega arith in
     ap (λ ys. slice_index_or ys n other)
-    (is ∙ ap (λ d. nodes_under leaf join base d j) e ∙ nodes_more leaf join base depth j)
+    (is ∙ ap (λ d. part_nodes leaf join base d j) e ∙ nodes_more leaf join base depth j)
     ∙ get_or-append_right left (right ++ top) (length left) n other refl (omega arith)
     ∙ get_or-append_right right top (length right) (n - length left) other refl (omega arith)
     ∙ ap (λ k. slice_index_or top k other) at_end
@@ -122,11 +122,11 @@ halves_inside base depth j above within inside =
 pub nodes_over_halves : (leaf : Leaves) (join : Joins) (base depth j n : ℕ) (left right top : List (List ℕ)) (over : List ℕ)
     → 0 < depth
     → n + 2 ≡ 2 ^ depth
-    → left ≡ nodes_under leaf join base (depth - 1) (2 * j)
-    → right ≡ nodes_under leaf join base (depth - 1) (2 * j + 1)
+    → left ≡ part_nodes leaf join base (depth - 1) (2 * j)
+    → right ≡ part_nodes leaf join base (depth - 1) (2 * j + 1)
     → length top ≡ 1
     → over ≡ join (base + (depth - 1)) j (slice_index_or left n []) (slice_index_or right n [])
-    → left ++ (right ++ slice_set top 0 over) ≡ nodes_under leaf join base depth j
+    → left ++ (right ++ slice_set top 0 over) ≡ part_nodes leaf join base depth j
 nodes_over_halves leaf join base depth j n left right top over above last left_is right_is one over_is =
     let d = depth - 1 in
     let lower : base + depth - 1 ≡ base + d = omega arith in
@@ -143,5 +143,5 @@ nodes_over_halves leaf join base depth j n left right top over above last left_i
     ap (λ ys. left ++ (right ++ ys)) (one_written top over one)
     ∙ ap (λ v. left ++ (right ++ v ∷ [])) made
     ∙ ap (λ xs. xs ++ (right ++ node leaf join (base + depth) j ∷ [])) left_is
-    ∙ ap (λ xs. nodes_under leaf join base d (2 * j) ++ (xs ++ node leaf join (base + depth) j ∷ [])) right_is
+    ∙ ap (λ xs. part_nodes leaf join base d (2 * j) ++ (xs ++ node leaf join (base + depth) j ∷ [])) right_is
     ∙ sym (nodes_halves leaf join base depth j above)

@@ -8,37 +8,37 @@ use Rattle.std.proofs.lemmas.List.{length-take-le}
 use Rattle.std.proofs.Math.ListN.{drop_of_length-le, length-set}
 use Rattle.std.proofs.Math.Seq.{take-append_seam, drop-append_seam}
 use Rattle.merkle.specs.Tree.{Leaves, Joins, node, sibling}
-use Rattle.merkle.specs.Nodes.{nodes_under, path_from}
+use Rattle.merkle.specs.Nodes.{part_nodes, part_path}
 use Rattle.merkle.proofs.Climb.{half_of}
 use Rattle.merkle.proofs.Leading.{sibling-odd, sibling-even}
 use Rattle.merkle.proofs.Listing.{half_room, nodes_count, nodes_halves, nodes_last}
 
 half_count : (leaf : Leaves) (join : Joins) (base depth j k : ℕ) (nodes : List (List ℕ)) → 0 < depth
-    → nodes ≡ nodes_under leaf join base depth j
-    → length nodes / 2 ≡ length (nodes_under leaf join base (depth - 1) k)
+    → nodes ≡ part_nodes leaf join base depth j
+    → length nodes / 2 ≡ length (part_nodes leaf join base (depth - 1) k)
 half_count leaf join base depth j k nodes above nodes_are =
     let all : length nodes + 1 ≡ 2 ^ (depth + 1)
     = ap (λ xs. length xs + 1) nodes_are ∙ nodes_count leaf join base depth j in
     omega (arith, half_room (length nodes) depth all above, nodes_count leaf join base (depth - 1) k)
 
 pub first_half : (leaf : Leaves) (join : Joins) (base depth j k : ℕ) (nodes : List (List ℕ)) → 0 < depth
-    → nodes ≡ nodes_under leaf join base depth j → 2 * j ≡ k
-    → take (length nodes / 2) nodes ≡ nodes_under leaf join base (depth - 1) k
+    → nodes ≡ part_nodes leaf join base depth j → 2 * j ≡ k
+    → take (length nodes / 2) nodes ≡ part_nodes leaf join base (depth - 1) k
 first_half leaf join base depth j k nodes above nodes_are is =
-    let left = nodes_under leaf join base (depth - 1) (2 * j) in
-    let rest = nodes_under leaf join base (depth - 1) (2 * j + 1) ++ node leaf join (base + depth) j ∷ [] in
+    let left = part_nodes leaf join base (depth - 1) (2 * j) in
+    let rest = part_nodes leaf join base (depth - 1) (2 * j + 1) ++ node leaf join (base + depth) j ∷ [] in
     ap (λ n. take n nodes) (half_count leaf join base depth j (2 * j) nodes above nodes_are)
     ∙ ap (λ xs. take (length left) xs) (nodes_are ∙ nodes_halves leaf join base depth j above)
     ∙ take-append_seam left rest
-    ∙ ap (nodes_under leaf join base (depth - 1)) is
+    ∙ ap (part_nodes leaf join base (depth - 1)) is
 
 pub second_half : (leaf : Leaves) (join : Joins) (base depth j k : ℕ) (nodes : List (List ℕ)) → 0 < depth
-    → nodes ≡ nodes_under leaf join base depth j → 2 * j + 1 ≡ k
+    → nodes ≡ part_nodes leaf join base depth j → 2 * j + 1 ≡ k
     → take (2 * (length nodes / 2) - length nodes / 2) (drop (length nodes / 2) nodes)
-    ≡ nodes_under leaf join base (depth - 1) k
+    ≡ part_nodes leaf join base (depth - 1) k
 second_half leaf join base depth j k nodes above nodes_are is =
-    let left = nodes_under leaf join base (depth - 1) (2 * j) in
-    let right = nodes_under leaf join base (depth - 1) (2 * j + 1) in
+    let left = part_nodes leaf join base (depth - 1) (2 * j) in
+    let right = part_nodes leaf join base (depth - 1) (2 * j + 1) in
     let top = node leaf join (base + depth) j ∷ [] in
     let to_left = half_count leaf join base depth j (2 * j) nodes above nodes_are in
     let to_right = half_count leaf join base depth j (2 * j + 1) nodes above nodes_are in
@@ -48,7 +48,7 @@ second_half leaf join base depth j k nodes above nodes_are is =
     ∙ ap (λ xs. take (length right) (drop (length left) xs)) (nodes_are ∙ nodes_halves leaf join base depth j above)
     ∙ ap (λ xs. take (length right) xs) (drop-append_seam left (right ++ top))
     ∙ take-append_seam right top
-    ∙ ap (nodes_under leaf join base (depth - 1)) is
+    ∙ ap (part_nodes leaf join base (depth - 1)) is
 
 -- the node over a node and its sibling
 over_both : (i depth : ℕ) → 0 < depth → i / 2 ^ depth ≡ i / 2 ^ (depth - 1) / 2
@@ -92,10 +92,10 @@ odd_first i depth over above is odd =
 -- the path up to a height, and the root of the other half after it
 pub path_more : (leaf : Leaves) (join : Joins) (base depth i n : ℕ) (other lower into : List (List ℕ))
     → 0 < depth → length into ≡ depth → n + 2 ≡ 2 ^ depth
-    → other ≡ nodes_under leaf join base (depth - 1) (sibling (i / 2 ^ (depth - 1)))
-    → lower ≡ path_from leaf join base (depth - 1) i
+    → other ≡ part_nodes leaf join base (depth - 1) (sibling (i / 2 ^ (depth - 1)))
+    → lower ≡ part_path leaf join base (depth - 1) i
     → lower ++ drop (depth - 1) (slice_set into (depth - 1) (slice_index_or other n []))
-    ≡ path_from leaf join base depth i
+    ≡ part_path leaf join base depth i
 path_more leaf join base depth i n other lower into above long last other_is lower_is =
     let d = depth - 1 in
     let e : depth - 1 + 1 ≡ depth = omega arith in
@@ -109,16 +109,16 @@ path_more leaf join base depth i n other lower into above long last other_is low
     ap (λ xs. lower ++ xs) written
     ∙ ap (λ xs. xs ++ f d ∷ []) lower_is
     ∙ sym (map-range_with_len_more f 0 d d (omega arith))
-    ∙ ap (λ k. path_from leaf join base k i) e
+    ∙ ap (λ k. part_path leaf join base k i) e
 
 -- what is said of a list's length, said of a number equal to it
 pub read_below : (leaf : Leaves) (join : Joins) (base n depth i : ℕ) (half lower : List (List ℕ)) → n ≡ depth
-    → (half ≡ nodes_under leaf join base n (i / 2 ^ n) → lower ≡ path_from leaf join base n i)
-    → half ≡ nodes_under leaf join base depth (i / 2 ^ depth)
-    → lower ≡ path_from leaf join base depth i
+    → (half ≡ part_nodes leaf join base n (i / 2 ^ n) → lower ≡ part_path leaf join base n i)
+    → half ≡ part_nodes leaf join base depth (i / 2 ^ depth)
+    → lower ≡ part_path leaf join base depth i
 read_below leaf join base n depth i half lower e reads half_is =
-    reads (half_is ∙ ap (λ d. nodes_under leaf join base d (i / 2 ^ d)) (sym e))
-    ∙ ap (λ d. path_from leaf join base d i) e
+    reads (half_is ∙ ap (λ d. part_nodes leaf join base d (i / 2 ^ d)) (sym e))
+    ∙ ap (λ d. part_path leaf join base d i) e
 
 -- the part below a place that was written
 pub length_below : (xs : List (List ℕ)) (d : ℕ) (v : List ℕ) → d ≤ length xs → length (take d (slice_set xs d v)) ≡ d

@@ -1,7 +1,7 @@
 -- Which nodes of a tree a cache keeps: its upper half, and one block of the lower half.
 use Rattle.std.specs.Prelude.{◌≡◌, ℕ, ◌+◌, ◌-◌, ◌/◌, ◌<◌, ◌≤◌, ◌^◌, List, length, min}
 use Rattle.merkle.specs.Tree.{Leaves, Joins}
-use Rattle.merkle.specs.Nodes.{nodes_under}
+use Rattle.merkle.specs.Nodes.{part_nodes}
 
 -- What callers see of a cache: the tree, its height, the kept nodes in two lists, and the index of the kept block.
 pub record View (T : Type 0) : Type 0 where
@@ -27,11 +27,11 @@ block_height height = height / 2
 
 -- the upper tree: the roots of all blocks, and the nodes over them
 abbrev pub upper_nodes : Leaves → Joins → ℕ → List (List ℕ)
-upper_nodes leaf join height = nodes_under leaf join (block_height height) (height - block_height height) 0
+upper_nodes leaf join height = part_nodes leaf join (block_height height) (height - block_height height) 0
 
 -- a block: a node of the blocks' height, and all nodes and leaves under it
 abbrev pub block_nodes : Leaves → Joins → ℕ → ℕ → List (List ℕ)
-block_nodes leaf join height index = nodes_under leaf join 0 (block_height height) index
+block_nodes leaf join height index = part_nodes leaf join 0 (block_height height) index
 
 -- A cache keeps the upper tree and this block, and no more.
 pub record KeepsNodes {T : Type 0} (leaf : Leaves) (join : Joins) (height index : ℕ) (cache : View T) : Type 0 where

@@ -4,15 +4,15 @@ use Rattle.std.specs.List.{range_with_len}
 use Rattle.merkle.specs.Tree.{Leaves, Joins, node, sibling}
 
 -- the nodes from node j of height base + depth down to height base: its left child's, its right child's, then itself
-unfoldable pub nodes_under : Leaves → Joins → ℕ → ℕ → ℕ → List (List ℕ)
-nodes_under leaf join base zero j = node leaf join base j ∷ []
-nodes_under leaf join base (suc depth) j =
-    nodes_under leaf join base depth (2 * j)
-    ++ (nodes_under leaf join base depth (2 * j + 1) ++ node leaf join (base + suc depth) j ∷ [])
+unfoldable pub part_nodes : Leaves → Joins → ℕ → ℕ → ℕ → List (List ℕ)
+part_nodes leaf join base zero j = node leaf join base j ∷ []
+part_nodes leaf join base (suc depth) j =
+    part_nodes leaf join base depth (2 * j)
+    ++ (part_nodes leaf join base depth (2 * j + 1) ++ node leaf join (base + suc depth) j ∷ [])
 
 -- the siblings of node i of height base and of the nodes over it, `depth` heights
-abbrev pub path_from : Leaves → Joins → ℕ → ℕ → ℕ → List (List ℕ)
-path_from leaf join base depth i = map (λ k. node leaf join (base + k) (sibling (i / 2 ^ k))) (range_with_len 0 depth)
+abbrev pub part_path : Leaves → Joins → ℕ → ℕ → ℕ → List (List ℕ)
+part_path leaf join base depth i = map (λ k. node leaf join (base + k) (sibling (i / 2 ^ k))) (range_with_len 0 depth)
 
 -- the leaves under node j of height h
 abbrev pub AreUnder : Leaves → ℕ → ℕ → List (List ℕ) → Type 0

@@ -2,7 +2,7 @@
 
 ghost use Rattle.std.specs.Prelude.{◌≡◌, ◌≤◌, ◌<◌, ◌+◌, ◌-◌, ◌*◌, ◌/◌, ◌^◌, ℕ, List, length};
 ghost use Rattle.merkle.specs.Tree.{Leaves, Joins, node};
-ghost use Rattle.merkle.specs.Nodes.{AreUnder, nodes_under, path_from};
+ghost use Rattle.merkle.specs.Nodes.{AreUnder, part_nodes, part_path};
 
 use crate::tree::{LANES, LANES_HEIGHT, NodeHash, TreeHash, node_at, node_over};
 
@@ -18,7 +18,7 @@ pub(crate) fn fill<T: TreeHash>(
     requires height { base + depth ≤ 25 }
     requires node_in_tree { index < 2 ^ (25 - (base + depth)) }
     requires exact_length { length into.old + 1 ≡ 2 ^ (depth + 1) }
-    ensures value { into.new ≡ nodes_under (T.leaf_of tree.old) (T.join_of tree.old) base depth index }
+    ensures value { into.new ≡ part_nodes (T.leaf_of tree.old) (T.join_of tree.old) base depth index }
     ensures counted { T.made tree.new ≡ T.made tree.old + 2 ^ (base + depth) }
     ensures leaves { T.leaf_of tree.new ≡ T.leaf_of tree.old }
     ensures joins { T.join_of tree.new ≡ T.join_of tree.old }
@@ -55,7 +55,7 @@ fn fill_from_leaves<T: NodeHash>(
     requires count { length leaves.now ≡ 2 ^ (base + depth) }
     requires exact_length { length into.old + 1 ≡ 2 ^ (depth + 1) }
     ensures { (leaf : Leaves) → AreUnder leaf (base + depth) index leaves.now
-        → into.new ≡ nodes_under leaf (T.join_of tree.now) base depth index }
+        → into.new ≡ part_nodes leaf (T.join_of tree.now) base depth index }
 {
     if depth == 0 {
         into[0] = node_over(tree, base, index, leaves);
@@ -87,7 +87,7 @@ pub(crate) fn fill_around<T: TreeHash>(
     requires under { known_index / 2 ^ depth ≡ index }
     requires known { known.now ≡ node (T.leaf_of tree.old) (T.join_of tree.old) base known_index }
     requires exact_length { length into.old + 1 ≡ 2 ^ (depth + 1) }
-    ensures value { into.new ≡ nodes_under (T.leaf_of tree.old) (T.join_of tree.old) base depth index }
+    ensures value { into.new ≡ part_nodes (T.leaf_of tree.old) (T.join_of tree.old) base depth index }
     ensures counted { T.made tree.new + 2 ^ base ≡ T.made tree.old + 2 ^ (base + depth) }
     ensures leaves { T.leaf_of tree.new ≡ T.leaf_of tree.old }
     ensures joins { T.join_of tree.new ≡ T.join_of tree.old }
@@ -118,8 +118,8 @@ pub(crate) fn read_path(nodes: &[[u8; 32]], i: u32, into: &mut [[u8; 32]])
     requires height { length into.old ≤ 25 }
     requires whole { length nodes.now + 1 ≡ 2 ^ (length into.old + 1) }
     ensures { (leaf : Leaves) (join : Joins) (base : ℕ) →
-        nodes.now ≡ nodes_under leaf join base (length into.old) (i / 2 ^ length into.old) →
-        into.new ≡ path_from leaf join base (length into.old) i }
+        nodes.now ≡ part_nodes leaf join base (length into.old) (i / 2 ^ length into.old) →
+        into.new ≡ part_path leaf join base (length into.old) i }
 {
     let depth = into.len();
     if depth == 0 {

@@ -22,7 +22,7 @@ use Rattle.sign_core.specs.Cuts.{IsBeginning}
 use Rattle.sign_core.specs.Caches.{Cached}
 use Rattle.sign_core.specs.Signer.{IsSigner, view_of, IsTied, LeavesOld, UsesMemory, View}
 use Rattle.sign_core.specs.inner.Signer.{Adds, IsAppended, LeavesEither}
-use Rattle.sign_core.specs.Records.{can_follow, key_in, is_long}
+use Rattle.sign_core.specs.Records.{can_follow, the_key, is_long}
 use Rattle.sign_core.specs.inner.Ledger.{Grows}
 use Rattle.sign_core.specs.Ledger.{Table, TakesMemory}
 use Rattle.sign_core.specs.Textbook.{AllHaveSizes, HasSizes, SecretHasSizes}
@@ -36,7 +36,7 @@ use Rattle.sign_core.proofs.Legal.{grows as legal_grows}
 use Rattle.sign_core.proofs.Sizes.{key_has_sizes}
 use Rattle.sign_core.proofs.Stays.{old_or_new}
 use Rattle.sign_core.specs.World.{acked, cut_old, cut_new, no_memory}
-use Rattle.state_file.specs.Slot.{FitsVersion, version_in, name_most}
+use Rattle.state_file.specs.Slot.{FitsVersion, file_version, name_most}
 use Rattle.state_file.specs.declared.record.Bound.{Bound}
 
 -- between two calls a crash leaves the store's list
@@ -222,18 +222,18 @@ grown_sizes : (records : List Record) (entry : Record) → AllHaveSizes records 
 grown_sizes records entry sizes sized = λ k x at.
     elim (old_or_new records entry k x at) [ inl old ↦ sizes k x old | inr same ↦ subst HasSizes same sized ]
 
-pub some_records : (records : List Record) (key : Key) → key_in records ≡ Some key → 0 < length records
+pub some_records : (records : List Record) (key : Key) → the_key records ≡ Some key → 0 < length records
 some_records [] key is = absurd (cc)
 some_records (first ∷ rest) key is = omega arith
 
 pub signer_grown : {S R : Type 0} {caches : Cached} (g : store.Ghosts S) (old new : S) (random : R) (before after : Table) (is_open : Bool) (entry : Record) (v : View S R)
-    → view_of old random before caches is_open ≡ v → IsSigner g (view_of old random before caches is_open) → key_in before.records ≡ Some before.key → v.is_open ≡ true
-    → can_follow (key_in v.records) v.records entry ≡ true → HasSizes entry
+    → view_of old random before caches is_open ≡ v → IsSigner g (view_of old random before caches is_open) → the_key before.records ≡ Some before.key → v.is_open ≡ true
+    → can_follow (the_key v.records) v.records entry ≡ true → HasSizes entry
     → IsAppended {A = Unit {0}} g old new entry (Ok tt) → Grows entry before after
-    → IsSigner g (view_of new random after caches is_open) × (key_in after.records ≡ Some after.key)
+    → IsSigner g (view_of new random after caches is_open) × (the_key after.records ≡ Some after.key)
 signer_grown g old new random before after is_open entry v is signer keyed opened follows sized appended grows =
     let was : is_open ≡ true = ap (λ w. w.is_open) is ∙ opened in
-    let can : can_follow (key_in before.records) before.records entry ≡ true = ap (λ w. can_follow (key_in w.records) w.records entry) is ∙ follows in
+    let can : can_follow (the_key before.records) before.records entry ≡ true = ap (λ w. can_follow (the_key w.records) w.records entry) is ∙ follows in
     let tied = signer.tied was in (
       record {
         legal = subst IsLegal (sym grows.records) (legal_grows before.records entry signer.legal can);
@@ -246,12 +246,12 @@ signer_grown g old new random before after is_open entry v is signer keyed opene
         };
         shut = λ closed. absurd (true≢false (sym was ∙ closed));
       },
-      ap key_in grows.records ∙ key_stays before.records (entry ∷ []) (some_records before.records before.key keyed) ∙ keyed ∙ ap Some (sym grows.key),
+      ap the_key grows.records ∙ key_stays before.records (entry ∷ []) (some_records before.records before.key keyed) ∙ keyed ∙ ap Some (sym grows.key),
     )
 
 -- ---- a bottom tree
 
-pub levels_range : (records : List Record) (key : Key) (n : ℕ) → AllHaveSizes records → key_in records ≡ Some key → n ≡ levels_of key.secret → (1 ≤ n) × (n ≤ 8)
+pub levels_range : (records : List Record) (key : Key) (n : ℕ) → AllHaveSizes records → the_key records ≡ Some key → n ≡ levels_of key.secret → (1 ≤ n) × (n ≤ 8)
 levels_range records key n sizes keyed is = by_secret key.secret (key_has_sizes records key sizes keyed) is
   where
     by_secret : (secret : Secret) → SecretHasSizes secret → n ≡ levels_of secret → (1 ≤ n) × (n ≤ 8)
@@ -262,13 +262,13 @@ levels_range records key n sizes keyed is = by_secret key.secret (key_has_sizes 
 -- ---- what an append requires
 
 -- records that aren't empty can be followed by a record that their file can hold
-follows_some : (records : List Record) (entry : Record) → 0 < length records → FitsVersion (version_in records) entry → CanFollow records entry
+follows_some : (records : List Record) (entry : Record) → 0 < length records → FitsVersion (file_version records) entry → CanFollow records entry
 follows_some [] entry some fits = absurd (omega (arith, some))
 follows_some (first ∷ rest) entry some fits = fits
 
 -- and so can an honest store's list
-pub follows_tied : {S : Type 0} (g : store.Ghosts S) (kept_in : S) (records : List Record) (entry : Record) (key : Key) → key_in records ≡ Some key
-    → IsTied g kept_in records → FitsVersion (version_in records) entry → IsTrue (g.honest kept_in) → CanFollow (g.list kept_in) entry
+pub follows_tied : {S : Type 0} (g : store.Ghosts S) (kept_in : S) (records : List Record) (entry : Record) (key : Key) → the_key records ≡ Some key
+    → IsTied g kept_in records → FitsVersion (file_version records) entry → IsTrue (g.honest kept_in) → CanFollow (g.list kept_in) entry
 follows_tied g kept_in records entry key keyed tied fits honest =
     subst (λ list. CanFollow list entry) (sym (tied.same honest)) (follows_some records entry (some_records records key keyed) fits)
 
@@ -276,7 +276,7 @@ pub follows_none : (list : List Record) (key : Key) → length list ≡ 0 → Ca
 follows_none [] key none = refl
 follows_none (first ∷ rest) key none = absurd (omega (arith, none))
 
-pub version_of_key : (records : List Record) (key : Key) → key_in records ≡ Some key → version_in records ≡ key.version
+pub version_of_key : (records : List Record) (key : Key) → the_key records ≡ Some key → file_version records ≡ key.version
 version_of_key [] key is = absurd (cc)
 version_of_key (KeyRecord own ∷ rest) key is = ap (λ (k : Key). k.version) (same_Some own key is)
 version_of_key (ExtendRecord extend ∷ rest) key is = absurd (cc)
@@ -285,8 +285,8 @@ version_of_key (Retire upto ∷ rest) key is = absurd (cc)
 version_of_key (Moved ∷ rest) key is = absurd (cc)
 
 -- a name that isn't too long fits the records' version
-pub name_fits : (records : List Record) (key : Key) (bound : Bound) → key_in records ≡ Some key → is_long key bound.name ≡ false
-    → FitsVersion (version_in records) (BoundRecord bound)
+pub name_fits : (records : List Record) (key : Key) (bound : Bound) → the_key records ≡ Some key → is_long key bound.name ≡ false
+    → FitsVersion (file_version records) (BoundRecord bound)
 name_fits records key bound keyed short =
     subst (λ v. length bound.name ≤ name_most v) (sym (version_of_key records key keyed)) (ltb-false (name_most key.version) (length bound.name) short)
 

@@ -21,19 +21,19 @@ use Rattle.sign_core.specs.AfterRefusal.{AfterRefusalLaw, AreDrawnFor, BeginsDra
 use Rattle.sign_core.specs.AfterRefusal.{Leaves, LeavesRequested, LeavesTrees, WantsRecords}
 use Rattle.sign_core.specs.Events.{AreFields, key_sizes}
 use Rattle.sign_core.specs.Requests.{BeginsTree, BindsName}
-use Rattle.sign_core.specs.Records.{binding_in, first_illegal, has_identifier, has_moved, key_in}
+use Rattle.sign_core.specs.Records.{binding_at, first_illegal, has_identifier, has_moved, the_key}
 use Rattle.sign_core.specs.Records.{leaves_of_current, next_at}
-use Rattle.sign_core.specs.Textbook.{Trees, public_in, signature_at, trees_of}
+use Rattle.sign_core.specs.Textbook.{Trees, any_public_of, signature_at, trees_of}
 use Rattle.sign_core.specs.World.{Chance, Creation, Draw, Fate, Opening, Outcome, State, acked, answered, appended}
 use Rattle.sign_core.specs.World.{cut_new, cut_old, drawing}
-use Rattle.sign_core.specs.inner.Cases.{begun, bound_with, created_after, extended, extended_by}
-use Rattle.sign_core.specs.World.{first_draw, new_key, no_memory, open_on}
-use Rattle.sign_core.specs.inner.Cases.{extended_with, bound_below}
-use Rattle.sign_core.specs.inner.Cases.{opened_by, opened_on}
-use Rattle.sign_core.specs.World.{randomizer_from, reading, refused, requested, secret_from}
-use Rattle.sign_core.specs.inner.Cases.{published, retired_under}
+use Rattle.sign_core.specs.inner.Cases.{begun, bound_message, created_load, extended, extended_identifier}
+use Rattle.sign_core.specs.World.{first_draw, new_key, no_memory, open_state}
+use Rattle.sign_core.specs.inner.Cases.{extended_seed, bound_trees}
+use Rattle.sign_core.specs.inner.Cases.{opened_illegal, opened_key}
+use Rattle.sign_core.specs.World.{randomizer_of_fields, reading, refused, requested, secret_of_fields}
+use Rattle.sign_core.specs.inner.Cases.{published, retired_key}
 use Rattle.sign_core.proofs.Bindings.{binding_other, binds}
-use Rattle.sign_core.proofs.DrawnAgain.{IsSettled, settled_repeated, settled_under}
+use Rattle.sign_core.proofs.DrawnAgain.{IsSettled, settled_repeated, settled_key}
 use Rattle.sign_core.proofs.Fresh.{begins_along, extend_in}
 use Rattle.sign_core.proofs.BoundBelow.{next_extend}
 use Rattle.sign_core.proofs.Leaves.{deepest_is}
@@ -86,7 +86,7 @@ module _ (key : Key) (name : List ℕ) where
         few = omega arith;
         each = λ i entry at. absurd (none-some entry at);
         leaves = subst (λ all. Leaves all (IsNextWanted key records level name chance []) outcome) (sym nil) leaves;
-        unbound = λ other. ap (λ all. binding_in all other) nil;
+        unbound = λ other. ap (λ all. binding_at all other) nil;
       }
 
   kept : (level : ℕ) (chance : Chance) (state : State) (fault : SignFault)
@@ -97,7 +97,7 @@ module _ (key : Key) (name : List ℕ) where
   cut_off : (level : ℕ) (records : List Record) (chance : Chance) (entry : Record) (fate : Fate)
       (next : List Record → Outcome (List ℕ)) → IsNextWanted key records level name chance [] entry
       → Quiet level records chance (next (records ++ entry ∷ []))
-      → Quiet level records chance (appended (open_on records) entry fate next)
+      → Quiet level records chance (appended (open_state records) entry fate next)
   cut_off level records chance entry acked next wanted later = later
   cut_off level records chance entry cut_old next wanted later = λ refusal. none level records chance _ (record {
     acknowledged = refl;
@@ -118,7 +118,7 @@ module _ (key : Key) (name : List ℕ) where
     );
   })
   cut_off level records chance entry no_memory next wanted later =
-      λ refusal. kept level chance (open_on records) OutOfMemory
+      λ refusal. kept level chance (open_state records) OutOfMemory
 
   reads : (level : ℕ) (records : List Record) (chance : Chance) (outcome : Outcome (List ℕ))
       → LeavesTrees key records level name chance outcome → LeavesTrees key records level name chance (reading outcome)
@@ -212,7 +212,7 @@ module _ (key : Key) (name : List ℕ) where
               (IsNextWanted key records level name (chance_with chance (draw ∷ draws)) (entry ∷ left.trees))
               (records ++ entry ∷ [] ++ left.trees) (records ++ (entry ∷ left.trees)) outcome same
               (wanted_more chance left.trees draws) left.leaves;
-          unbound = λ other. sym (ap (λ all. binding_in all other) same) ∙ left.unbound other
+          unbound = λ other. sym (ap (λ all. binding_at all other) same) ∙ left.unbound other
               ∙ binding_other records entry other (ap (binds other) first.is);
         }
 
@@ -235,14 +235,14 @@ module _ (key : Key) (name : List ℕ) where
   )
 
   quiet_bound : (level : ℕ) (records : List Record) (chance : Chance) (randomizer given : Option (List ℕ)) (fate : Fate)
-      → level ≡ bottom_of key.secret → randomizer_from key.secret chance.bound.fields ≡ randomizer
-      → chance.given ≡ given → Quiet level records chance (bound_with (open_on records) key name randomizer given fate)
-  quiet_bound level records chance None given fate here drawn is = λ refusal. kept level chance (open_on records) _
+      → level ≡ bottom_of key.secret → randomizer_of_fields key.secret chance.bound.fields ≡ randomizer
+      → chance.given ≡ given → Quiet level records chance (bound_message (open_state records) key name randomizer given fate)
+  quiet_bound level records chance None given fate here drawn is = λ refusal. kept level chance (open_state records) _
   quiet_bound level records chance (Some randomizer) None fate here drawn is =
-      λ refusal. reads level records chance _ (kept level chance (open_on records) _)
+      λ refusal. reads level records chance _ (kept level chance (open_state records) _)
   quiet_bound level records chance (Some randomizer) (Some message) fate here drawn is = λ refusal.
       let bound = new_bound key records name (next_at key.secret records (bottom_of key.secret)) randomizer message in
-      let next = λ (all : List Record). answered (open_on all) (signature_at key all (length records) bound) in
+      let next = λ (all : List Record). answered (open_state all) (signature_at key all (length records) bound) in
       let own : BindsName key records name message chance.bound.fields bound =
       record { named = refl; leaf = refl; randomizer = drawn; digest = refl } in
       reads level records chance _ (cut_off level records chance (BoundRecord bound) fate next
@@ -254,15 +254,15 @@ module _ (key : Key) (name : List ℕ) where
     abbrev QuietFrom : Outcome (List ℕ) → Type 0
     QuietFrom outcome = Quiet level records (chance_with chance (draw ∷ draws)) outcome
 
-    quiet_with : (identifier : List ℕ) (fields : List (List ℕ)) → draw.fields ≡ identifier ∷ fields
+    quiet_seed : (identifier : List ℕ) (fields : List (List ℕ)) → draw.fields ≡ identifier ∷ fields
         → has_identifier records identifier ≡ false
-        → QuietFrom (extended_with (open_on records) trees (bottom_of key.secret - below)
+        → QuietFrom (extended_seed (open_state records) trees (bottom_of key.secret - below)
         (next_at key.secret records (bottom_of key.secret - below - 1)) identifier fields draw.fate next)
-    quiet_with identifier [] are new =
-        λ refusal. draws_more level records _ (concat []) _ (kept level _ (open_on records) _)
-    quiet_with identifier (seed ∷ []) are new =
-        λ refusal. draws_more level records _ (concat (seed ∷ [])) _ (kept level _ (open_on records) _)
-    quiet_with identifier (seed ∷ randomizer ∷ []) are new = λ refusal.
+    quiet_seed identifier [] are new =
+        λ refusal. draws_more level records _ (concat []) _ (kept level _ (open_state records) _)
+    quiet_seed identifier (seed ∷ []) are new =
+        λ refusal. draws_more level records _ (concat (seed ∷ [])) _ (kept level _ (open_state records) _)
+    quiet_seed identifier (seed ∷ randomizer ∷ []) are new = λ refusal.
         let this = bottom_of key.secret - below in
         let entry = next_extend key trees records this identifier seed randomizer in
         let first : BeginsTree key records this draw.fields entry =
@@ -273,50 +273,50 @@ module _ (key : Key) (name : List ℕ) where
         (wants_tree level below records draw entry here first chance draws)
         (λ again. one_more level below records draw entry here first chance draws (next (records ++ entry ∷ []))
         (later (records ++ entry ∷ []) again)) refusal)
-    quiet_with identifier (seed ∷ randomizer ∷ more ∷ rest) are new =
+    quiet_seed identifier (seed ∷ randomizer ∷ more ∷ rest) are new =
         λ refusal. draws_more level records _ (concat (seed ∷ randomizer ∷ more ∷ rest)) _
-        (kept level _ (open_on records) _)
+        (kept level _ (open_state records) _)
 
-    quiet_by : (fields : List (List ℕ)) → draw.fields ≡ fields
-        → QuietFrom (extended_by (open_on records) trees (bottom_of key.secret - below)
+    quiet_identifier : (fields : List (List ℕ)) → draw.fields ≡ fields
+        → QuietFrom (extended_identifier (open_state records) trees (bottom_of key.secret - below)
         (next_at key.secret records (bottom_of key.secret - below - 1)) fields draw.fate next)
-    quiet_by [] are = λ refusal. kept level _ (open_on records) _
-    quiet_by (identifier ∷ fields) are = λ refusal.
+    quiet_identifier [] are = λ refusal. kept level _ (open_state records) _
+    quiet_identifier (identifier ∷ fields) are = λ refusal.
         draws_more level records (chance_with chance (draw ∷ draws)) identifier _
-        (kept_choice QuietFrom (has_identifier records identifier) (refused (open_on records) RandomRepeated)
-        (extended_with (open_on records) trees (bottom_of key.secret - below)
+        (kept_choice QuietFrom (has_identifier records identifier) (refused (open_state records) RandomRepeated)
+        (extended_seed (open_state records) trees (bottom_of key.secret - below)
         (next_at key.secret records (bottom_of key.secret - below - 1)) identifier fields draw.fate next)
-        (λ there again. kept level _ (open_on records) _) (λ new. quiet_with identifier fields are new) refusal)
+        (λ there again. kept level _ (open_state records) _) (λ new. quiet_seed identifier fields are new) refusal)
 
   quiet_extended : (level below : ℕ) (records : List Record) (chance : Chance) (found : Option Trees) (draw : Draw)
       (draws : List Draw) (next : List Record → Outcome (List ℕ)) → level + suc below ≡ bottom_of key.secret
       → ((all : List Record) → Quiet (level + 1) all (chance_with chance draws) (next all))
       → Quiet level records (chance_with chance (draw ∷ draws))
-      (extended (open_on records) key (bottom_of key.secret - below) found draw next)
+      (extended (open_state records) key (bottom_of key.secret - below) found draw next)
   quiet_extended level below records chance None draw draws next here later =
-      λ refusal. kept level _ (open_on records) _
+      λ refusal. kept level _ (open_state records) _
   quiet_extended level below records chance (Some trees) draw draws next here later =
-      quiet_by level below records chance trees draw draws next here later draw.fields refl
+      quiet_identifier level below records chance trees draw draws next here later draw.fields refl
 
   -- nothing was drawn for the next tree
   quiet_undrawn : (level this : ℕ) (records : List Record) (chance : Chance) (found : Option Trees)
       (next : List Record → Outcome (List ℕ))
-      → Quiet level records chance (extended (open_on records) key this found (first_draw []) next)
-  quiet_undrawn level this records chance None next = λ refusal. kept level chance (open_on records) _
-  quiet_undrawn level this records chance (Some trees) next = λ refusal. kept level chance (open_on records) _
+      → Quiet level records chance (extended (open_state records) key this found (first_draw []) next)
+  quiet_undrawn level this records chance None next = λ refusal. kept level chance (open_state records) _
+  quiet_undrawn level this records chance (Some trees) next = λ refusal. kept level chance (open_state records) _
 
   quiet_bound_below : (chance : Chance) (below level : ℕ) (draws : List Draw) (records : List Record)
       → level + below ≡ bottom_of key.secret
-      → Quiet level records (chance_with chance draws) (bound_below key name chance below draws records)
+      → Quiet level records (chance_with chance draws) (bound_trees key name chance below draws records)
   quiet_bound_below chance zero level draws records here = λ refusal.
       draws_more level records (chance_with chance draws) (concat chance.bound.fields) _
-      (quiet_bound level records (chance_with chance draws) (randomizer_from key.secret chance.bound.fields)
+      (quiet_bound level records (chance_with chance draws) (randomizer_of_fields key.secret chance.bound.fields)
       chance.given chance.bound.fate (omega (arith, here)) refl refl refusal)
   quiet_bound_below chance (suc below) level [] records here =
       quiet_undrawn level (bottom_of key.secret - below) records (chance_with chance []) (trees_of key.secret)
-      (bound_below key name chance below [])
+      (bound_trees key name chance below [])
   quiet_bound_below chance (suc below) level (draw ∷ draws) records here =
-      quiet_extended level below records chance (trees_of key.secret) draw draws (bound_below key name chance below draws)
+      quiet_extended level below records chance (trees_of key.secret) draw draws (bound_trees key name chance below draws)
       here (λ all. quiet_bound_below chance below (level + 1) draws all (omega (arith, here)))
 
 -- ---- any request
@@ -351,7 +351,7 @@ has_left limit state name chance =
       gives = λ signature refusal. absurd (cc (refusal.1));
       read = λ outcome again refusal. read_too state name chance outcome (again refusal);
     } in
-    settled_under quiet limit state name chance settled.refused_for (key_in state.records) refl
+    settled_key quiet limit state name chance settled.refused_for (the_key state.records) refl
     (λ key k bound. settled_repeated quiet state chance settled key k bound chance.given)
     (λ key level wants refusal.
     let inside = (deepest_is key.secret state.records level wants.level_is).0 in
@@ -408,7 +408,7 @@ append_quiet {IsWanted = IsWanted} state entry cut_new next wanted never = λ re
 append_quiet state entry no_memory next wanted never = plain state OutOfMemory
 
 retires : (limit : ℕ) (state : State) (upto : ℕ) (fate : Fate) (found : Option Key)
-    → QuietIn state.records (λ entry. entry ≡ Retire upto) (retired_under limit state upto fate found)
+    → QuietIn state.records (λ entry. entry ≡ Retire upto) (retired_key limit state upto fate found)
 retires limit state upto fate None = plain state Stopped
 retires limit state upto fate (Some key) =
     choice state.records (not state.is_open) _ _ (plain state Stopped)
@@ -424,7 +424,7 @@ module _ (state : State) (spec : Spec) (chance : Creation) (can : IsSpec spec) (
 
   abbrev IsKeyOf : Record → Type 0
   IsKeyOf entry =
-      (secret : Secret) × (secret_from spec chance.fields ≡ Some secret) × (entry ≡ KeyRecord (new_key chance.version secret))
+      (secret : Secret) × (secret_of_fields spec chance.fields ≡ Some secret) × (entry ≡ KeyRecord (new_key chance.version secret))
 
   published_never : (records : List Record) (found : Option AnyPublic) (public : AnyPublic) → found ≡ Some public → IsRefusal (published records found) → ⊥
   published_never records (Some other) public is refusal = cc (refusal.1)
@@ -443,16 +443,16 @@ module _ (state : State) (spec : Spec) (chance : Creation) (can : IsSpec spec) (
             (answer, (secret, made, drawn, same), left);
       }
 
-  begins : (found : Option Secret) → secret_from spec chance.fields ≡ found
+  begins : (found : Option Secret) → secret_of_fields spec chance.fields ≡ found
       → QuietIn state.records IsKeyOf (begun state chance found)
   begins None is = plain state _
   begins (Some secret) is =
       let key = new_key chance.version secret in
       let (public, has) = public_made secret key.root (secret_sizes spec chance.fields secret can are is) in
-      let next = λ (all : List Record). published all (public_in key) in
+      let next = λ (all : List Record). published all (any_public_of key) in
       choice state.records (not chance.has_room) _ _ (plain state OutOfMemory)
       (append_quiet state (KeyRecord key) chance.fate next (secret, is, refl)
-      (published_never (state.records ++ KeyRecord key ∷ []) (public_in key) public has))
+      (published_never (state.records ++ KeyRecord key ∷ []) (any_public_of key) public has))
 
   draws_nothing : (found : Option Secret) → (begun state chance found).drawn ≡ []
   draws_nothing None = refl
@@ -463,15 +463,15 @@ module _ (state : State) (spec : Spec) (chance : Creation) (can : IsSpec spec) (
       published_draws records None = refl
 
       by_fate : (key : Key) (fate : Fate)
-          → (appended state (KeyRecord key) fate (λ records. published records (public_in key))).drawn ≡ []
-      by_fate key acked = published_draws (state.records ++ KeyRecord key ∷ []) (public_in key)
+          → (appended state (KeyRecord key) fate (λ records. published records (any_public_of key))).drawn ≡ []
+      by_fate key acked = published_draws (state.records ++ KeyRecord key ∷ []) (any_public_of key)
       by_fate key cut_old = refl
       by_fate key cut_new = refl
       by_fate key no_memory = refl
 
       by_room : (has_room : Bool) → (if not has_room then refused state OutOfMemory
           else appended state (KeyRecord (new_key chance.version secret)) chance.fate
-          (λ records. published records (public_in (new_key chance.version secret)))).drawn ≡ []
+          (λ records. published records (any_public_of (new_key chance.version secret)))).drawn ≡ []
       by_room true = by_fate (new_key chance.version secret) chance.fate
       by_room false = refl
 
@@ -479,22 +479,22 @@ module _ (state : State) (spec : Spec) (chance : Creation) (can : IsSpec spec) (
   quiet_choice true x y first second = first
   quiet_choice false x y first second = second
 
-  creates : (failed : Option SignFault) → QuietHere (created_after failed state spec chance)
+  creates : (failed : Option SignFault) → QuietHere (created_load failed state spec chance)
   creates (Some fault) = plain state fault
   creates None = quiet_choice (nat_le 1 (length state.records)) _ _ (plain state _)
-      (draws_key (begun state chance (secret_from spec chance.fields)) (draws_nothing (secret_from spec chance.fields))
-      (begins (secret_from spec chance.fields) refl))
+      (draws_key (begun state chance (secret_of_fields spec chance.fields)) (draws_nothing (secret_of_fields spec chance.fields))
+      (begins (secret_of_fields spec chance.fields) refl))
 
 publishes : (records : List Record) (found : Option AnyPublic) → QuietIn records (λ entry. ⊥) (published records found)
 publishes records (Some public) = λ refusal. absurd (cc (refusal.1))
 publishes records None = λ refusal. whole records _ refl refl refl
 
-opens_on : (records : List Record) (found : Option Key) → QuietIn records (λ entry. ⊥) (opened_on records found)
+opens_on : (records : List Record) (found : Option Key) → QuietIn records (λ entry. ⊥) (opened_key records found)
 opens_on records None = λ refusal. whole records _ refl refl refl
-opens_on records (Some key) = publishes records (public_in key)
+opens_on records (Some key) = publishes records (any_public_of key)
 
-opens : (state : State) (chance : Opening) (illegal : Option ℕ) → QuietIn state.records (λ entry. ⊥) (opened_by state chance illegal)
-opens state None None = opens_on state.records (key_in state.records)
+opens : (state : State) (chance : Opening) (illegal : Option ℕ) → QuietIn state.records (λ entry. ⊥) (opened_illegal state chance illegal)
+opens state None None = opens_on state.records (the_key state.records)
 opens state None (Some k) = plain state _
 opens state (Some (slot, fault)) None = plain state _
 opens state (Some (slot, fault)) (Some k) = plain state _
@@ -503,7 +503,7 @@ pub after_refusal_law : AfterRefusalLaw
 after_refusal_law = record {
   request = λ limit state name chance refusal.
       as_requested state name chance (requested limit state name chance) (has_left limit state name chance refusal);
-  retire = λ limit state upto fate refusal. retires limit state upto fate (key_in state.records) refusal;
+  retire = λ limit state upto fate refusal. retires limit state upto fate (the_key state.records) refusal;
   create = λ state spec chance can are refusal. creates state spec chance can are chance.failed_load refusal;
   opening = λ state chance refusal. opens state chance (first_illegal state.records) refusal;
 }

@@ -9,7 +9,7 @@ use Rattle.sign_core.specs.Cuts.{IsBeginning}
 use Rattle.sign_core.specs.inner.Signer.{Adds, added}
 use Rattle.sign_core.specs.Signer.{Ends, GrowsAlike, UnlessAppended, View, is_before_draws, is_fault, is_of_append, is_random_failed}
 use Rattle.sign_core.specs.Signer.{is_store_failed, state_of}
-use Rattle.sign_core.specs.Signing.{answered_with}
+use Rattle.sign_core.specs.Signing.{answered_value}
 use Rattle.sign_core.specs.World.{Fate, Outcome, State, acked, cut_new, cut_old, no_memory}
 use Rattle.sign_core.proofs.Adding.{length_one_more}
 
@@ -38,9 +38,9 @@ comes_after_draws {S = S} {R = R} g old new entry answer adds = by_fate adds.fat
     by_fate cut_new ends = ap (is_fault is_before_draws) (sym ends.answer_is)
     by_fate no_memory ends = ap (is_fault is_before_draws) (sym ends.answer_is)
 
--- `answered_with` keeps the kind of a fault.
+-- `answered_value` keeps the kind of a fault.
 pub same_fault : {B : Type 0} (is_kind : SignFault → Bool) (answer : Result (Unit {0}) SignFault) (value : B)
-    → is_fault is_kind (answered_with answer value) ≡ is_fault is_kind answer
+    → is_fault is_kind (answered_value answer value) ≡ is_fault is_kind answer
 same_fault is_kind (Ok done) value = refl
 same_fault is_kind (Err fault) value = refl
 
@@ -65,9 +65,9 @@ no_draw_fails {S = S} {R = R} g old new entry answer adds before after same = by
     by_fate cut_new ends = subst (Counts is_random_failed before after) ends.answer_is same
     by_fate no_memory ends = subst (Counts is_random_failed before after) ends.answer_is same
 
--- `answered_with` keeps counts.
+-- `answered_value` keeps counts.
 pub counts_answered : {B : Type 0} (is_counted : SignFault → Bool) (before after : ℕ) (answer : Result (Unit {0}) SignFault) (value : B)
-    → Counts is_counted before after answer → Counts is_counted before after (answered_with answer value)
+    → Counts is_counted before after answer → Counts is_counted before after (answered_value answer value)
 counts_answered is_counted before after (Ok done) value counts = counts
 counts_answered is_counted before after (Err fault) value counts = counts
 

@@ -23,10 +23,10 @@ use Rattle.sign_core.specs.declared.fault.SignFault.{SignFault}
 use Rattle.sign_core.specs.declared.fault.SignFault.TheVariants.{Damaged, MessageRead, RandomFailed}
 use Rattle.sign_core.specs.declared.source.Source as source
 use Rattle.sign_core.specs.Events.{AreFields, randomizer_sizes}
-use Rattle.sign_core.specs.Signing.{answered_with}
+use Rattle.sign_core.specs.Signing.{answered_value}
 use Rattle.sign_core.specs.inner.Source.{DrawsBytes}
 use Rattle.sign_core.specs.Source.{Provides}
-use Rattle.sign_core.specs.Records.{binding_in, can_follow, current, has_moved, has_randomizer, is_free, key_in, next_at, next_in}
+use Rattle.sign_core.specs.Records.{binding_at, can_follow, current, has_moved, has_randomizer, is_free, the_key, next_at, next_leaf}
 use Rattle.sign_core.proofs.Found.{new_bound, next_of}
 use Rattle.sign_core.specs.Caches.{Cached}
 use Rattle.sign_core.specs.inner.Signer.{Adds, added}
@@ -35,9 +35,9 @@ use Rattle.sign_core.specs.inner.Signing.{Does, DrawsRandomizer, BindsBelow, IsB
 use Rattle.sign_core.specs.declared.ledger.Binding.{Binding}
 use Rattle.sign_core.specs.Ledger.{Table, binding_kept, kept_of}
 use Rattle.sign_core.specs.World.{Fate, Outcome, acked, answered, appended, cut_new, cut_old, drawing, no_memory}
-use Rattle.sign_core.specs.inner.Cases.{bound_with}
-use Rattle.sign_core.specs.World.{open_on, randomizer_from, reading}
-use Rattle.sign_core.specs.Textbook.{Trees, damaged_in, digest_at, signature_at, tree_before, trees_of}
+use Rattle.sign_core.specs.inner.Cases.{bound_message}
+use Rattle.sign_core.specs.World.{open_state, randomizer_of_fields, reading}
+use Rattle.sign_core.specs.Textbook.{Trees, damaged_at, digest_at, signature_at, current_at, trees_of}
 use Rattle.sign_core.proofs.Adding.{LeavesItsList}
 use Rattle.sign_core.proofs.Draws.{draw_fails}
 use Rattle.sign_core.proofs.Appended.{added_records, counts_answered, ends_alike, comes_after_draws, is_tried, no_draw_fails, same_fault}
@@ -99,7 +99,7 @@ module _ {S R M : Type 0} (g : store.Ghosts S) (r : source.Ghosts R) (m : messag
   -- an append's outcome, after the draws and the reading
   abbrev append_so : (entry : Record) (sign : List Record → List ℕ) (drawn : List ℕ) → Fate → Outcome (List ℕ)
   append_so entry sign drawn fate =
-      drawing drawn (reading (appended (open_on ledger.records) entry fate (λ records. answered (open_on records) (sign records))))
+      drawing drawn (reading (appended (open_state ledger.records) entry fate (λ records. answered (open_state records) (sign records))))
 
   -- the records that it adds, by its fate
   more_by : Record → Fate → List Record
@@ -108,13 +108,13 @@ module _ {S R M : Type 0} (g : store.Ghosts S) (r : source.Ghosts R) (m : messag
   more_by entry cut_new = []
   more_by entry no_memory = []
 
-  grown_by : (entry : Record) (sign : List Record → List ℕ) (drawn : List ℕ) (fate : Fate)
+  grown_identifier : (entry : Record) (sign : List Record → List ℕ) (drawn : List ℕ) (fate : Fate)
       → (append_so entry sign drawn fate).acknowledged ≡ ledger.records ++ more_by entry fate
   unfolding more_by
-  grown_by entry sign drawn acked = refl
-  grown_by entry sign drawn cut_old = sym (append-nil _)
-  grown_by entry sign drawn cut_new = sym (append-nil _)
-  grown_by entry sign drawn no_memory = sym (append-nil _)
+  grown_identifier entry sign drawn acked = refl
+  grown_identifier entry sign drawn cut_old = sym (append-nil _)
+  grown_identifier entry sign drawn cut_new = sym (append-nil _)
+  grown_identifier entry sign drawn no_memory = sym (append-nil _)
 
   drawn_by : (entry : Record) (sign : List Record → List ℕ) (drawn : List ℕ) (fate : Fate) → (append_so entry sign drawn fate).drawn ≡ drawn ++ []
   drawn_by entry sign drawn acked = refl
@@ -122,24 +122,24 @@ module _ {S R M : Type 0} (g : store.Ghosts S) (r : source.Ghosts R) (m : messag
   drawn_by entry sign drawn cut_new = refl
   drawn_by entry sign drawn no_memory = refl
 
-  read_by : (entry : Record) (sign : List Record → List ℕ) (drawn : List ℕ) (fate : Fate) → (append_so entry sign drawn fate).is_read ≡ true
-  read_by entry sign drawn acked = refl
-  read_by entry sign drawn cut_old = refl
-  read_by entry sign drawn cut_new = refl
-  read_by entry sign drawn no_memory = refl
+  read_identifier : (entry : Record) (sign : List Record → List ℕ) (drawn : List ℕ) (fate : Fate) → (append_so entry sign drawn fate).is_read ≡ true
+  read_identifier entry sign drawn acked = refl
+  read_identifier entry sign drawn cut_old = refl
+  read_identifier entry sign drawn cut_new = refl
+  read_identifier entry sign drawn no_memory = refl
 
   -- an append's end, after the draws and the reading
   ends_added : {caches : Cached} (new : View S R) (entry : Record) (sign : List Record → List ℕ) (drawn : List ℕ) (a : Result (Unit {0}) SignFault) (fate : Fate) → is_open ≡ true
       → Ends g (view_of kept_in mid ledger caches is_open) new (added (state_of (view_of kept_in mid ledger caches is_open)) entry fate) a
-      → Ends g (view_of kept_in random ledger caches is_open) new (append_so entry sign drawn fate) (answered_with a (sign (ledger.records ++ entry ∷ [])))
+      → Ends g (view_of kept_in random ledger caches is_open) new (append_so entry sign drawn fate) (answered_value a (sign (ledger.records ++ entry ∷ [])))
   ends_added {caches = caches} new entry sign drawn a fate opened ends = by_fate fate ends
     where
       answers : {x : Result (Unit {0}) SignFault} → x ≡ a
-          → answered_with x (sign (ledger.records ++ entry ∷ [])) ≡ answered_with a (sign (ledger.records ++ entry ∷ []))
-      answers is = ap (λ x. answered_with x (sign (ledger.records ++ entry ∷ []))) is
+          → answered_value x (sign (ledger.records ++ entry ∷ [])) ≡ answered_value a (sign (ledger.records ++ entry ∷ []))
+      answers is = ap (λ x. answered_value x (sign (ledger.records ++ entry ∷ []))) is
 
       by_fate : (fate : Fate) → Ends g (view_of kept_in mid ledger caches is_open) new (added (state_of (view_of kept_in mid ledger caches is_open)) entry fate) a
-          → Ends g (view_of kept_in random ledger caches is_open) new (append_so entry sign drawn fate) (answered_with a (sign (ledger.records ++ entry ∷ [])))
+          → Ends g (view_of kept_in random ledger caches is_open) new (append_so entry sign drawn fate) (answered_value a (sign (ledger.records ++ entry ∷ [])))
       by_fate acked ends =
           ends_alike g (view_of kept_in random ledger caches is_open) new mid _ _ a _ refl refl refl (answers ends.answer_is) (λ _ _ c. c) ends
       by_fate cut_old ends =
@@ -155,25 +155,25 @@ module _ {S R M : Type 0} (g : store.Ghosts S) (r : source.Ghosts R) (m : messag
       → (adds : Adds g (view_of kept_in mid ledger caches is_open) new entry a) → Provides (r.upcoming random) (drawn ++ []) (r.upcoming mid)
       → r.failures mid ≡ r.failures random → ReadWhole m.transition m.remaining text before after
       → Does g r m (view_of kept_in random ledger caches is_open) new before after (Some text) (append_so entry sign drawn adds.fate)
-      (answered_with a (sign (ledger.records ++ entry ∷ [])))
+      (answered_value a (sign (ledger.records ++ entry ∷ [])))
   does_added {caches = caches} new entry sign drawn text a opened adds gives counted whole = record {
     ends = ends_added new entry sign drawn a adds.fate opened adds.ends;
     more = more_by entry adds.fate;
-    grown = grown_by entry sign drawn adds.fate;
+    grown = grown_identifier entry sign drawn adds.fate;
     source = subst (λ (x : R). Provides (r.upcoming random) (append_so entry sign drawn adds.fate).drawn (r.upcoming x)) (sym adds.random)
         (subst (λ bytes. Provides (r.upcoming random) bytes (r.upcoming mid)) (sym (drawn_by entry sign drawn adds.fate)) gives);
     failures = counts_answered is_random_failed _ _ a _
         (no_draw_fails g (view_of kept_in mid ledger caches is_open) new entry a adds _ _ (ap r.failures adds.random ∙ counted));
-    message = subst (λ is_read. IsRead m is_read (Some text) before after) (sym (read_by entry sign drawn adds.fate)) whole;
+    message = subst (λ is_read. IsRead m is_read (Some text) before after) (sym (read_identifier entry sign drawn adds.fate)) whole;
     refusals = inl (counts_answered is_out_of_memory _ _ a _ adds.refusals);
     memory = adds.memory;
     stays = λ same none. is_tried g (view_of kept_in mid ledger caches is_open) new entry a adds (new.store ≡ kept_in) same (sym (same_fault is_of_append a _) ∙ none);
   }
 
 pub key_of_added : {S R : Type 0} (g : store.Ghosts S) (old new : View S R) (entry : Record) (a : Result (Unit {0}) SignFault) (x : Unit {0}) (key own : Key)
-    → Adds g old new entry a → a ≡ Ok x → key_in old.records ≡ Some key → key_in new.records ≡ Some own → own ≡ key
+    → Adds g old new entry a → a ≡ Ok x → the_key old.records ≡ Some key → the_key new.records ≡ Some own → own ≡ key
 key_of_added g old new entry a x key own adds is keyed after =
-    same_Some own key (sym after ∙ ap key_in (added_records g old new entry a x adds is) ∙ key_stays old.records (entry ∷ []) key keyed)
+    same_Some own key (sym after ∙ ap the_key (added_records g old new entry a x adds is) ∙ key_stays old.records (entry ∷ []) key keyed)
 
 -- ---- draws
 
@@ -202,7 +202,7 @@ one_field upcoming left randomizer gives =
     subst (λ bytes. Provides upcoming bytes left) (sym (append-nil (randomizer ++ []) ∙ append-nil randomizer)) gives
 
 drawn_randomizer : (secret : Secret) (trees : Trees) (randomizer : List ℕ) → trees_of secret ≡ Some trees
-    → (randomizer_from secret (randomizer ∷ []) ≡ Some randomizer) × (randomizer_from secret [] ≡ None) × (has_randomizer secret randomizer ≡ true)
+    → (randomizer_of_fields secret (randomizer ∷ []) ≡ Some randomizer) × (randomizer_of_fields secret [] ≡ None) × (has_randomizer secret randomizer ≡ true)
 drawn_randomizer (Lms secret) trees randomizer these = (refl, refl, refl)
 drawn_randomizer (Hss levels identifier seed) trees randomizer these = (refl, refl, refl)
 drawn_randomizer (Xmss secret) trees randomizer these = absurd (cc)
@@ -210,7 +210,7 @@ drawn_randomizer (Xmss secret) trees randomizer these = absurd (cc)
 -- ---- a chain that stands
 
 -- the current tree before the end is the current one
-pub tree_at_end : (records : List Record) (level tree : ℕ) → current level records ≡ Some tree → tree_before level records (length records) ≡ tree
+pub tree_at_end : (records : List Record) (level tree : ℕ) → current level records ≡ Some tree → current_at level records (length records) ≡ tree
 tree_at_end records level tree is = ap (λ l. unwrap_or (current level l) 0) (take-length records) ∙ ap (λ o. unwrap_or o 0) is
 
 -- the record that binds a name to the next leaf is the world's
@@ -222,17 +222,17 @@ bound_next records key name bound text named leaf digest =
     let digest_is = digest ∙ ap (λ l. digest_at key records (length records) l bound.randomizer text) leaf in
     λ i. record { name = named i; leaf = leaf i; randomizer = bound.randomizer; digest = digest_is i }
 
-pub bound_follows : (records : List Record) (key : Key) (tree : ℕ) (name : List ℕ) (bound : Bound) → key_in records ≡ Some key → has_moved records ≡ false
+pub bound_follows : (records : List Record) (key : Key) (tree : ℕ) (name : List ℕ) (bound : Bound) → the_key records ≡ Some key → has_moved records ≡ false
     → current (bottom_of key.secret) records ≡ Some tree → bound.leaf ≡ next_at key.secret records (bottom_of key.secret)
     → next_at key.secret records (bottom_of key.secret) < leaves_at key.secret (bottom_of key.secret)
-    → bound.name ≡ name → binding_in records name ≡ None → has_randomizer key.secret bound.randomizer ≡ true
-    → can_follow (key_in records) records (BoundRecord bound) ≡ true
+    → bound.name ≡ name → binding_at records name ≡ None → has_randomizer key.secret bound.randomizer ≡ true
+    → can_follow (the_key records) records (BoundRecord bound) ≡ true
 bound_follows records key tree name bound keyed stays at leaf free named unbound has =
     let bottom = bottom_of key.secret in
-    let next : next_at key.secret records bottom ≡ next_in key.secret records tree = ap (next_of key.secret records) at in
+    let next : next_at key.secret records bottom ≡ next_leaf key.secret records tree = ap (next_of key.secret records) at in
     let is : is_free key.secret records bottom bound.leaf ≡ true =
     tell_free key.secret records bottom bound.leaf tree at (omega (arith, leaf, free)) (omega (arith, leaf, next)) in
-    let none : binding_in records bound.name ≡ None = ap (binding_in records) named ∙ unbound in
+    let none : binding_at records bound.name ≡ None = ap (binding_at records) named ∙ unbound in
     ap (λ o. can_follow o records (BoundRecord bound)) keyed
     ∙ ap₂ (λ moved can. not moved && can) stays (ap₂ (λ two h. two && h) (ap₂ (λ f o. f && not (is_some o)) is none) has)
 
@@ -244,7 +244,7 @@ pub kept_last : (key own : Key) (records all : List Record) (tree place : ℕ) (
 kept_last key own records all tree place bound at is grown same =
     let bottom = bottom_of key.secret in
     let binding : Binding = record { place = place; leaf = bound.leaf; randomizer = bound.randomizer; digest = bound.digest; tree = tree } in
-    let before : tree_before bottom (records ++ BoundRecord bound ∷ []) (length records) ≡ tree =
+    let before : current_at bottom (records ++ BoundRecord bound ∷ []) (length records) ≡ tree =
     before_stays bottom records (BoundRecord bound ∷ []) (length records) (omega arith) ∙ tree_at_end records bottom tree at in
     subst (λ (k : Key). kept_of k.secret all (length records, bound) ≡ binding) same
     (ap (λ l. kept_of key.secret l (length records, bound)) grown
@@ -267,18 +267,18 @@ kept_along key own old new records name bound binding last same is =
 -- .. whose chain of trees is still sound
 pub sound_last : (key own : Key) (old new records : List Record) (name : List ℕ) (bound : Bound) (binding : Binding) (level : ℕ) → 0 < length old
     → level ≡ bottom_of key.secret → Stands old level key → IsBoundLast key old new name bound binding → records ≡ new → key ≡ own
-    → damaged_in own (bottom_of own.secret) records binding.tree ≡ None
+    → damaged_at own (bottom_of own.secret) records binding.tree ≡ None
 sound_last key own old new records name bound binding level some level_is stands last same is =
     let entry = BoundRecord bound in
     let bottom = bottom_of key.secret in
-    let before : damaged_in key bottom old (tree_before bottom old (length old)) ≡ None =
-    subst (λ n. damaged_in key n old (tree_before n old (length old)) ≡ None) level_is stands.sound in
-    let after : damaged_in key bottom new (tree_before bottom new (length old)) ≡ None =
-    subst (λ l. damaged_in key bottom l (tree_before bottom l (length old)) ≡ None) (sym last.grown) (chain_at_end key bottom old entry some before) in
-    let own_tree : damaged_in key bottom new binding.tree ≡ None =
-    subst (λ t. damaged_in key bottom new t ≡ None) (ap (λ (kept : Binding). kept.tree) last.kept) after in
-    subst (λ l. damaged_in own (bottom_of own.secret) l binding.tree ≡ None) (sym same)
-    (subst (λ (k : Key). damaged_in k (bottom_of k.secret) new binding.tree ≡ None) is own_tree)
+    let before : damaged_at key bottom old (current_at bottom old (length old)) ≡ None =
+    subst (λ n. damaged_at key n old (current_at n old (length old)) ≡ None) level_is stands.sound in
+    let after : damaged_at key bottom new (current_at bottom new (length old)) ≡ None =
+    subst (λ l. damaged_at key bottom l (current_at bottom l (length old)) ≡ None) (sym last.grown) (chain_at_end key bottom old entry some before) in
+    let own_tree : damaged_at key bottom new binding.tree ≡ None =
+    subst (λ t. damaged_at key bottom new t ≡ None) (ap (λ (kept : Binding). kept.tree) last.kept) after in
+    subst (λ l. damaged_at own (bottom_of own.secret) l binding.tree ≡ None) (sym same)
+    (subst (λ (k : Key). damaged_at k (bottom_of k.secret) new binding.tree ≡ None) is own_tree)
 
 -- where no record is damaged, none is answered
 pub never_damaged : (linked : Result (Unit {0}) ℕ) (mapped : Result (Unit {0}) SignFault) (damaged : Option ℕ)
@@ -353,7 +353,7 @@ module _ {S R M : Type 0} (g : store.Ghosts S) (r : source.Ghosts R) (m : messag
         bound = record { fields = []; fate = acked };
         given = None;
         outcome = left_so g r m kept_in random mid ledger is_open before after {A = List ℕ} true RandomFailed [] false;
-        step = λ all. ap (λ o. drawing [] (bound_with (open_on ledger.records) key name o None acked)) none;
+        step = λ all. ap (λ o. drawing [] (bound_message (open_state ledger.records) key name o None acked)) none;
         trees_possible = tt;
         bound_possible = tt;
         does = does_kept g r m kept_in random mid ledger is_open before after {A = List ℕ} true RandomFailed [] false None opened tied only (λ n. refl) (λ n. refl)
@@ -372,7 +372,7 @@ module _ {S R M : Type 0} (g : store.Ghosts S) (r : source.Ghosts R) (m : messag
     bound = record { fields = drawn.fields; fate = acked };
     given = None;
     outcome = left_so g r m kept_in random mid ledger is_open before after {A = List ℕ} true MessageRead (concat drawn.fields ++ []) true;
-    step = λ all. ap (λ o. drawing (concat drawn.fields) (bound_with (open_on ledger.records) key name o None acked)) drawn.made;
+    step = λ all. ap (λ o. drawing (concat drawn.fields) (bound_message (open_state ledger.records) key name o None acked)) drawn.made;
     trees_possible = tt;
     bound_possible = drawn.possible;
     does = does_kept g r m kept_in random mid ledger is_open before after {A = List ℕ} true MessageRead (concat drawn.fields ++ []) true None opened tied only
@@ -387,7 +387,7 @@ module _ {S R M : Type 0} (g : store.Ghosts S) (r : source.Ghosts R) (m : messag
       → ReadWhole m.transition m.remaining text before after
       → bound ≡ new_bound key ledger.records name (next_at key.secret ledger.records (bottom_of key.secret)) bound.randomizer text
       → Adds g (view_of kept_in mid ledger caches is_open) new (BoundRecord bound) a
-      → answer ≡ answered_with a (signature_at key (ledger.records ++ BoundRecord bound ∷ []) (length ledger.records) bound)
+      → answer ≡ answered_value a (signature_at key (ledger.records ++ BoundRecord bound ∷ []) (length ledger.records) bound)
       → BindsBelow g r m name 0 (view_of kept_in random ledger caches is_open) new before after answer key
   bound_added {caches = caches} new bound text a answer opened drawn whole is adds answers =
       let sign : Bound → List Record → List ℕ = λ b records. signature_at key records (length ledger.records) b in
@@ -396,7 +396,7 @@ module _ {S R M : Type 0} (g : store.Ghosts S) (r : source.Ghosts R) (m : messag
         bound = record { fields = drawn.fields; fate = adds.fate };
         given = Some text;
         outcome = append_so g r m kept_in random mid ledger is_open before after (BoundRecord bound) (sign bound) (concat drawn.fields) adds.fate;
-        step = λ all. ap (λ o. drawing (concat drawn.fields) (bound_with (open_on ledger.records) key name o (Some text) adds.fate)) drawn.made
+        step = λ all. ap (λ o. drawing (concat drawn.fields) (bound_message (open_state ledger.records) key name o (Some text) adds.fate)) drawn.made
             ∙ ap (λ (b : Bound). append_so g r m kept_in random mid ledger is_open before after (BoundRecord b) (sign b) (concat drawn.fields) adds.fate) (sym is);
         trees_possible = tt;
         bound_possible = drawn.possible;

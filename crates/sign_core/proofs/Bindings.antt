@@ -10,7 +10,7 @@ use Rattle.state_file.specs.declared.record.Bound.{Bound}
 use Rattle.state_file.specs.declared.record.Record.{Record}
 use Rattle.state_file.specs.declared.record.Record.TheVariants.{Key as KeyRecord, Extend as ExtendRecord, Bound as BoundRecord, Retire, Moved}
 use Rattle.state_file.specs.Laws.{identifier_of}
-use Rattle.sign_core.specs.Records.{are_same, binding_in, bound_from, has_identifier}
+use Rattle.sign_core.specs.Records.{are_same, binding_at, first_binding, has_identifier}
 
 -- ---- names
 
@@ -25,13 +25,13 @@ or_later k (Some bound) later = Some (k, bound)
 or_later k None later = later
 
 bound_first : (name : List ℕ) (k : ℕ) (entry : Record) (rest : List Record)
-    → bound_from name k (entry ∷ rest) ≡ or_later k (binds name entry) (bound_from name (k + 1) rest)
+    → first_binding name k (entry ∷ rest) ≡ or_later k (binds name entry) (first_binding name (k + 1) rest)
 bound_first name k (KeyRecord key) rest = refl
 bound_first name k (ExtendRecord extend) rest = refl
 bound_first name k (BoundRecord bound) rest = by (are_same bound.name name)
   where
-    by : (same : Bool) → (if same then Some (k, bound) else bound_from name (k + 1) rest)
-        ≡ or_later k (if same then Some bound else None) (bound_from name (k + 1) rest)
+    by : (same : Bool) → (if same then Some (k, bound) else first_binding name (k + 1) rest)
+        ≡ or_later k (if same then Some bound else None) (first_binding name (k + 1) rest)
     by true = refl
     by false = refl
 bound_first name k (Retire upto) rest = refl
@@ -65,8 +65,8 @@ record BoundAt (name : List ℕ) (k : ℕ) (entries : List Record) (j : ℕ) (bo
   first : (i : ℕ) (other : Bound) → i < at → slice_get entries i ≡ Some (BoundRecord other) → other.name ≢ name
 
 abbrev FoundBinding : List ℕ → ℕ → List Record → Type 0
-FoundBinding name k entries = ((j : ℕ) × (bound : Bound) × (bound_from name k entries ≡ Some (j, bound)) × BoundAt name k entries j bound)
-    ⊎ ((bound_from name k entries ≡ None) × NoneBinds name entries)
+FoundBinding name k entries = ((j : ℕ) × (bound : Bound) × (first_binding name k entries ≡ Some (j, bound)) × BoundAt name k entries j bound)
+    ⊎ ((first_binding name k entries ≡ None) × NoneBinds name entries)
 
 bound_here : (name : List ℕ) (k : ℕ) (entry : Record) (rest : List Record) (bound : Bound) → binds name entry ≡ Some bound
     → BoundAt name k (entry ∷ rest) k bound
@@ -100,18 +100,18 @@ none_first name entry rest first none (suc i) other is = none i other is
 found_binding_first : (name : List ℕ) (k : ℕ) (entry : Record) (rest : List Record) (own : Option Bound) → binds name entry ≡ own → FoundBinding name (k + 1) rest
     → FoundBinding name k (entry ∷ rest)
 found_binding_first name k entry rest (Some bound) is later =
-    inl (k, bound, bound_first name k entry rest ∙ ap (λ o. or_later k o (bound_from name (k + 1) rest)) is, bound_here name k entry rest bound is)
+    inl (k, bound, bound_first name k entry rest ∙ ap (λ o. or_later k o (first_binding name (k + 1) rest)) is, bound_here name k entry rest bound is)
 found_binding_first name k entry rest None is (inl (j, bound, at, later)) =
-    inl (j, bound, bound_first name k entry rest ∙ ap (λ o. or_later k o (bound_from name (k + 1) rest)) is ∙ at, bound_later name k j entry rest bound is later)
+    inl (j, bound, bound_first name k entry rest ∙ ap (λ o. or_later k o (first_binding name (k + 1) rest)) is ∙ at, bound_later name k j entry rest bound is later)
 found_binding_first name k entry rest None is (inr (at, none)) =
-    inr (bound_first name k entry rest ∙ ap (λ o. or_later k o (bound_from name (k + 1) rest)) is ∙ at, none_first name entry rest is none)
+    inr (bound_first name k entry rest ∙ ap (λ o. or_later k o (first_binding name (k + 1) rest)) is ∙ at, none_first name entry rest is none)
 
 found_binding : (name : List ℕ) (k : ℕ) (entries : List Record) → FoundBinding name k entries
 found_binding name k [] = inr (refl, λ i other is. absurd (none-some (BoundRecord other) is))
 found_binding name k (entry ∷ rest) = found_binding_first name k entry rest (binds name entry) refl (found_binding name (k + 1) rest)
 
 -- the binding that is found is the first of its name
-pub binding_stands : (records : List Record) (name : List ℕ) (k : ℕ) (bound : Bound) → binding_in records name ≡ Some (k, bound)
+pub binding_stands : (records : List Record) (name : List ℕ) (k : ℕ) (bound : Bound) → binding_at records name ≡ Some (k, bound)
     → (slice_get records k ≡ Some (BoundRecord bound)) × (bound.name ≡ name)
     × ((i : ℕ) (other : Bound) → i < k → slice_get records i ≡ Some (BoundRecord other) → other.name ≢ name)
 binding_stands records name k bound is = elim (found_binding name 0 records) [
@@ -126,7 +126,7 @@ binding_stands records name k bound is = elim (found_binding name 0 records) [
 ]
 
 -- a name with no binding is in no Bound
-pub unbound : (records : List Record) (name : List ℕ) (k : ℕ) (bound : Bound) → binding_in records name ≡ None
+pub unbound : (records : List Record) (name : List ℕ) (k : ℕ) (bound : Bound) → binding_at records name ≡ None
     → slice_get records k ≡ Some (BoundRecord bound) → bound.name ≢ name
 unbound records name k bound is stands = elim (found_binding name 0 records) [
   | inl (j, own, at, found) ↦ absurd (none-some (j, own) (sym is ∙ at))
@@ -135,7 +135,7 @@ unbound records name k bound is stands = elim (found_binding name 0 records) [
 
 -- a name in no Bound has no binding
 pub not_bound : (records : List Record) (name : List ℕ) → ((k : ℕ) (bound : Bound) → slice_get records k ≡ Some (BoundRecord bound) → bound.name ≢ name)
-    → binding_in records name ≡ None
+    → binding_at records name ≡ None
 not_bound records name none = elim (found_binding name 0 records) [
   | inl (j, own, at, found) ↦ absurd (none found.at own found.stands found.named)
   | inr (at, nowhere) ↦ at
@@ -144,46 +144,46 @@ not_bound records name none = elim (found_binding name 0 records) [
 -- ---- one more record
 
 bound_append : (name : List ℕ) (k : ℕ) (xs ys : List Record)
-    → bound_from name k (xs ++ ys) ≡ option_or (bound_from name k xs) (bound_from name (k + length xs) ys)
-bound_append name k [] ys = let here : k ≡ k + 0 = omega arith in ap (λ n. bound_from name n ys) here
+    → first_binding name k (xs ++ ys) ≡ option_or (first_binding name k xs) (first_binding name (k + length xs) ys)
+bound_append name k [] ys = let here : k ≡ k + 0 = omega arith in ap (λ n. first_binding name n ys) here
 bound_append name k (entry ∷ xs) ys =
     let on : k + 1 + length xs ≡ k + suc (length xs) = omega arith in
     bound_first name k entry (xs ++ ys)
-    ∙ by (binds name entry) (bound_append name (k + 1) xs ys ∙ ap (λ n. option_or (bound_from name (k + 1) xs) (bound_from name n ys)) on)
-    ∙ sym (ap (λ o. option_or o (bound_from name (k + suc (length xs)) ys)) (bound_first name k entry xs))
+    ∙ by (binds name entry) (bound_append name (k + 1) xs ys ∙ ap (λ n. option_or (first_binding name (k + 1) xs) (first_binding name n ys)) on)
+    ∙ sym (ap (λ o. option_or o (first_binding name (k + suc (length xs)) ys)) (bound_first name k entry xs))
   where
     by : (own : Option Bound)
-        → bound_from name (k + 1) (xs ++ ys) ≡ option_or (bound_from name (k + 1) xs) (bound_from name (k + suc (length xs)) ys)
-        → or_later k own (bound_from name (k + 1) (xs ++ ys))
-        ≡ option_or (or_later k own (bound_from name (k + 1) xs)) (bound_from name (k + suc (length xs)) ys)
+        → first_binding name (k + 1) (xs ++ ys) ≡ option_or (first_binding name (k + 1) xs) (first_binding name (k + suc (length xs)) ys)
+        → or_later k own (first_binding name (k + 1) (xs ++ ys))
+        ≡ option_or (or_later k own (first_binding name (k + 1) xs)) (first_binding name (k + suc (length xs)) ys)
     by (Some bound) rest = refl
     by None rest = rest
 
 pub binding_appended : (records : List Record) (entry : Record) (name : List ℕ)
-    → binding_in (records ++ entry ∷ []) name ≡ option_or (binding_in records name) (or_later (length records) (binds name entry) None)
+    → binding_at (records ++ entry ∷ []) name ≡ option_or (binding_at records name) (or_later (length records) (binds name entry) None)
 binding_appended records entry name =
     let place : 0 + length records ≡ length records = omega arith in
     bound_append name 0 records (entry ∷ [])
-    ∙ ap (λ n. option_or (binding_in records name) (bound_from name n (entry ∷ []))) place
-    ∙ ap (option_or (binding_in records name)) (bound_first name (length records) entry [])
+    ∙ ap (λ n. option_or (binding_at records name) (first_binding name n (entry ∷ []))) place
+    ∙ ap (option_or (binding_at records name)) (bound_first name (length records) entry [])
 
-pub binding_stays : (records more : List Record) (name : List ℕ) (found : ℕ × Bound) → binding_in records name ≡ Some found
-    → binding_in (records ++ more) name ≡ Some found
+pub binding_stays : (records more : List Record) (name : List ℕ) (found : ℕ × Bound) → binding_at records name ≡ Some found
+    → binding_at (records ++ more) name ≡ Some found
 binding_stays records more name found is =
-    bound_append name 0 records more ∙ ap (λ o. option_or o (bound_from name (0 + length records) more)) is
+    bound_append name 0 records more ∙ ap (λ o. option_or o (first_binding name (0 + length records) more)) is
 
-pub binding_new : (records : List Record) (bound : Bound) → binding_in records bound.name ≡ None
-    → binding_in (records ++ BoundRecord bound ∷ []) bound.name ≡ Some (length records, bound)
+pub binding_new : (records : List Record) (bound : Bound) → binding_at records bound.name ≡ None
+    → binding_at (records ++ BoundRecord bound ∷ []) bound.name ≡ Some (length records, bound)
 binding_new records bound free =
     binding_appended records (BoundRecord bound) bound.name
     ∙ (λ i. option_or (free i) (or_later (length records) (binds_own bound bound.name refl i) None))
 
 -- a record that doesn't bind a name leaves its binding
 pub binding_other : (records : List Record) (entry : Record) (name : List ℕ) → binds name entry ≡ None
-    → binding_in (records ++ entry ∷ []) name ≡ binding_in records name
+    → binding_at (records ++ entry ∷ []) name ≡ binding_at records name
 binding_other records entry name none =
-    binding_appended records entry name ∙ ap (λ o. option_or (binding_in records name) (or_later (length records) o None)) none
-    ∙ same (binding_in records name)
+    binding_appended records entry name ∙ ap (λ o. option_or (binding_at records name) (or_later (length records) o None)) none
+    ∙ same (binding_at records name)
   where
     same : (o : Option (ℕ × Bound)) → option_or o None ≡ o
     same None = refl

@@ -17,14 +17,14 @@ use Rattle.sign_core.specs.declared.source.Source as source
 use Rattle.sign_core.specs.declared.fault.SignFault.{SignFault}
 use Rattle.sign_core.specs.declared.fault.SignFault.TheVariants.{OutOfMemory, RandomFailed, RandomRepeated, StoreFailed}
 use Rattle.sign_core.specs.Source.{Provides}
-use Rattle.sign_core.specs.Records.{binding_in, has_identifier, has_moved, key_in, next_at}
+use Rattle.sign_core.specs.Records.{binding_at, has_identifier, has_moved, the_key, next_at}
 use Rattle.sign_core.specs.Cuts.{IsBeginning, reached}
 use Rattle.sign_core.specs.Signer.{Ends, GrowsAlike, IsRead, KeepsStore, RefusesAfterDraws, UsesMemory, View, is_out_of_memory, is_random_failed, is_store_failed}
 use Rattle.sign_core.specs.inner.Signing.{Does, Extends, BindsBelow, IsReady}
 use Rattle.sign_core.specs.Textbook.{Trees, trees_of}
 use Rattle.sign_core.specs.World.{Chance, Draw, Fate, Outcome, acked, answered, appended, cut_new, cut_old, drawing, no_memory}
-use Rattle.sign_core.specs.World.{open_on, refused}
-use Rattle.sign_core.specs.inner.Cases.{extended, extended_by, extended_with, bound_below}
+use Rattle.sign_core.specs.World.{open_state, refused}
+use Rattle.sign_core.specs.inner.Cases.{extended, extended_identifier, extended_seed, bound_trees}
 use Rattle.sign_core.proofs.Draws.{gives_both}
 use Rattle.sign_core.proofs.Bindings.{binding_other}
 use Rattle.sign_core.proofs.BoundBelow.{drawing_twice}
@@ -41,7 +41,7 @@ pub data Draws (records : List Record) (comes : (List Record → Outcome (List �
       → ((next : List Record → Outcome (List ℕ)) → comes next ≡ outcome) → Draws records comes
 
 by_fate : (records : List Record) (extend : Extend) (bytes : List ℕ) (fate : Fate)
-    → Draws records (λ next. drawing bytes (appended (open_on records) (ExtendRecord extend) fate next))
+    → Draws records (λ next. drawing bytes (appended (open_state records) (ExtendRecord extend) fate next))
 by_fate records extend bytes acked = recorded extend bytes (λ next. refl)
 by_fate records extend bytes cut_old = ended StoreFailed _ refl refl refl (λ next. refl)
 by_fate records extend bytes cut_new = ended StoreFailed _ refl refl refl (λ next. refl)
@@ -53,7 +53,7 @@ along records comes others same (recorded extend bytes is) = recorded extend byt
 along records comes others same (ended fault outcome answer kept unread is) = ended fault outcome answer kept unread (λ next. same next ∙ is next)
 
 by_fields : (records : List Record) (trees : Trees) (level leaf : ℕ) (identifier : List ℕ) (fields : List (List ℕ)) (fate : Fate)
-    → Draws records (λ next. drawing identifier (extended_with (open_on records) trees level leaf identifier fields fate next))
+    → Draws records (λ next. drawing identifier (extended_seed (open_state records) trees level leaf identifier fields fate next))
 by_fields records trees level leaf identifier [] fate = ended RandomFailed _ refl refl refl (λ next. refl)
 by_fields records trees level leaf identifier (seed ∷ []) fate = ended RandomFailed _ refl refl refl (λ next. refl)
 by_fields records trees level leaf identifier (seed ∷ randomizer ∷ []) fate =
@@ -61,19 +61,19 @@ by_fields records trees level leaf identifier (seed ∷ randomizer ∷ []) fate 
 by_fields records trees level leaf identifier (seed ∷ randomizer ∷ other ∷ rest) fate = ended RandomFailed _ refl refl refl (λ next. refl)
 
 by_fresh : (records : List Record) (trees : Trees) (level leaf : ℕ) (identifier : List ℕ) (fields : List (List ℕ)) (fate : Fate) (stands : Bool)
-    → Draws records (λ next. drawing identifier (if stands then refused (open_on records) RandomRepeated
-    else extended_with (open_on records) trees level leaf identifier fields fate next))
+    → Draws records (λ next. drawing identifier (if stands then refused (open_state records) RandomRepeated
+    else extended_seed (open_state records) trees level leaf identifier fields fate next))
 by_fresh records trees level leaf identifier fields fate true = ended RandomRepeated _ refl refl refl (λ next. refl)
 by_fresh records trees level leaf identifier fields fate false = by_fields records trees level leaf identifier fields fate
 
 by_first : (records : List Record) (trees : Trees) (level leaf : ℕ) (fields : List (List ℕ)) (fate : Fate)
-    → Draws records (λ next. extended_by (open_on records) trees level leaf fields fate next)
+    → Draws records (λ next. extended_identifier (open_state records) trees level leaf fields fate next)
 by_first records trees level leaf [] fate = ended RandomFailed _ refl refl refl (λ next. refl)
 by_first records trees level leaf (identifier ∷ fields) fate =
     by_fresh records trees level leaf identifier fields fate (has_identifier records identifier)
 
 pub by_trees : (records : List Record) (key : Key) (level : ℕ) (found : Option Trees) (draw : Draw)
-    → Draws records (extended (open_on records) key level found draw)
+    → Draws records (extended (open_state records) key level found draw)
 by_trees records key level None draw = ended RandomFailed _ refl refl refl (λ next. refl)
 by_trees records key level (Some trees) draw = by_first records trees level (next_at key.secret records (level - 1)) draw.fields draw.fate
 
@@ -114,7 +114,7 @@ counts_on : {A : Type 0} (is_counted : SignFault → Bool) (before mid after : �
 counts_on is_counted before mid after answer same counts = subst (λ (n : ℕ). Counts is_counted n after answer) same counts
 
 abbrev after_extend : List Record → Extend → (bytes : List ℕ) → Outcome (List ℕ)
-after_extend records extend bytes = drawing bytes (answered (open_on (records ++ ExtendRecord extend ∷ [])) [])
+after_extend records extend bytes = drawing bytes (answered (open_state (records ++ ExtendRecord extend ∷ [])) [])
 
 -- `KeepsStore` for a recorded Extend and for what follows makes one for both.
 keeps_after : {S : Type 0} (g : store.Ghosts S) (old mid new : S) (records mid_records more : List Record) (extend : Extend) (bytes : List ℕ)
@@ -207,14 +207,14 @@ message_kept m false None old unread = refl
 step_after : (key : Key) (name : List ℕ) (chance : Chance) (below level : ℕ) (draw : Draw) (draws : List Draw) (records mid_records : List Record)
     (extend : Extend) (bytes : List ℕ) (outcome : Outcome (List ℕ)) → level ≡ bottom_of key.secret - below
     → mid_records ≡ records ++ ExtendRecord extend ∷ []
-    → ((next : List Record → Outcome (List ℕ)) → extended (open_on records) key level (trees_of key.secret) draw next
+    → ((next : List Record → Outcome (List ℕ)) → extended (open_state records) key level (trees_of key.secret) draw next
     ≡ drawing bytes (next (records ++ ExtendRecord extend ∷ [])))
-    → bound_below key name chance below draws mid_records ≡ outcome
-    → bound_below key name chance (suc below) (draw ∷ draws) records ≡ drawing bytes outcome
+    → bound_trees key name chance below draws mid_records ≡ outcome
+    → bound_trees key name chance (suc below) (draw ∷ draws) records ≡ drawing bytes outcome
 step_after key name chance below level draw draws records mid_records extend bytes outcome at is comes step =
-    ap (λ l. extended (open_on records) key l (trees_of key.secret) draw (bound_below key name chance below draws)) (sym at)
-    ∙ comes (bound_below key name chance below draws)
-    ∙ ap (λ l. drawing bytes (bound_below key name chance below draws l)) (sym is)
+    ap (λ l. extended (open_state records) key l (trees_of key.secret) draw (bound_trees key name chance below draws)) (sym at)
+    ∙ comes (bound_trees key name chance below draws)
+    ∙ ap (λ l. drawing bytes (bound_trees key name chance below draws l)) (sym is)
     ∙ ap (drawing bytes) step
 
 pub binds_below_after : {S R M : Type 0} (g : store.Ghosts S) (r : source.Ghosts R) (m : message.Ghosts M) (name : List ℕ) (key : Key) (below level : ℕ)
@@ -224,7 +224,7 @@ pub binds_below_after : {S R M : Type 0} (g : store.Ghosts S) (r : source.Ghosts
 binds_below_after {S = S} {R = R} {M = M} g r m name key below level old mid new before after answer at running first second =
     by_draw (by_trees old.records key level (trees_of key.secret) first.draw)
   where
-    by_draw : Draws old.records (extended (open_on old.records) key level (trees_of key.secret) first.draw)
+    by_draw : Draws old.records (extended (open_state old.records) key level (trees_of key.secret) first.draw)
         → BindsBelow g r m name (suc below) old new before after answer key
     by_draw (ended fault outcome fails kept unread same) =
         absurd (ok≢err [] fault (sym first.ends.answer_is ∙ ap (λ o. o.answer) (sym first.step ∙ same _) ∙ fails))
@@ -261,7 +261,7 @@ pub is_recorded : {S R : Type 0} (g : store.Ghosts S) (r : source.Ghosts R) (lev
     → Extends g r level old mid (Ok []) key → Recorded g old mid
 is_recorded {S = S} {R = R} g r level old mid key first = by_draw (by_trees old.records key level (trees_of key.secret) first.draw)
   where
-    by_draw : Draws old.records (extended (open_on old.records) key level (trees_of key.secret) first.draw) → Recorded g old mid
+    by_draw : Draws old.records (extended (open_state old.records) key level (trees_of key.secret) first.draw) → Recorded g old mid
     by_draw (ended fault outcome fails kept unread same) =
         absurd (ok≢err [] fault (sym first.ends.answer_is ∙ ap (λ o. o.answer) (sym first.step ∙ same _) ∙ fails))
     by_draw (recorded extend bytes comes) =
@@ -285,14 +285,14 @@ ready_after g old mid wanted after ready =
       room = omega (arith, ready.room, after.spare);
     }
 
-pub key_after : {S R : Type 0} (g : store.Ghosts S) (old mid : View S R) (key : Key) → Recorded g old mid → key_in old.records ≡ Some key
-    → key_in mid.records ≡ Some key
-key_after g old mid key after keyed = ap key_in after.records ∙ key_stays old.records (ExtendRecord after.extend ∷ []) key keyed
+pub key_after : {S R : Type 0} (g : store.Ghosts S) (old mid : View S R) (key : Key) → Recorded g old mid → the_key old.records ≡ Some key
+    → the_key mid.records ≡ Some key
+key_after g old mid key after keyed = ap the_key after.records ∙ key_stays old.records (ExtendRecord after.extend ∷ []) key keyed
 
-pub unbound_after : {S R : Type 0} (g : store.Ghosts S) (old mid : View S R) (name : List ℕ) → Recorded g old mid → binding_in old.records name ≡ None
-    → binding_in mid.records name ≡ None
+pub unbound_after : {S R : Type 0} (g : store.Ghosts S) (old mid : View S R) (name : List ℕ) → Recorded g old mid → binding_at old.records name ≡ None
+    → binding_at mid.records name ≡ None
 unbound_after g old mid name after free =
-    ap (λ l. binding_in l name) after.records ∙ binding_other old.records (ExtendRecord after.extend) name refl ∙ free
+    ap (λ l. binding_at l name) after.records ∙ binding_other old.records (ExtendRecord after.extend) name refl ∙ free
 
 pub binds_below_refused : {S R M : Type 0} (g : store.Ghosts S) (r : source.Ghosts R) (m : message.Ghosts M) (name : List ℕ) (key : Key) (below level : ℕ)
     (old new : View S R) (unread : M) (fault : SignFault) → level ≡ bottom_of key.secret - below
@@ -300,7 +300,7 @@ pub binds_below_refused : {S R M : Type 0} (g : store.Ghosts S) (r : source.Ghos
 binds_below_refused {S = S} {R = R} {M = M} g r m name key below level old new unread fault at first =
     by_draw (by_trees old.records key level (trees_of key.secret) first.draw)
   where
-    by_draw : Draws old.records (extended (open_on old.records) key level (trees_of key.secret) first.draw)
+    by_draw : Draws old.records (extended (open_state old.records) key level (trees_of key.secret) first.draw)
         → BindsBelow g r m name (suc below) old new unread unread (Err fault) key
     by_draw (recorded extend bytes comes) =
         absurd (ok≢err [] fault (ap (λ o. o.answer) (sym (comes _) ∙ first.step) ∙ first.ends.answer_is))
@@ -310,8 +310,8 @@ binds_below_refused {S = S} {R = R} {M = M} g r m name key below level old new u
           bound = record { fields = []; fate = acked };
           given = None;
           outcome = first.outcome;
-          step = λ all. ap (λ l. extended (open_on old.records) key l (trees_of key.secret) first.draw
-              (bound_below key name (record { has_room = true; trees = all; bound = record { fields = []; fate = acked }; given = None }) below []))
+          step = λ all. ap (λ l. extended (open_state old.records) key l (trees_of key.secret) first.draw
+              (bound_trees key name (record { has_room = true; trees = all; bound = record { fields = []; fate = acked }; given = None }) below []))
               (sym at) ∙ same _ ∙ is;
           trees_possible = (first.possible, tt);
           bound_possible = tt;

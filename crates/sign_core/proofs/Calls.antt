@@ -8,14 +8,14 @@ use Rattle.state_file.specs.declared.record.Secret.TheVariants.{Lms, Hss, Xmss}
 use Rattle.state_file.specs.declared.store.Store as store
 use Rattle.sign_core.specs.declared.key.AnyPublic.{AnyPublic}
 use Rattle.sign_core.specs.Calls.{AreCalls, AreSteps, Call, CallsLaw, IsRun, IsStep, IsStoppedIn, Step, StoppedLaw, after_steps, ends, events_of}
-use Rattle.sign_core.specs.Calls.{reached_by, stepped, stops, store_after_calls}
+use Rattle.sign_core.specs.Calls.{reached_records, stepped, stops, store_after_calls}
 use Rattle.sign_core.specs.Events.{AllEvents, AreDraws, AreDrawsOf, AreFields, IsEvent, randomizer_sizes}
 use Rattle.sign_core.specs.Cuts.{IsBeginning, IsLeftBy, reached}
 use Rattle.sign_core.specs.Once.{IsOnce}
-use Rattle.sign_core.specs.Records.{first_illegal, key_in}
-use Rattle.sign_core.specs.Textbook.{public_in}
+use Rattle.sign_core.specs.Records.{first_illegal, the_key}
+use Rattle.sign_core.specs.Textbook.{any_public_of}
 use Rattle.sign_core.specs.World.{Chance, Event, Opening, State, World, after, beginning, create, reopen}
-use Rattle.sign_core.specs.inner.Cases.{opened_by, opened_on, published}
+use Rattle.sign_core.specs.inner.Cases.{opened_illegal, opened_key, published}
 use Rattle.sign_core.specs.World.{request, retire, run, stop, migrate}
 use Rattle.sign_core.proofs.Acknowledged.{open_acknowledged}
 use Rattle.sign_core.proofs.Events.{kept_by_run}
@@ -28,12 +28,12 @@ published_reaches : (records : List Record) (public : Option AnyPublic) → reac
 published_reaches records (Some public) = append-nil records
 published_reaches records None = append-nil records
 
-opened_on_reaches : (records : List Record) (found : Option Key) → reached (opened_on records found) ≡ records
+opened_on_reaches : (records : List Record) (found : Option Key) → reached (opened_key records found) ≡ records
 opened_on_reaches records None = append-nil records
-opened_on_reaches records (Some key) = published_reaches records (public_in key)
+opened_on_reaches records (Some key) = published_reaches records (any_public_of key)
 
-pub opened_reaches : (state : State) (chance : Opening) (illegal : Option ℕ) → reached (opened_by state chance illegal) ≡ state.records
-opened_reaches state None None = opened_on_reaches state.records (key_in state.records)
+pub opened_reaches : (state : State) (chance : Opening) (illegal : Option ℕ) → reached (opened_illegal state chance illegal) ≡ state.records
+opened_reaches state None None = opened_on_reaches state.records (the_key state.records)
 opened_reaches state None (Some k) = append-nil state.records
 opened_reaches state (Some (slot, fault)) None = append-nil state.records
 opened_reaches state (Some (slot, fault)) (Some k) = append-nil state.records
@@ -45,7 +45,7 @@ whole_left records all left same is = is.beginning ∙ ap (take is.count) same �
 
 -- what a crash at a moment of an event leaves, events that can come leave
 pub stop_left : (limit : ℕ) (world : World) (event : Event) (left : List Record) → IsEvent event
-    → IsBeginning (length world.state.records) (reached_by limit world event) left → IsLeftBy limit world left
+    → IsBeginning (length world.state.records) (reached_records limit world event) left → IsLeftBy limit world left
 stop_left limit world (create spec chance) left can is = stop_law.creates limit world spec chance left can is
 stop_left limit world (reopen chance) left can is =
     left_by_stop limit world left

@@ -15,9 +15,9 @@ use Rattle.state_file.specs.declared.record.Extend.{Extend}
 use Rattle.state_file.specs.declared.record.Key.{Key}
 use Rattle.state_file.specs.declared.record.Record.{Record}
 use Rattle.state_file.specs.declared.record.Record.TheVariants.{Key as KeyRecord, Extend as ExtendRecord, Bound as BoundRecord, Retire, Moved}
-use Rattle.sign_core.specs.Records.{are_same, current, last_from, makes, same_tree, under}
-use Rattle.sign_core.specs.Textbook.{Trees, chain, damaged_in, is_sound_at, is_sound_extend, is_sound_record, secret_at, secret_by, signing_by}
-use Rattle.sign_core.specs.Textbook.{signings_above, tree_before, trees_of}
+use Rattle.sign_core.specs.Records.{are_same, current, last_extend, makes, same_tree, under}
+use Rattle.sign_core.specs.Textbook.{Trees, chain, damaged_at, is_sound_at, is_sound_extend, is_sound_record, secret_at, made_secret, parent_signing}
+use Rattle.sign_core.specs.Textbook.{chain_signings, current_at, trees_of}
 
 -- ---- lists
 
@@ -57,7 +57,7 @@ none_of_both test (x ∷ xs) y none = by_test (test x) (none_of_both test xs y) 
 -- ---- current trees
 
 -- The last Extend of a level was there before, or stands among these records.
-found_last : (level k : ℕ) (found : Option ℕ) (records : List Record) (j : ℕ) → last_from level k found records ≡ Some j
+found_last : (level k : ℕ) (found : Option ℕ) (records : List Record) (j : ℕ) → last_extend level k found records ≡ Some j
     → (found ≡ Some j) ⊎ ((i : ℕ) × (extend : Extend) × (j ≡ k + i) × (slice_get records i ≡ Some (ExtendRecord extend)) × (extend.level ≡ level))
 found_last level k found [] j is = inl is
 found_last level k found (entry ∷ rest) j is =
@@ -100,11 +100,11 @@ pub record IsMade (records : List Record) (level tree : ℕ) : Type 0 where
   pub extend : Extend
   pub stands : slice_get records tree ≡ Some (ExtendRecord extend)
   pub of_level : extend.level ≡ level + 1
-  pub above : current level (take tree records) ≡ Some (tree_before level records tree)
+  pub above : current level (take tree records) ≡ Some (current_at level records tree)
 
 pub current_made : (level k : ℕ) (records : List Record) (tree : ℕ) → current (suc level) (take k records) ≡ Some tree → (tree < k) × IsMade records level tree
 current_made level k records tree is =
-    let (found, same) = under_known (current level) (take k records) (last_from (suc level) 0 None (take k records)) tree is in
+    let (found, same) = under_known (current level) (take k records) (last_extend (suc level) 0 None (take k records)) tree is in
     elim (found_last (suc level) 0 None (take k records) tree found) [
       | inl none ↦ absurd (cc)
       | inr (i, extend, place, stands, of_level) ↦
@@ -171,12 +171,12 @@ chained_more trees records above s last chained link =
 
 sound_digest : (trees : Trees) (records : List Record) (tree level : ℕ) (extend : Extend) → extend.level ≡ level + 1
     → is_sound_extend (Some trees) records tree extend ≡ true
-    → extend.digest ≡ message_digest_of (secret_at trees records (tree_before level records tree)).identifier extend.parent_leaf extend.randomizer
-    (lms_public_bytes (lms_public_of (secret_by trees (Some (ExtendRecord extend)))))
+    → extend.digest ≡ message_digest_of (secret_at trees records (current_at level records tree)).identifier extend.parent_leaf extend.randomizer
+    (lms_public_bytes (lms_public_of (made_secret trees (Some (ExtendRecord extend)))))
 sound_digest trees records tree level extend of_level sound =
-    let made = lms_public_of (secret_by trees (Some (ExtendRecord extend))) in
+    let made = lms_public_of (made_secret trees (Some (ExtendRecord extend))) in
     let under_level : ℕ → List ℕ =
-    λ n. message_digest_of (secret_at trees records (tree_before n records tree)).identifier extend.parent_leaf extend.randomizer (lms_public_bytes made) in
+    λ n. message_digest_of (secret_at trees records (current_at n records tree)).identifier extend.parent_leaf extend.randomizer (lms_public_bytes made) in
     let above_is : extend.level - 1 ≡ level = omega (arith, of_level) in
     let parts = and_parts (are_same extend.root made.root) (are_same extend.digest (under_level (extend.level - 1))) sound in
     same_text extend.digest (under_level (extend.level - 1)) (sym parts.1) ∙ ap under_level above_is
@@ -188,27 +188,27 @@ from_not false is = absurd (cc)
 -- The chain of a current tree, where no record of it is damaged: each level signs the next one's key.
 pub chained : (key : Key) (trees : Trees) (records : List Record) (level k tree : ℕ) (last : Signing) → trees_of key.secret ≡ Some trees
     → slice_get records 0 ≡ Some (KeyRecord key) → current level (take k records) ≡ Some tree → last.secret ≡ secret_at trees records tree
-    → damaged_in key level records tree ≡ None
-    → (length (signings_above trees level records tree) ≡ level) × AreChained trees records (signings_above trees level records tree) last
+    → damaged_at key level records tree ≡ None
+    → (length (chain_signings trees level records tree) ≡ level) × AreChained trees records (chain_signings trees level records tree) last
 chained key trees records zero k tree last these first is last_is sound =
     let zero_is : 0 ≡ tree = same_Some 0 tree is in (
       refl,
       record {
-        top = λ x at. ap (λ s. s.secret) (sym (same_Some last x at)) ∙ last_is ∙ ap (secret_at trees records) (sym zero_is) ∙ ap (secret_by trees) first;
+        top = λ x at. ap (λ s. s.secret) (sym (same_Some last x at)) ∙ last_is ∙ ap (secret_at trees records) (sym zero_is) ∙ ap (made_secret trees) first;
         links = λ i x next at_x at_next. absurd (omega (arith, slice_get_within (last ∷ []) (i + 1) next at_next));
       },
     )
 chained key trees records (suc level) k tree last these first is last_is sound =
     let made = (current_made level k records tree is).1 in
-    let parent = tree_before level records tree in
-    let above = signings_above trees level records parent in
+    let parent = current_at level records tree in
+    let above = chain_signings trees level records parent in
     let s = named_by (secret_at trees records parent) made.extend in
     let (chain_sound, tree_sound) = none_of_both (λ j. not (is_sound_at key records j)) (chain level records parent) tree sound in
     let (count, before) = chained key trees records level tree parent s these first made.above refl chain_sound in
     let sound_here : is_sound_extend (Some trees) records tree made.extend ≡ true =
     ap (λ t. is_sound_extend t records tree made.extend) (sym these) ∙ ap (is_sound_record key records tree) (sym made.stands)
     ∙ from_not (is_sound_at key records tree) tree_sound in
-    let secret_is : last.secret ≡ secret_by trees (Some (ExtendRecord made.extend)) = last_is ∙ ap (secret_by trees) made.stands in
+    let secret_is : last.secret ≡ made_secret trees (Some (ExtendRecord made.extend)) = last_is ∙ ap (made_secret trees) made.stands in
     let link : SignsNext trees records level s last = record {
       tree = parent;
       place = tree;
@@ -220,8 +220,8 @@ chained key trees records (suc level) k tree last these first is last_is sound =
       signed = sound_digest trees records tree level made.extend made.of_level sound_here
           ∙ ap (λ secret. message_digest_of s.secret.identifier s.leaf s.randomizer (lms_public_bytes (lms_public_of secret))) (sym secret_is);
     } in
-    let all : above ++ signing_by trees records parent (slice_get records tree) ≡ above ++ s ∷ [] =
-    ap (λ r. above ++ signing_by trees records parent r) made.stands in
+    let all : above ++ parent_signing trees records parent (slice_get records tree) ≡ above ++ s ∷ [] =
+    ap (λ r. above ++ parent_signing trees records parent r) made.stands in
     let more : AreChained trees records (above ++ s ∷ []) last =
     chained_more trees records above s last before (subst (λ n. SignsNext trees records n s last) (sym count) link) in
     (ap length all ∙ omega (arith, length-append above (s ∷ []), count), subst (λ levels. AreChained trees records levels last) (sym all) more)

@@ -24,14 +24,14 @@ use Rattle.sign_core.specs.Cuts.{IsBeginning}
 use Rattle.state_file.specs.declared.refused.Refused.{Refused}
 use Rattle.sign_core.specs.inner.Signer.{DrawsSecret, Holds, IsAppended, IsTakenUp, LooksForKey}
 use Rattle.sign_core.specs.Ledger.{Table}
-use Rattle.sign_core.specs.Records.{key_in}
+use Rattle.sign_core.specs.Records.{the_key}
 use Rattle.sign_core.specs.Signer.{Creates, IsAnswered, KeepsStore, LeavesOld, LeavesSource, LoadFails, MakesKey, View}
 use Rattle.sign_core.specs.Signer.{is_fault, is_store_failed, is_random_failed, is_out_of_memory, unreadable_slot}
-use Rattle.sign_core.specs.World.{Creation, Fate, Outcome, acked, answered, appended, closed_on, created, cut, cut_new, cut_old, drawing}
+use Rattle.sign_core.specs.World.{Creation, Fate, Outcome, acked, answered, appended, closed_state, created, cut, cut_new, cut_old, drawing}
 use Rattle.sign_core.specs.inner.Cases.{begun}
-use Rattle.sign_core.specs.World.{new_key, no_memory, open_on, refused, secret_from}
+use Rattle.sign_core.specs.World.{new_key, no_memory, open_state, refused, secret_of_fields}
 use Rattle.sign_core.specs.inner.Cases.{published}
-use Rattle.sign_core.specs.Textbook.{public_in, public_of_key}
+use Rattle.sign_core.specs.Textbook.{any_public_of, public_of_key}
 use Rattle.sign_core.proofs.Adding.{moments_kept, moments_left}
 use Rattle.sign_core.proofs.Drawing.{provides_none}
 use Rattle.sign_core.proofs.Sizes.{spec_public}
@@ -41,7 +41,7 @@ use Rattle.state_file.specs.declared.record.Version.{Version}
 
 keeps_old : {S A : Type 0} (g : store.Ghosts S) (old new : S) (bytes : List ℕ) (fault : SignFault) → g.list new ≡ g.list old → LeavesOld g old new
     → Counts {A = A} is_store_failed (g.failures old) (g.failures new) (Err fault) → g.honest new ≡ g.honest old → g.most new ≡ g.most old
-    → KeepsStore g old new (g.list old) (drawing bytes (refused {A = A} (closed_on (g.list old)) fault))
+    → KeepsStore g old new (g.list old) (drawing bytes (refused {A = A} (closed_state (g.list old)) fault))
 keeps_old g old new bytes fault same leaves failures honest most = record {
   list = record { more = []; list = same ∙ sym (append-nil _); records = sym (append-nil _) };
   moments = moments_kept g old new (g.list old) [] _ leaves (λ _. refl) refl;
@@ -63,15 +63,15 @@ drawn_from (first ∷ rest) before after none = absurd (omega (arith, none))
 -- a create that ends at its look for a key
 refused_first : {S R : Type 0} (g : store.Ghosts S) (r : source.Ghosts R) (version : Version) (spec : Spec) (old new : S) (random : R) (fault : SignFault)
     (failed : Option SignFault) → LooksForKey {A = Unit {0}} g old new (Err fault) → LoadFails failed (g.list old) (g.stopped old) (g.honest old)
-    → created (closed_on (g.list old)) spec (record { version = version; failed_load = failed; fields = []; has_room = true; fate = acked })
-    ≡ refused (closed_on (g.list old)) fault
+    → created (closed_state (g.list old)) spec (record { version = version; failed_load = failed; fields = []; has_room = true; fate = acked })
+    ≡ refused (closed_state (g.list old)) fault
     → Counts {A = AnyPublic} is_store_failed (g.failures old) (g.failures new) (Err fault)
     → Counts {A = AnyPublic} is_random_failed (r.failures random) (r.failures random) (Err fault)
     → MakesKey g r version spec old new random random (IsTakenUp (Err fault))
 refused_first g r version spec old new random fault failed is load step failures unfailed = record {
   chance = record { version = version; failed_load = failed; fields = []; has_room = true; fate = acked };
   of_version = refl;
-  outcome = refused (closed_on (g.list old)) fault;
+  outcome = refused (closed_state (g.list old)) fault;
   step = step;
   answer = refl;
   store = keeps_old g old new [] fault is.list is.moments failures is.honest is.most;
@@ -88,12 +88,12 @@ refused_first g r version spec old new random fault failed is load step failures
 }
 
 there_step : (version : Version) (list : List Record) (spec : Spec) → 1 ≤ length list
-    → created (closed_on list) spec (record { version = version; failed_load = None; fields = []; has_room = true; fate = acked }) ≡ refused (closed_on list) KeyThere
+    → created (closed_state list) spec (record { version = version; failed_load = None; fields = []; has_room = true; fate = acked }) ≡ refused (closed_state list) KeyThere
 there_step version list spec some =
     let chance : Creation = record { version = version; failed_load = None; fields = []; has_room = true; fate = acked } in
-    let state = closed_on list in
+    let state = closed_state list in
     let there : nat_le 1 (length list) ≡ true = grind (arith, nat_tests) in
-    ap (λ (is : Bool). if is then refused {A = AnyPublic} state KeyThere else drawing [] (begun state chance (secret_from spec []))) there
+    ap (λ (is : Bool). if is then refused {A = AnyPublic} state KeyThere else drawing [] (begun state chance (secret_of_fields spec []))) there
 
 pub looked : {S R : Type 0} (g : store.Ghosts S) (r : source.Ghosts R) (version : Version) (spec : Spec) (old new : S) (random : R) (fault : SignFault)
     → LooksForKey {A = Unit {0}} g old new (Err fault) → MakesKey g r version spec old new random random (IsTakenUp (Err fault))
@@ -122,11 +122,11 @@ looked g r version spec old new random (Damaged k) is = absurd is.finds
 looked g r version spec old new random (Illegal k) is = absurd is.finds
 
 empty_step : (version : Version) (list : List Record) (spec : Spec) (fields : List (List ℕ)) (fate : Fate) (secret : Option Secret) → length list ≡ 0
-    → secret_from spec fields ≡ secret
-    → created (closed_on list) spec (record { version = version; failed_load = None; fields = fields; has_room = true; fate = fate })
-    ≡ drawing (concat fields) (begun (closed_on list) (record { version = version; failed_load = None; fields = fields; has_room = true; fate = fate }) secret)
+    → secret_of_fields spec fields ≡ secret
+    → created (closed_state list) spec (record { version = version; failed_load = None; fields = fields; has_room = true; fate = fate })
+    ≡ drawing (concat fields) (begun (closed_state list) (record { version = version; failed_load = None; fields = fields; has_room = true; fate = fate }) secret)
 empty_step version [] spec fields fate secret none is =
-    ap (λ s. drawing (concat fields) (begun (closed_on []) (record { version = version; failed_load = None; fields = fields; has_room = true; fate = fate }) s)) is
+    ap (λ s. drawing (concat fields) (begun (closed_state []) (record { version = version; failed_load = None; fields = fields; has_room = true; fate = fate }) s)) is
 empty_step version (first ∷ rest) spec fields fate secret none is = absurd (omega (arith, none))
 
 undrawn_random : {S R : Type 0} (g : store.Ghosts S) (r : source.Ghosts R) (version : Version) (spec : Spec) (old mid : S) (before after : R)
@@ -135,7 +135,7 @@ undrawn_random : {S R : Type 0} (g : store.Ghosts S) (r : source.Ghosts R) (vers
 undrawn_random g r version spec old mid before after is draws = record {
   chance = record { version = version; failed_load = None; fields = draws.fields; has_room = true; fate = acked };
   of_version = refl;
-  outcome = drawing (concat draws.fields) (refused (closed_on (g.list old)) RandomFailed);
+  outcome = drawing (concat draws.fields) (refused (closed_state (g.list old)) RandomFailed);
   step = empty_step version (g.list old) spec draws.fields acked None is.finds.1 draws.drawn;
   answer = refl;
   store = keeps_old g old mid (concat draws.fields) RandomFailed is.list is.moments is.finds.3 is.honest is.most;
@@ -203,7 +203,7 @@ old_moments g old mid new entry answer has leaves all is honest running =
 made_by_fate : {S R : Type 0} (g : store.Ghosts S) (r : source.Ghosts R) (version : Version) (spec : Spec) (old mid new : S) (before after : R) (secret : Secret) (fate : Fate)
     (outcome : Outcome AnyPublic) (answer : Result (Unit {0}) SignFault) (IsAnswer : Outcome AnyPublic → Type 0)
     → HasAppended g old mid new (KeyRecord (new_key version secret)) answer → (draws : DrawsSecret r spec before after (Ok secret))
-    → appended (closed_on (g.list old)) (KeyRecord (new_key version secret)) fate (λ records. published records (public_in (new_key version secret))) ≡ outcome
+    → appended (closed_state (g.list old)) (KeyRecord (new_key version secret)) fate (λ records. published records (any_public_of (new_key version secret))) ≡ outcome
     → outcome.drawn ≡ [] → IsAnswer (drawing (concat draws.fields) outcome) → KeepsStore g old new (g.list old) (drawing (concat draws.fields) outcome)
     → g.stopped new ≡ (is_fault is_store_failed outcome.answer || g.stopped old)
     → Counts is_random_failed (r.failures before) (r.failures after) outcome.answer
@@ -244,9 +244,9 @@ made g r version spec old mid new before after secret table records can draws ha
     let (public, is) = spec_public spec draws.fields secret can draws.drawn in
     let loaded = has.looked in
     let stored = has.appended in
-    made_by_fate g r version spec old mid new before after secret acked (answered (open_on list) public) (Ok tt) (IsTakenUp (Ok table)) has draws
+    made_by_fate g r version spec old mid new before after secret acked (answered (open_state list) public) (Ok tt) (IsTakenUp (Ok table)) has draws
     (ap (published list) is) refl
-    (public, refl, ap (λ l. public_of_key (key_in l)) records ∙ is, records ∙ sym (alone (g.list old) entry loaded.finds.1))
+    (public, refl, ap (λ l. public_of_key (the_key l)) records ∙ is, records ∙ sym (alone (g.list old) entry loaded.finds.1))
     (record {
       list = record { more = entry ∷ []; list = stored.stored.0 ∙ ap (λ l. l ++ entry ∷ []) loaded.list; records = refl };
       moments = both_moments g old mid new entry (Ok tt) _ has (append-nil _);
@@ -295,7 +295,7 @@ unmade g r version spec old mid new before after secret OutOfMemory draws has =
     let entry = KeyRecord (new_key version secret) in
     let loaded = has.looked in
     let stored = has.appended in
-    made_by_fate g r version spec old mid new before after secret no_memory (refused (closed_on (g.list old)) OutOfMemory) (Err OutOfMemory)
+    made_by_fate g r version spec old mid new before after secret no_memory (refused (closed_state (g.list old)) OutOfMemory) (Err OutOfMemory)
     (IsTakenUp (Err OutOfMemory)) has draws refl refl refl
     (record {
       list = record { more = []; list = stored.stored.0 ∙ loaded.list ∙ sym (append-nil _); records = sym (append-nil _) };

@@ -9,7 +9,7 @@ use Rattle.state_file.specs.declared.record.Key.{Key}
 use Rattle.state_file.specs.declared.record.Record.{Record}
 use Rattle.state_file.specs.declared.record.Secret.{Secret}
 use Rattle.sign_core.specs.declared.trees.Tree.{Tree}
-use Rattle.sign_core.specs.Records.{current, free_at, key_in, next_at}
+use Rattle.sign_core.specs.Records.{current, free_at, the_key, next_at}
 use Rattle.sign_core.proofs.Found.{next_of}
 use Rattle.sign_core.specs.inner.Links.{IsTreeAt}
 use Rattle.sign_core.specs.Trees.{tree_at, with_next}
@@ -53,7 +53,7 @@ not_free secret records level found is none free = none_free secret records (cur
 pub tree_stands : (records : List Record) (level place : ℕ) → current level records ≡ Some place → IsTreeAt records level place
 tree_stands records level place is = current_stands records (length records) level place (current_is level records place is)
 
-pub leaf_inside : (key : Key) (trees : Trees) (records : List Record) (level place leaf : ℕ) → key_in records ≡ Some key → trees_of key.secret ≡ Some trees
+pub leaf_inside : (key : Key) (trees : Trees) (records : List Record) (level place leaf : ℕ) → the_key records ≡ Some key → trees_of key.secret ≡ Some trees
     → level < levels_of key.secret → HasFree key.secret records level place leaf → leaf < 2 ^ height_of (secret_at trees records place).pair.tree
 leaf_inside key trees records level place leaf keyed these few has =
     let at = tree_stands records level place has.current_is in

@@ -9,10 +9,10 @@ use Rattle.state_file.specs.declared.record.Key.{Key}
 use Rattle.state_file.specs.declared.record.Record.{Record}
 use Rattle.sign_core.specs.declared.fault.SignFault.TheVariants.{Damaged}
 use Rattle.sign_core.specs.Opened.{IsDamagedFor, IsFirstDamaged}
-use Rattle.sign_core.specs.Records.{are_same, binding_in, deepest, has_moved, key_in, wanted_count, is_long}
-use Rattle.sign_core.specs.Textbook.{chain, damaged_in, digest_at, is_sound_at, tree_before}
+use Rattle.sign_core.specs.Records.{are_same, binding_at, deepest, has_moved, the_key, wanted_count, is_long}
+use Rattle.sign_core.specs.Textbook.{chain, damaged_at, digest_at, is_sound_at, current_at}
 use Rattle.sign_core.specs.World.{Chance, Outcome, State, requested}
-use Rattle.sign_core.specs.inner.Cases.{bound_anew, bound_sound, repeated, repeated_sound, requested_of, requested_under}
+use Rattle.sign_core.specs.inner.Cases.{bound_level, bound_sound, repeated, repeated_sound, requested_binding, requested_key}
 use Rattle.sign_core.proofs.Ends.{ended_bound_below, not_damaged}
 use Rattle.sign_core.proofs.OnceKept.{kept_choice}
 
@@ -61,7 +61,7 @@ not_false : (b : Bool) → not b ≡ false → b ≡ true
 not_false true is = refl
 not_false false is = absurd (cc)
 
-first_damaged : (key : Key) (records : List Record) (level tree slot : ℕ) → damaged_in key level records tree ≡ Some slot
+first_damaged : (key : Key) (records : List Record) (level tree slot : ℕ) → damaged_at key level records tree ≡ Some slot
     → IsFirstDamaged key records level tree slot
 first_damaged key records level tree slot is =
     let first = find_first (λ k. not (is_sound_at key records k)) (chain level records tree) slot is in
@@ -81,7 +81,7 @@ module _ (limit : ℕ) (state : State) (key : Key) (name : List ℕ) (chance : C
       → IsDamagedFor key state.records found slot × (outcome.state ≡ state)
 
   names_repeated_sound : (k : ℕ) (bound : Bound) (damaged : Option ℕ)
-      → damaged_in key (bottom_of key.secret) state.records (tree_before (bottom_of key.secret) state.records k) ≡ damaged
+      → damaged_at key (bottom_of key.secret) state.records (current_at (bottom_of key.secret) state.records k) ≡ damaged
       → Names (Some (k, bound)) (repeated_sound state key k bound damaged)
   names_repeated_sound k bound (Some slot) is other answer =
       let same : slot ≡ other = cc (answer) in
@@ -95,10 +95,10 @@ module _ (limit : ℕ) (state : State) (key : Key) (name : List ℕ) (chance : C
       kept_choice (Names (Some (k, bound))) (not (are_same (digest_at key state.records k bound.leaf bound.randomizer message) bound.digest)) _ _
       (λ other slot answer. absurd (cc (answer)))
       (λ same. kept_choice (Names (Some (k, bound))) (not chance.has_room) _ _ (λ none slot answer. absurd (cc (answer)))
-      (λ room. names_repeated_sound k bound (damaged_in key bottom state.records (tree_before bottom state.records k)) refl))
+      (λ room. names_repeated_sound k bound (damaged_at key bottom state.records (current_at bottom state.records k)) refl))
 
   names_sound : (level : ℕ) (damaged : Option ℕ) → deepest key.secret state.records ≡ Some level
-      → damaged_in key level state.records (tree_before level state.records (length state.records)) ≡ damaged
+      → damaged_at key level state.records (current_at level state.records (length state.records)) ≡ damaged
       → Names None (bound_sound state key name chance level damaged)
   names_sound level (Some slot) free is other answer =
       let same : slot ≡ other = cc (answer) in
@@ -107,28 +107,28 @@ module _ (limit : ℕ) (state : State) (key : Key) (name : List ℕ) (chance : C
       absurd (ended_bound_below (λ outcome. outcome.answer ≢ Err (Damaged other)) (not_damaged other) key name chance (bottom_of key.secret - level) chance.trees
       state.records answer)
 
-  names_anew : (level : Option ℕ) → deepest key.secret state.records ≡ level → Names None (bound_anew limit state key name chance level)
+  names_anew : (level : Option ℕ) → deepest key.secret state.records ≡ level → Names None (bound_level limit state key name chance level)
   names_anew None free = λ slot answer. absurd (cc (answer))
   names_anew (Some level) free =
       kept_choice (Names None) (nat_lt limit (length state.records + wanted_count key.secret level)) _ _ (λ full slot answer. absurd (cc (answer)))
       (λ fits. kept_choice (Names None) (not chance.has_room) _ _ (λ none slot answer. absurd (cc (answer)))
-      (λ room. names_sound level (damaged_in key level state.records (tree_before level state.records (length state.records))) free refl))
+      (λ room. names_sound level (damaged_at key level state.records (current_at level state.records (length state.records))) free refl))
 
-  names_of : (found : Option (ℕ × Bound)) → Names found (requested_of limit state key name chance found)
+  names_of : (found : Option (ℕ × Bound)) → Names found (requested_binding limit state key name chance found)
   names_of (Some (k, bound)) = names_repeated k bound chance.given
   names_of None =
       kept_choice (Names None) (is_long key name) _ _ (λ long slot answer. absurd (cc (answer)))
       (λ short. names_anew (deepest key.secret state.records) refl)
 
-  names_request : key_in state.records ≡ Some key → Names (binding_in state.records name) (requested limit state name chance)
+  names_request : the_key state.records ≡ Some key → Names (binding_at state.records name) (requested limit state name chance)
   names_request keyed =
-      let names = Names (binding_in state.records name) in
-      subst (λ found. names (requested_under limit state name chance found)) (sym keyed)
+      let names = Names (binding_at state.records name) in
+      subst (λ found. names (requested_key limit state name chance found)) (sym keyed)
       (kept_choice names (not state.is_open) _ _ (λ closed slot answer. absurd (cc (answer)))
       (λ open_now. kept_choice names (has_moved state.records) _ _ (λ moved slot answer. absurd (cc (answer)))
-      (λ stays. names_of (binding_in state.records name))))
+      (λ stays. names_of (binding_at state.records name))))
 
-pub names_damaged : (limit : ℕ) (state : State) (name : List ℕ) (chance : Chance) (key : Key) (slot : ℕ) → key_in state.records ≡ Some key
+pub names_damaged : (limit : ℕ) (state : State) (name : List ℕ) (chance : Chance) (key : Key) (slot : ℕ) → the_key state.records ≡ Some key
     → (requested limit state name chance).answer ≡ Err (Damaged slot)
-    → IsDamagedFor key state.records (binding_in state.records name) slot × ((requested limit state name chance).state ≡ state)
+    → IsDamagedFor key state.records (binding_at state.records name) slot × ((requested limit state name chance).state ≡ state)
 names_damaged limit state name chance key slot keyed answer = names_request limit state key name chance keyed slot answer

@@ -14,7 +14,7 @@ use Rattle.sign_core.specs.inner.Source.{DrawsBytes}
 use Rattle.sign_core.specs.Source.{Provides}
 use Rattle.sign_core.specs.Events.{AreFields, key_sizes}
 use Rattle.sign_core.specs.inner.Signer.{DrawsSecret}
-use Rattle.sign_core.specs.World.{secret_from}
+use Rattle.sign_core.specs.World.{secret_of_fields}
 
 pub provides_none : (upcoming : Option (List ℕ)) → Provides upcoming [] upcoming
 provides_none None = refl
@@ -51,7 +51,7 @@ more_drawn r old mid new fields field so_far more =
     }
 
 pub all_drawn : {R : Type 0} (r : source.Ghosts R) (spec : Spec) (old new : R) (fields : List (List ℕ)) (secret : Secret) → HasDrawn r old new fields
-    → AreFields (key_sizes spec) fields → secret_from spec fields ≡ Some secret → DrawsSecret r spec old new (Ok secret)
+    → AreFields (key_sizes spec) fields → secret_of_fields spec fields ≡ Some secret → DrawsSecret r spec old new (Ok secret)
 all_drawn r spec old new fields secret has are is = record {
   fields = fields;
   drawn = is;
@@ -61,7 +61,7 @@ all_drawn r spec old new fields secret has are is = record {
 }
 
 pub draw_stops : {R : Type 0} (r : source.Ghosts R) (spec : Spec) (old mid new : R) (fields : List (List ℕ)) (fault : SignFault) → HasDrawn r old mid fields
-    → AreFields (key_sizes spec) fields → secret_from spec fields ≡ None → Draws r mid new (Err fault) → DrawsSecret r spec old new (Err fault)
+    → AreFields (key_sizes spec) fields → secret_of_fields spec fields ≡ None → Draws r mid new (Err fault) → DrawsSecret r spec old new (Err fault)
 draw_stops r spec old mid new fields RandomFailed has are is failed = record {
   fields = fields;
   drawn = is;

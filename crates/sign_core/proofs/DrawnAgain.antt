@@ -15,20 +15,20 @@ use Rattle.sign_core.specs.declared.fault.SignFault.{SignFault}
 use Rattle.sign_core.specs.declared.fault.SignFault.TheVariants.{Changed, Damaged, Exhausted, LedgerFull, MessageRead, OutOfMemory, LongName}
 use Rattle.sign_core.specs.declared.fault.SignFault.TheVariants.{RandomRepeated, Stopped}
 use Rattle.sign_core.specs.declared.fault.SignFault.TheVariants.{Moved as MovedAway}
-use Rattle.sign_core.specs.Records.{are_same, binding_in, deepest, has_identifier, has_moved, key_in, next_at, wanted_count, is_long}
+use Rattle.sign_core.specs.Records.{are_same, binding_at, deepest, has_identifier, has_moved, the_key, next_at, wanted_count, is_long}
 use Rattle.sign_core.specs.AfterRefusal.{WantsRecords}
 use Rattle.sign_core.specs.Events.{AreDrawsOf, AreFields, randomizer_sizes}
 use Rattle.sign_core.specs.Requests.{DrewAgain, bytes_drawn}
 use Rattle.sign_core.specs.Events.{tree_sizes}
 use Rattle.sign_core.specs.World.{Chance, Draw, Fate, Outcome, State, acked, answered, appended}
-use Rattle.sign_core.specs.inner.Cases.{bound_anew, bound_sound, bound_with}
+use Rattle.sign_core.specs.inner.Cases.{bound_level, bound_sound, bound_message}
 use Rattle.sign_core.specs.World.{cut_new, cut_old, drawing, extend_record}
-use Rattle.sign_core.specs.inner.Cases.{extended, extended_by, extended_with}
-use Rattle.sign_core.specs.World.{first_draw, no_memory, open_on}
-use Rattle.sign_core.specs.inner.Cases.{bound_below}
-use Rattle.sign_core.specs.World.{randomizer_from, reading, refused, requested}
-use Rattle.sign_core.specs.inner.Cases.{repeated, repeated_sound, requested_of, requested_under}
-use Rattle.sign_core.specs.Textbook.{Trees, damaged_in, digest_at, lms_secret, tree_before, trees_of}
+use Rattle.sign_core.specs.inner.Cases.{extended, extended_identifier, extended_seed}
+use Rattle.sign_core.specs.World.{first_draw, no_memory, open_state}
+use Rattle.sign_core.specs.inner.Cases.{bound_trees}
+use Rattle.sign_core.specs.World.{randomizer_of_fields, reading, refused, requested}
+use Rattle.sign_core.specs.inner.Cases.{repeated, repeated_sound, requested_binding, requested_key}
+use Rattle.sign_core.specs.Textbook.{Trees, damaged_at, digest_at, lms_secret, current_at, trees_of}
 use Rattle.sign_core.proofs.BoundBelow.{fields_drawn_before}
 use Rattle.sign_core.proofs.OnceKept.{kept_choice}
 use Rattle.sign_core.proofs.Requests.{first_drawn, later_drawn}
@@ -60,41 +60,41 @@ module _ (Q : Outcome (List ℕ) → Type 0) (state : State) (chance : Chance) (
       (λ room. settled_repeated_sound key k bound _)))
 
 module _ (Q : Outcome (List ℕ) → Type 0) (limit : ℕ) (state : State) (name : List ℕ) (chance : Chance) (refuses : IsOfRefusals Q state) where
-  settled_sound : (key : Key) (level : ℕ) (damaged : Option ℕ) → Q (bound_below key name chance (bottom_of key.secret - level) chance.trees state.records)
+  settled_sound : (key : Key) (level : ℕ) (damaged : Option ℕ) → Q (bound_trees key name chance (bottom_of key.secret - level) chance.trees state.records)
       → Q (bound_sound state key name chance level damaged)
   settled_sound key level (Some slot) rest = refuses (Damaged slot) (λ e. cc)
   settled_sound key level None rest = rest
 
-  settled_anew : (key : Key) (found : Option ℕ) → deepest key.secret state.records ≡ found
+  settled_level : (key : Key) (found : Option ℕ) → deepest key.secret state.records ≡ found
       → ((level : ℕ) → deepest key.secret state.records ≡ Some level
-      → Q (bound_below key name chance (bottom_of key.secret - level) chance.trees state.records))
-      → Q (bound_anew limit state key name chance found)
-  settled_anew key None is rest = refuses Exhausted (λ e. cc)
-  settled_anew key (Some level) is rest =
+      → Q (bound_trees key name chance (bottom_of key.secret - level) chance.trees state.records))
+      → Q (bound_level limit state key name chance found)
+  settled_level key None is rest = refuses Exhausted (λ e. cc)
+  settled_level key (Some level) is rest =
       kept_choice Q (nat_lt limit (length state.records + wanted_count key.secret level)) _ _ (λ full. refuses LedgerFull (λ e. cc))
       (λ fits. kept_choice Q (not chance.has_room) _ _ (λ none. refuses OutOfMemory (λ e. cc))
       (λ room. settled_sound key level
-      (damaged_in key level state.records (tree_before level state.records (length state.records))) (rest level is)))
+      (damaged_at key level state.records (current_at level state.records (length state.records))) (rest level is)))
 
-  settled_of : (key : Key) (found : Option (ℕ × Bound)) → binding_in state.records name ≡ found
+  settled_of : (key : Key) (found : Option (ℕ × Bound)) → binding_at state.records name ≡ found
       → ((k : ℕ) (bound : Bound) → Q (repeated state key k bound chance chance.given))
-      → (binding_in state.records name ≡ None → (level : ℕ) → deepest key.secret state.records ≡ Some level
-      → Q (bound_below key name chance (bottom_of key.secret - level) chance.trees state.records))
-      → Q (requested_of limit state key name chance found)
+      → (binding_at state.records name ≡ None → (level : ℕ) → deepest key.secret state.records ≡ Some level
+      → Q (bound_trees key name chance (bottom_of key.secret - level) chance.trees state.records))
+      → Q (requested_binding limit state key name chance found)
   settled_of key (Some (k, bound)) is again rest = again k bound
   settled_of key None is again rest = kept_choice Q (is_long key name) _ _ (λ long. refuses LongName (λ e. cc))
-      (λ short. settled_anew key (deepest key.secret state.records) refl (rest is))
+      (λ short. settled_level key (deepest key.secret state.records) refl (rest is))
 
-  pub settled_under : (found : Option Key) → key_in state.records ≡ found
+  pub settled_key : (found : Option Key) → the_key state.records ≡ found
       → ((key : Key) (k : ℕ) (bound : Bound) → Q (repeated state key k bound chance chance.given))
       → ((key : Key) (level : ℕ) → WantsRecords state name key level
-      → Q (bound_below key name chance (bottom_of key.secret - level) chance.trees state.records))
-      → Q (requested_under limit state name chance found)
-  settled_under None keyed again rest = refuses Stopped (λ e. cc)
-  settled_under (Some key) keyed again rest =
+      → Q (bound_trees key name chance (bottom_of key.secret - level) chance.trees state.records))
+      → Q (requested_key limit state name chance found)
+  settled_key None keyed again rest = refuses Stopped (λ e. cc)
+  settled_key (Some key) keyed again rest =
       kept_choice Q (not state.is_open) _ _ (λ closed. refuses Stopped (λ e. cc))
       (λ open_now. kept_choice Q (has_moved state.records) _ _ (λ moved. refuses MovedAway (λ e. cc))
-      (λ stays. settled_of key (binding_in state.records name) refl (again key)
+      (λ stays. settled_of key (binding_at state.records name) refl (again key)
       (λ unbound level is. rest key level (record {
         active = record { is_open = not_closed state.is_open open_now; stays = stays; keyed = keyed };
         unbound = unbound;
@@ -113,7 +113,7 @@ Repeats before draws outcome =
     outcome.answer ≡ Err RandomRepeated → DrewAgain before draws outcome.state.records outcome.drawn
 
 repeats_bound : (state : State) (key : Key) (name : List ℕ) (randomizer given : Option (List ℕ)) (fate : Fate)
-    → (bound_with state key name randomizer given fate).answer ≡ Err RandomRepeated → ⊥
+    → (bound_message state key name randomizer given fate).answer ≡ Err RandomRepeated → ⊥
 repeats_bound state key name None given fate is = cc
 repeats_bound state key name (Some randomizer) None fate is = cc
 repeats_bound state key name (Some randomizer) (Some message) acked is = cc
@@ -144,7 +144,7 @@ repeats_append : (records : List Record) (entry : Record) (fate : Fate) (draw : 
     (identifier seed randomizer : List ℕ) (next : List Record → Outcome (List ℕ))
     → draw.fields ≡ identifier ∷ seed ∷ randomizer ∷ [] → ((all : List Record) → Repeats all draws (next all))
     → Repeats records (draw ∷ draws)
-    (drawing identifier (drawing (seed ++ randomizer) (appended (open_on records) entry fate next)))
+    (drawing identifier (drawing (seed ++ randomizer) (appended (open_state records) entry fate next)))
 repeats_append records entry acked draw draws identifier seed randomizer next are later is =
     let rest = next (records ++ entry ∷ []) in
     one_more records entry draw draws identifier seed randomizer rest.state.records rest.drawn are
@@ -153,26 +153,26 @@ repeats_append records entry cut_old draw draws identifier seed randomizer next 
 repeats_append records entry cut_new draw draws identifier seed randomizer next are later is = absurd (cc)
 repeats_append records entry no_memory draw draws identifier seed randomizer next are later is = absurd (cc)
 
-repeats_with : (records : List Record) (trees : Trees) (level leaf : ℕ) (identifier : List ℕ) (fields : List (List ℕ))
+repeats_seed : (records : List Record) (trees : Trees) (level leaf : ℕ) (identifier : List ℕ) (fields : List (List ℕ))
     (fate : Fate) (draw : Draw) (draws : List Draw) (next : List Record → Outcome (List ℕ))
     → draw.fields ≡ identifier ∷ fields → ((all : List Record) → Repeats all draws (next all))
     → Repeats records (draw ∷ draws)
-    (drawing identifier (extended_with (open_on records) trees level leaf identifier fields fate next))
-repeats_with records trees level leaf identifier [] fate draw draws next are later is = absurd (cc)
-repeats_with records trees level leaf identifier (seed ∷ []) fate draw draws next are later is = absurd (cc)
-repeats_with records trees level leaf identifier (seed ∷ randomizer ∷ []) fate draw draws next are later is =
+    (drawing identifier (extended_seed (open_state records) trees level leaf identifier fields fate next))
+repeats_seed records trees level leaf identifier [] fate draw draws next are later is = absurd (cc)
+repeats_seed records trees level leaf identifier (seed ∷ []) fate draw draws next are later is = absurd (cc)
+repeats_seed records trees level leaf identifier (seed ∷ randomizer ∷ []) fate draw draws next are later is =
     repeats_append records _ fate draw draws identifier seed randomizer next are later is
-repeats_with records trees level leaf identifier (seed ∷ randomizer ∷ more ∷ rest) fate draw draws next are later is =
+repeats_seed records trees level leaf identifier (seed ∷ randomizer ∷ more ∷ rest) fate draw draws next are later is =
     absurd (cc)
 
-repeats_by : (records : List Record) (trees : Trees) (level leaf : ℕ) (fields : List (List ℕ)) (draw : Draw) (draws : List Draw)
+repeats_identifier : (records : List Record) (trees : Trees) (level leaf : ℕ) (fields : List (List ℕ)) (draw : Draw) (draws : List Draw)
     (next : List Record → Outcome (List ℕ)) → draw.fields ≡ fields → ((all : List Record) → Repeats all draws (next all))
-    → Repeats records (draw ∷ draws) (extended_by (open_on records) trees level leaf fields draw.fate next)
-repeats_by records trees level leaf [] draw draws next are later = λ is. absurd (cc)
-repeats_by records trees level leaf (identifier ∷ fields) draw draws next are later =
+    → Repeats records (draw ∷ draws) (extended_identifier (open_state records) trees level leaf fields draw.fate next)
+repeats_identifier records trees level leaf [] draw draws next are later = λ is. absurd (cc)
+repeats_identifier records trees level leaf (identifier ∷ fields) draw draws next are later =
     kept_choice (λ outcome. Repeats records (draw ∷ draws) (drawing identifier outcome))
-    (has_identifier records identifier) (refused (open_on records) RandomRepeated)
-    (extended_with (open_on records) trees level leaf identifier fields draw.fate next)
+    (has_identifier records identifier) (refused (open_state records) RandomRepeated)
+    (extended_seed (open_state records) trees level leaf identifier fields draw.fate next)
     (λ there is. record {
       begun = 0;
       draw = draw;
@@ -184,29 +184,29 @@ repeats_by records trees level leaf (identifier ∷ fields) draw draws next are 
       stands = there;
       drawn_is = append-nil identifier;
     })
-    (λ new. repeats_with records trees level leaf identifier fields draw.fate draw draws next are later)
+    (λ new. repeats_seed records trees level leaf identifier fields draw.fate draw draws next are later)
 
 repeats_extended : (records : List Record) (key : Key) (level : ℕ) (trees : Option Trees) (draw : Draw) (draws : List Draw)
     (next : List Record → Outcome (List ℕ)) → ((all : List Record) → Repeats all draws (next all))
-    → Repeats records (draw ∷ draws) (extended (open_on records) key level trees draw next)
+    → Repeats records (draw ∷ draws) (extended (open_state records) key level trees draw next)
 repeats_extended records key level None draw draws next later = λ is. absurd (cc)
 repeats_extended records key level (Some trees) draw draws next later =
-    repeats_by records trees level (next_at key.secret records (level - 1)) draw.fields draw draws next refl later
+    repeats_identifier records trees level (next_at key.secret records (level - 1)) draw.fields draw draws next refl later
 
 -- no 24 without a draw for a new tree
 undrawn : (records : List Record) (key : Key) (level : ℕ) (trees : Option Trees) (next : List Record → Outcome (List ℕ))
-    → (extended (open_on records) key level trees (first_draw []) next).answer ≡ Err RandomRepeated → ⊥
+    → (extended (open_state records) key level trees (first_draw []) next).answer ≡ Err RandomRepeated → ⊥
 undrawn records key level None next is = cc
 undrawn records key level (Some trees) next is = cc
 
 repeats_bound_below : (key : Key) (name : List ℕ) (chance : Chance) (below : ℕ) (draws : List Draw) (records : List Record)
-    → Repeats records draws (bound_below key name chance below draws records)
+    → Repeats records draws (bound_trees key name chance below draws records)
 repeats_bound_below key name chance zero draws records = λ is.
-    absurd (repeats_bound (open_on records) key name (randomizer_from key.secret chance.bound.fields) chance.given chance.bound.fate is)
+    absurd (repeats_bound (open_state records) key name (randomizer_of_fields key.secret chance.bound.fields) chance.given chance.bound.fate is)
 repeats_bound_below key name chance (suc below) [] records = λ is.
-    absurd (undrawn records key (bottom_of key.secret - below) (trees_of key.secret) (bound_below key name chance below []) is)
+    absurd (undrawn records key (bottom_of key.secret - below) (trees_of key.secret) (bound_trees key name chance below []) is)
 repeats_bound_below key name chance (suc below) (draw ∷ draws) records =
-    repeats_extended records key (bottom_of key.secret - below) (trees_of key.secret) draw draws (bound_below key name chance below draws)
+    repeats_extended records key (bottom_of key.secret - below) (trees_of key.secret) draw draws (bound_trees key name chance below draws)
     (repeats_bound_below key name chance below draws)
 
 pub drawn_again : (limit : ℕ) (state : State) (name : List ℕ) (chance : Chance) → (requested limit state name chance).answer ≡ Err RandomRepeated
@@ -216,7 +216,7 @@ drawn_again limit state name chance =
     let all = Repeats state.records chance.trees in
     let settled : IsSettled all state =
     record { refused_for = λ fault other is. absurd (other (cc)); gives = λ signature is. absurd (cc); read = λ outcome again. again } in
-    settled_under all limit state name chance settled.refused_for (key_in state.records) refl
+    settled_key all limit state name chance settled.refused_for (the_key state.records) refl
     (λ key k bound. settled_repeated all state chance settled key k bound chance.given)
     (λ key level wants. repeats_bound_below key name chance (bottom_of key.secret - level) chance.trees state.records)
 
@@ -241,70 +241,70 @@ most_append most state entry cut_new next later = omega arith
 most_append most state entry no_memory next later = omega arith
 
 most_bound : (state : State) (key : Key) (name : List ℕ) (randomizer given : Option (List ℕ)) (fate : Fate)
-    → DrawsMost 0 (bound_with state key name randomizer given fate)
+    → DrawsMost 0 (bound_message state key name randomizer given fate)
 most_bound state key name None given fate = omega arith
 most_bound state key name (Some randomizer) None fate = omega arith
 most_bound state key name (Some randomizer) (Some message) fate =
-    most_append 0 state _ fate (λ records. answered (open_on records) _) (λ all. omega arith)
+    most_append 0 state _ fate (λ records. answered (open_state records) _) (λ all. omega arith)
 
-most_with : (most : ℕ) (state : State) (trees : Trees) (level leaf : ℕ) (identifier : List ℕ) (fields : List (List ℕ)) (fate : Fate)
+most_seed : (most : ℕ) (state : State) (trees : Trees) (level leaf : ℕ) (identifier : List ℕ) (fields : List (List ℕ)) (fate : Fate)
     (next : List Record → Outcome (List ℕ)) → AreFields (32 ∷ 32 ∷ []) fields → ((all : List Record) → DrawsMost most (next all))
-    → DrawsMost (64 + most) (extended_with state trees level leaf identifier fields fate next)
-most_with most state trees level leaf identifier [] fate next are later = omega arith
-most_with most state trees level leaf identifier (seed ∷ []) fate next are later =
+    → DrawsMost (64 + most) (extended_seed state trees level leaf identifier fields fate next)
+most_seed most state trees level leaf identifier [] fate next are later = omega arith
+most_seed most state trees level leaf identifier (seed ∷ []) fate next are later =
     omega (arith, are.0, length-append seed [], length-append (seed ++ []) [])
-most_with most state trees level leaf identifier (seed ∷ randomizer ∷ []) fate next are later =
+most_seed most state trees level leaf identifier (seed ∷ randomizer ∷ []) fate next are later =
     let secret = lms_secret (slice_index_or trees.pairs level trees.top.pair) identifier seed in
     let entry = extend_record trees state.records level secret randomizer leaf in
     let rest = most_append most state entry fate next later in
     omega (arith, are.0, are.2.0, length-append seed randomizer, length-append (seed ++ randomizer) (appended state entry fate next).drawn, rest)
-most_with most state trees level leaf identifier (seed ∷ randomizer ∷ more ∷ rest) fate next are later = absurd are.2.2
+most_seed most state trees level leaf identifier (seed ∷ randomizer ∷ more ∷ rest) fate next are later = absurd are.2.2
 
-most_by : (most : ℕ) (state : State) (trees : Trees) (level leaf : ℕ) (fields : List (List ℕ)) (fate : Fate)
+most_identifier : (most : ℕ) (state : State) (trees : Trees) (level leaf : ℕ) (fields : List (List ℕ)) (fate : Fate)
     (next : List Record → Outcome (List ℕ)) → AreFields tree_sizes fields → ((all : List Record) → DrawsMost most (next all))
-    → DrawsMost (80 + most) (extended_by state trees level leaf fields fate next)
-most_by most state trees level leaf [] fate next are later = omega arith
-most_by most state trees level leaf (identifier ∷ fields) fate next are later =
+    → DrawsMost (80 + most) (extended_identifier state trees level leaf fields fate next)
+most_identifier most state trees level leaf [] fate next are later = omega arith
+most_identifier most state trees level leaf (identifier ∷ fields) fate next are later =
     let came : Outcome (List ℕ) = if has_identifier state.records identifier then refused state RandomRepeated
-    else extended_with state trees level leaf identifier fields fate next in
+    else extended_seed state trees level leaf identifier fields fate next in
     let rest : DrawsMost (64 + most) came = kept_choice (DrawsMost (64 + most)) (has_identifier state.records identifier) (refused state RandomRepeated)
-    (extended_with state trees level leaf identifier fields fate next) (λ there. omega arith)
-    (λ new. most_with most state trees level leaf identifier fields fate next are.2 later) in
+    (extended_seed state trees level leaf identifier fields fate next) (λ there. omega arith)
+    (λ new. most_seed most state trees level leaf identifier fields fate next are.2 later) in
     omega (arith, are.0, rest, length-append identifier came.drawn)
 
 most_extended : (most : ℕ) (state : State) (key : Key) (level : ℕ) (trees : Option Trees) (draw : Draw) (next : List Record → Outcome (List ℕ))
     → IsTreeDraw draw → ((all : List Record) → DrawsMost most (next all)) → DrawsMost (80 + most) (extended state key level trees draw next)
 most_extended most state key level None draw next are later = omega arith
 most_extended most state key level (Some trees) draw next are later =
-    most_by most state trees level (next_at key.secret state.records (level - 1)) draw.fields draw.fate next are later
+    most_identifier most state trees level (next_at key.secret state.records (level - 1)) draw.fields draw.fate next are later
 
 most_bound_below : (key : Key) (name : List ℕ) (chance : Chance) (below : ℕ) (draws : List Draw) (records : List Record) → AllByRecursion IsTreeDraw draws
     → AreFields (randomizer_sizes key.secret) chance.bound.fields
-    → DrawsMost (80 * below + sum (randomizer_sizes key.secret)) (bound_below key name chance below draws records)
+    → DrawsMost (80 * below + sum (randomizer_sizes key.secret)) (bound_trees key name chance below draws records)
 most_bound_below key name chance zero draws records trees bound =
-    let rest = bound_with (open_on records) key name (randomizer_from key.secret chance.bound.fields) chance.given chance.bound.fate in
-    let none = most_bound (open_on records) key name (randomizer_from key.secret chance.bound.fields) chance.given chance.bound.fate in
+    let rest = bound_message (open_state records) key name (randomizer_of_fields key.secret chance.bound.fields) chance.given chance.bound.fate in
+    let none = most_bound (open_state records) key name (randomizer_of_fields key.secret chance.bound.fields) chance.given chance.bound.fate in
     omega (arith, none, fields_size (randomizer_sizes key.secret) chance.bound.fields bound, length-append (concat chance.bound.fields) rest.drawn)
 most_bound_below key name chance (suc below) draws records trees bound =
     let most = 80 * below + sum (randomizer_sizes key.secret) in
-    let whole = most_extended most (open_on records) key (bottom_of key.secret - below) (trees_of key.secret) (first_draw draws)
-    (bound_below key name chance below (drop 1 draws)) (first_drawn draws trees)
+    let whole = most_extended most (open_state records) key (bottom_of key.secret - below) (trees_of key.secret) (first_draw draws)
+    (bound_trees key name chance below (drop 1 draws)) (first_drawn draws trees)
     (λ all. most_bound_below key name chance below (drop 1 draws) all (later_drawn draws trees) bound) in
     omega (arith, whole)
 
-pub drawn_most : (limit : ℕ) (state : State) (key : Key) (name : List ℕ) (chance : Chance) → key_in state.records ≡ Some key
+pub drawn_most : (limit : ℕ) (state : State) (key : Key) (name : List ℕ) (chance : Chance) → the_key state.records ≡ Some key
     → AreDrawsOf key.secret chance
     → length (requested limit state name chance).drawn ≤ sum tree_sizes * bottom_of key.secret + sum (randomizer_sizes key.secret)
 drawn_most limit state key name chance keyed drawn =
     let most = 80 * bottom_of key.secret + sum (randomizer_sizes key.secret) in
     let settled : IsSettled (DrawsMost most) state =
     record { refused_for = λ fault other. omega arith; gives = λ signature. omega arith; read = λ outcome draws. draws } in
-    settled_under (DrawsMost most) limit state name chance settled.refused_for (key_in state.records) refl
+    settled_key (DrawsMost most) limit state name chance settled.refused_for (the_key state.records) refl
     (λ own k bound. settled_repeated (DrawsMost most) state chance settled own k bound chance.given)
     (λ own level wants.
     let same : key ≡ own = cc (keyed, wants.active.keyed) in
     let inner = most_bound_below key name chance (bottom_of key.secret - level) chance.trees state.records drawn.trees drawn.bound in
-    subst (λ k. DrawsMost most (bound_below k name chance (bottom_of k.secret - level) chance.trees state.records)) same (omega (arith, inner)))
+    subst (λ k. DrawsMost most (bound_trees k name chance (bottom_of k.secret - level) chance.trees state.records)) same (omega (arith, inner)))
 
 -- ---- what is signed was read
 
@@ -319,40 +319,40 @@ read_append given state entry cut_new next later = λ signature is. absurd (cc)
 read_append given state entry no_memory next later = λ signature is. absurd (cc)
 
 read_bound : (state : State) (key : Key) (name : List ℕ) (randomizer given : Option (List ℕ)) (fate : Fate)
-    → IsRead given (bound_with state key name randomizer given fate)
+    → IsRead given (bound_message state key name randomizer given fate)
 read_bound state key name None given fate signature is = absurd (cc)
 read_bound state key name (Some randomizer) None fate signature is = absurd (cc)
 read_bound state key name (Some randomizer) (Some message) fate signature is = (refl, refl)
 
-read_with : (given : Option (List ℕ)) (state : State) (trees : Trees) (level leaf : ℕ) (identifier : List ℕ) (fields : List (List ℕ)) (fate : Fate)
+read_seed : (given : Option (List ℕ)) (state : State) (trees : Trees) (level leaf : ℕ) (identifier : List ℕ) (fields : List (List ℕ)) (fate : Fate)
     (next : List Record → Outcome (List ℕ)) → ((all : List Record) → IsRead given (next all))
-    → IsRead given (extended_with state trees level leaf identifier fields fate next)
-read_with given state trees level leaf identifier [] fate next later = λ signature is. absurd (cc)
-read_with given state trees level leaf identifier (seed ∷ []) fate next later = λ signature is. absurd (cc)
-read_with given state trees level leaf identifier (seed ∷ randomizer ∷ []) fate next later = read_append given state _ fate next later
-read_with given state trees level leaf identifier (seed ∷ randomizer ∷ more ∷ rest) fate next later = λ signature is. absurd (cc)
+    → IsRead given (extended_seed state trees level leaf identifier fields fate next)
+read_seed given state trees level leaf identifier [] fate next later = λ signature is. absurd (cc)
+read_seed given state trees level leaf identifier (seed ∷ []) fate next later = λ signature is. absurd (cc)
+read_seed given state trees level leaf identifier (seed ∷ randomizer ∷ []) fate next later = read_append given state _ fate next later
+read_seed given state trees level leaf identifier (seed ∷ randomizer ∷ more ∷ rest) fate next later = λ signature is. absurd (cc)
 
-read_by : (given : Option (List ℕ)) (state : State) (trees : Trees) (level leaf : ℕ) (fields : List (List ℕ)) (fate : Fate)
+read_identifier : (given : Option (List ℕ)) (state : State) (trees : Trees) (level leaf : ℕ) (fields : List (List ℕ)) (fate : Fate)
     (next : List Record → Outcome (List ℕ)) → ((all : List Record) → IsRead given (next all))
-    → IsRead given (extended_by state trees level leaf fields fate next)
-read_by given state trees level leaf [] fate next later = λ signature is. absurd (cc)
-read_by given state trees level leaf (identifier ∷ fields) fate next later =
+    → IsRead given (extended_identifier state trees level leaf fields fate next)
+read_identifier given state trees level leaf [] fate next later = λ signature is. absurd (cc)
+read_identifier given state trees level leaf (identifier ∷ fields) fate next later =
     kept_choice (IsRead given) (has_identifier state.records identifier) _ _ (λ there signature is. absurd (cc))
-    (λ new. read_with given state trees level leaf identifier fields fate next later)
+    (λ new. read_seed given state trees level leaf identifier fields fate next later)
 
 read_extended : (given : Option (List ℕ)) (state : State) (key : Key) (level : ℕ) (trees : Option Trees) (draw : Draw)
     (next : List Record → Outcome (List ℕ)) → ((all : List Record) → IsRead given (next all)) → IsRead given (extended state key level trees draw next)
 read_extended given state key level None draw next later = λ signature is. absurd (cc)
 read_extended given state key level (Some trees) draw next later =
-    read_by given state trees level (next_at key.secret state.records (level - 1)) draw.fields draw.fate next later
+    read_identifier given state trees level (next_at key.secret state.records (level - 1)) draw.fields draw.fate next later
 
 read_bound_below : (key : Key) (name : List ℕ) (chance : Chance) (below : ℕ) (draws : List Draw) (records : List Record)
-    → IsRead chance.given (bound_below key name chance below draws records)
+    → IsRead chance.given (bound_trees key name chance below draws records)
 read_bound_below key name chance zero draws records =
-    read_bound (open_on records) key name (randomizer_from key.secret chance.bound.fields) chance.given chance.bound.fate
+    read_bound (open_state records) key name (randomizer_of_fields key.secret chance.bound.fields) chance.given chance.bound.fate
 read_bound_below key name chance (suc below) draws records =
-    read_extended chance.given (open_on records) key (bottom_of key.secret - below) (trees_of key.secret) (first_draw draws)
-    (bound_below key name chance below (drop 1 draws)) (read_bound_below key name chance below (drop 1 draws))
+    read_extended chance.given (open_state records) key (bottom_of key.secret - below) (trees_of key.secret) (first_draw draws)
+    (bound_trees key name chance below (drop 1 draws)) (read_bound_below key name chance below (drop 1 draws))
 
 read_repeated : (state : State) (key : Key) (k : ℕ) (bound : Bound) (chance : Chance) (given : Option (List ℕ))
     → IsRead given (repeated state key k bound chance given)
@@ -362,7 +362,7 @@ read_repeated state key k bound chance (Some message) signature is = (refl, refl
 pub signed_read : (limit : ℕ) (state : State) (name signature : List ℕ) (chance : Chance) → (requested limit state name chance).answer ≡ Ok signature
     → IsSome chance.given × ((requested limit state name chance).is_read ≡ true)
 signed_read limit state name signature chance =
-    settled_under (IsRead chance.given) limit state name chance (λ fault other given is. absurd (cc))
-    (key_in state.records) refl (λ key k bound. read_repeated state key k bound chance chance.given)
+    settled_key (IsRead chance.given) limit state name chance (λ fault other given is. absurd (cc))
+    (the_key state.records) refl (λ key k bound. read_repeated state key k bound chance chance.given)
     (λ key level wants.
     read_bound_below key name chance (bottom_of key.secret - level) chance.trees state.records) signature

@@ -13,17 +13,17 @@ use Rattle.state_file.specs.declared.record.Record.TheVariants.{Key as KeyRecord
 use Rattle.state_file.specs.declared.record.Secret.{Secret}
 use Rattle.sign_core.specs.declared.key.AnyPublic.{AnyPublic}
 use Rattle.sign_core.specs.declared.fault.SignFault.{SignFault}
-use Rattle.sign_core.specs.Records.{can_follow, current, first_illegal, has_moved, key_in, leaves_of_current, next_at}
+use Rattle.sign_core.specs.Records.{can_follow, current, first_illegal, has_moved, the_key, leaves_of_current, next_at}
 use Rattle.sign_core.proofs.Found.{next_of}
 use Rattle.sign_core.specs.Events.{AllEvents, AreFields, IsEvent, key_sizes}
 use Rattle.sign_core.specs.World.{Creation, Event, Fate, Handed, Opening, Outcome, State, World, acked, after, appended, beginning}
 use Rattle.sign_core.specs.inner.Cases.{begun}
 use Rattle.sign_core.specs.World.{create}
-use Rattle.sign_core.specs.inner.Cases.{created_after}
+use Rattle.sign_core.specs.inner.Cases.{created_load}
 use Rattle.sign_core.specs.World.{cut_new, cut_old, new_key, no_memory, reopen, request, retire}
-use Rattle.sign_core.specs.inner.Cases.{opened_by, opened_on, published, retired_under}
-use Rattle.sign_core.specs.World.{run, secret_from, stop, migrate}
-use Rattle.sign_core.specs.Textbook.{HasSizes, SecretHasSizes, is_sound_at, public_in, root_by}
+use Rattle.sign_core.specs.inner.Cases.{opened_illegal, opened_key, published, retired_key}
+use Rattle.sign_core.specs.World.{run, secret_of_fields, stop, migrate}
+use Rattle.sign_core.specs.Textbook.{HasSizes, SecretHasSizes, is_sound_at, any_public_of, key_root}
 use Rattle.sign_core.proofs.Illegal.{legal_alone}
 use Rattle.sign_core.proofs.OnceKept.{IsKept, kept_empty, kept_grown}
 use Rattle.sign_core.proofs.Migrating.{kept_migrated}
@@ -34,7 +34,7 @@ use Rattle.state_file.specs.declared.record.Version.{Version}
 -- ---- the first record
 
 key_sound : (version : Version) (secret : Secret) (k : ℕ) → is_sound_at (new_key version secret) (KeyRecord (new_key version secret) ∷ []) k ≡ true
-key_sound version secret zero = (bytes_decides (root_by secret) (root_by secret)).1 refl
+key_sound version secret zero = (bytes_decides (key_root secret) (key_root secret)).1 refl
 key_sound version secret (suc k) = refl
 
 key_sizes_at : (version : Version) (secret : Secret) (k : ℕ) (entry : Record) → SecretHasSizes secret → slice_get (KeyRecord (new_key version secret) ∷ []) k ≡ Some entry → HasSizes entry
@@ -83,26 +83,26 @@ after_begun state handed chance (Some secret) kept empty sizes =
     let more : IsKept (state.records ++ KeyRecord (new_key chance.version secret) ∷ []) handed =
     subst (λ records. IsKept (records ++ KeyRecord (new_key chance.version secret) ∷ []) handed) (sym empty) first in
     after_choice handed (not chance.has_room) _ _ (λ none. kept)
-    (λ room. after_append state handed (KeyRecord (new_key chance.version secret)) chance.fate _ kept more (after_published _ handed (public_in (new_key chance.version secret)) more))
+    (λ room. after_append state handed (KeyRecord (new_key chance.version secret)) chance.fate _ kept more (after_published _ handed (any_public_of (new_key chance.version secret)) more))
 
 after_created : (failed : Option SignFault) (state : State) (handed : List Handed) (spec : Spec) (chance : Creation) → IsSpec spec
     → AreFields (key_sizes spec) chance.fields
-    → IsKept state.records handed → After handed (created_after failed state spec chance)
+    → IsKept state.records handed → After handed (created_load failed state spec chance)
 after_created (Some fault) state handed spec chance can fields kept = kept
 after_created None state handed spec chance can fields kept =
     after_choice handed (nat_le 1 (length state.records)) _ _ (λ there. kept)
-    (λ short. after_begun state handed chance (secret_from spec chance.fields) kept (none_there state.records short)
+    (λ short. after_begun state handed chance (secret_of_fields spec chance.fields) kept (none_there state.records short)
     (λ made is. secret_sizes spec chance.fields made can fields is))
 
 -- ---- open
 
-after_opened_on : (records : List Record) (handed : List Handed) (found : Option Key) → IsKept records handed → After handed (opened_on records found)
+after_opened_on : (records : List Record) (handed : List Handed) (found : Option Key) → IsKept records handed → After handed (opened_key records found)
 after_opened_on records handed None kept = kept
-after_opened_on records handed (Some key) kept = after_published records handed (public_in key) kept
+after_opened_on records handed (Some key) kept = after_published records handed (any_public_of key) kept
 
 after_opened : (state : State) (handed : List Handed) (chance : Opening) (illegal : Option ℕ) → IsKept state.records handed
-    → After handed (opened_by state chance illegal)
-after_opened state handed None None kept = after_opened_on state.records handed (key_in state.records) kept
+    → After handed (opened_illegal state chance illegal)
+after_opened state handed None None kept = after_opened_on state.records handed (the_key state.records) kept
 after_opened state handed None (Some k) kept = kept
 after_opened state handed (Some (slot, fault)) None kept = kept
 after_opened state handed (Some (slot, fault)) (Some k) kept = kept
@@ -125,8 +125,8 @@ retire_can key records upto stays inside beyond =
     and_from _ _ (not_from_false _ stays) (and_from _ _ there (le-leb upto (leaves_at key.secret bottom) within))
 
 after_retired : (limit : ℕ) (state : State) (handed : List Handed) (upto : ℕ) (fate : Fate) (found : Option Key) → IsKept state.records handed
-    → key_in state.records ≡ found
-    → After handed (retired_under limit state upto fate found)
+    → the_key state.records ≡ found
+    → After handed (retired_key limit state upto fate found)
 after_retired limit state handed upto fate None kept keyed = kept
 after_retired limit state handed upto fate (Some key) kept keyed =
     after_choice handed (not state.is_open) _ _ (λ closed. kept)
@@ -145,7 +145,7 @@ pub kept_after : (limit : ℕ) (world : World) (event : Event) → IsEvent event
 kept_after limit world (create spec chance) can kept = after_created chance.failed_load world.state world.handed spec chance can.0 can.1 kept
 kept_after limit world (reopen chance) can kept = after_opened world.state world.handed chance (first_illegal world.state.records) kept
 kept_after limit world (request name chance) can kept = kept_request limit world.state world.handed name chance can.1 kept
-kept_after limit world (retire upto fate) can kept = after_retired limit world.state world.handed upto fate (key_in world.state.records) kept refl
+kept_after limit world (retire upto fate) can kept = after_retired limit world.state world.handed upto fate (the_key world.state.records) kept refl
 kept_after limit world (migrate fate) can kept = kept_migrated world.state world.handed fate kept
 kept_after limit world stop can kept = kept
 

@@ -22,9 +22,9 @@ use Rattle.sign_core.specs.declared.serving.Reply.{Reply}
 use Rattle.sign_core.specs.declared.serving.Reply.TheVariants.{BadName, Refused, Signed}
 use Rattle.sign_core.specs.declared.source.Source as source
 use Rattle.sign_core.specs.Fault.{serve_number_of}
-use Rattle.sign_core.specs.Frames.{CutsField, Ending, IsCut, IsWholeMessage, ReadsInput, Request, after_size, broken, ended, given_by, going, head}
-use Rattle.sign_core.specs.inner.Frames.{FillsBuffer, ReadsField, ReadsHead, WasReadOrFailed, bytes_of, said_by}
-use Rattle.sign_core.specs.Records.{binding_in}
+use Rattle.sign_core.specs.Frames.{CutsField, Ending, IsCut, IsWholeMessage, ReadsInput, Request, after_size, broken, ended, given_message, going, head}
+use Rattle.sign_core.specs.inner.Frames.{FillsBuffer, ReadsField, ReadsHead, WasReadOrFailed, bytes_of, head_fields}
+use Rattle.sign_core.specs.Records.{binding_at}
 use Rattle.sign_core.specs.inner.Serving.{Asks, Finishes}
 use Rattle.sign_core.specs.Serving.{AnswersBy, AnswersInTurn, AreFrames, Closes, Exchange, Serves, SignsGiven, Turn}
 use Rattle.sign_core.specs.inner.Serving.{Turns, WritesReply, is_unread}
@@ -102,7 +102,7 @@ name_cut m size buffer old new e result answer is fills =
 
 -- where the name is cut, the head is cut
 after_name_cut_so : {M : Type 0} (m : message.Ghosts M) (size : ℕ) (old new : M) (e : ServeFault)
-    → ReadsField m (block size) bytes_of old new (Err e) → ReadsField m (after_size size) said_by old new (Err e)
+    → ReadsField m (block size) bytes_of old new (Err e) → ReadsField m (after_size size) head_fields old new (Err e)
 after_name_cut_so m size old new FrameCut (bytes, cuts, reads) =
     (bytes, λ from. (from, inl (block_cut size bytes cuts, refl)), reads)
 after_name_cut_so m size old new MessageRead (bytes, cuts, reads) =
@@ -110,14 +110,14 @@ after_name_cut_so m size old new MessageRead (bytes, cuts, reads) =
 after_name_cut_so m size old new WriteFailed never = absurd never
 
 pub after_name_cut : {M : Type 0} (m : message.Ghosts M) (size : ℕ) (old new : M) (e : ServeFault) (result : Result Head ServeFault)
-    → result ≡ Err e → ReadsField m (block size) bytes_of old new (Err e) → ReadsField m (after_size size) said_by old new result
+    → result ≡ Err e → ReadsField m (block size) bytes_of old new (Err e) → ReadsField m (after_size size) head_fields old new result
 after_name_cut m size old new e result answer name =
-    subst (λ (a : Result Head ServeFault). ReadsField m (after_size size) said_by old new a) (sym answer) (after_name_cut_so m size old new e name)
+    subst (λ (a : Result Head ServeFault). ReadsField m (after_size size) head_fields old new a) (sym answer) (after_name_cut_so m size old new e name)
 
 -- and where the size of the message is cut
 after_number_cut_so : {M : Type 0} (m : message.Ghosts M) (size : ℕ) (name : Name) (old middle new : M) (buffer : List ℕ) (e : ServeFault)
     → length buffer ≡ 4 → ReadsField m (block size) bytes_of old middle (Ok name) → FillsBuffer m buffer middle new (Err e)
-    → ReadsField m (after_size size) said_by old new (Err e)
+    → ReadsField m (after_size size) head_fields old new (Err e)
 after_number_cut_so m size name old middle new buffer FrameCut four (bytes, spelled, first) (part, less, reads) =
     let (len, is) = block_is size name.items bytes spelled in
     (bytes ++ part, after_cut size bytes part (ap length is ∙ len) (omega (arith, less, four)), reads_then m bytes part ended old middle new first reads)
@@ -128,14 +128,14 @@ after_number_cut_so m size name old middle new buffer WriteFailed four read neve
 
 pub after_number_cut : {M : Type 0} (m : message.Ghosts M) (size : ℕ) (name : Name) (old middle new : M) (buffer : List ℕ) (e : ServeFault)
     (result : Result Head ServeFault) → result ≡ Err e → length buffer ≡ 4 → ReadsField m (block size) bytes_of old middle (Ok name)
-    → FillsBuffer m buffer middle new (Err e) → ReadsField m (after_size size) said_by old new result
+    → FillsBuffer m buffer middle new (Err e) → ReadsField m (after_size size) head_fields old new result
 after_number_cut m size name old middle new buffer e result answer four read fills =
-    subst (λ (a : Result Head ServeFault). ReadsField m (after_size size) said_by old new a) (sym answer)
+    subst (λ (a : Result Head ServeFault). ReadsField m (after_size size) head_fields old new a) (sym answer)
     (after_number_cut_so m size name old middle new buffer e four read fills)
 
 pub after_read : {M : Type 0} (m : message.Ghosts M) (size announced : ℕ) (name : Name) (old middle new : M) (buffer : List ℕ) → length buffer ≡ 4
     → announced ≡ big_number 4 buffer → ReadsField m (block size) bytes_of old middle (Ok name) → ReadsInput m buffer going middle new
-    → ReadsField m (after_size size) said_by old new (Ok (head_of name announced))
+    → ReadsField m (after_size size) head_fields old new (Ok (head_of name announced))
 after_read m size announced name old middle new buffer four number (bytes, spelled, first) reads =
     let (len, is) = block_is size name.items bytes spelled in
     let one = after_said size bytes buffer (ap length is ∙ len) four in
@@ -144,7 +144,7 @@ after_read m size announced name old middle new buffer four number (bytes, spell
 
 -- a head that is cut after its first byte
 pub head_ends : {M : Type 0} (m : message.Ghosts M) (first : List ℕ) (old middle new : M) (e : ServeFault) → length first ≡ 1
-    → ReadsInput m first going old middle → ReadsField m (after_size (slice_index first 0)) said_by middle new (Err e) → ReadsHead m old new (Err e)
+    → ReadsInput m first going old middle → ReadsField m (after_size (slice_index first 0)) head_fields middle new (Err e) → ReadsHead m old new (Err e)
 head_ends m first old middle new FrameCut is reads (rest, cuts, more) =
     (first ++ rest, omega (arith, is, length-append first rest), head_cut first rest is cuts, reads_then m first rest ended old middle new reads more)
 head_ends m first old middle new MessageRead is reads (rest, cuts, more) =
@@ -152,14 +152,14 @@ head_ends m first old middle new MessageRead is reads (rest, cuts, more) =
 head_ends m first old middle new WriteFailed is reads never = absurd never
 
 pub head_read : {M : Type 0} (m : message.Ghosts M) (first : List ℕ) (found : Head) (old middle new : M) → length first ≡ 1 → ReadsInput m first going old middle
-    → ReadsField m (after_size (slice_index first 0)) said_by middle new (Ok found) → ReadsHead m old new (Ok (Some found))
+    → ReadsField m (after_size (slice_index first 0)) head_fields middle new (Ok found) → ReadsHead m old new (Ok (Some found))
 head_read m first found old middle new is reads (rest, spelled, more) =
-    (first ++ rest, head_said first rest (said_by found) is spelled, reads_then m first rest going old middle new reads more)
+    (first ++ rest, head_said first rest (head_fields found) is spelled, reads_then m first rest going old middle new reads more)
 
 -- the rest of a head was read, or not
 pub head_after : {M : Type 0} (m : message.Ghosts M) (first : List ℕ) (old middle new : M) (found : Result Head ServeFault)
     (mapped : Result (Option Head) ServeFault) → length first ≡ 1 → ReadsInput m first going old middle
-    → ReadsField m (after_size (slice_index first 0)) said_by middle new found
+    → ReadsField m (after_size (slice_index first 0)) head_fields middle new found
     → MatchResult found (λ read. IsOkAnd mapped (λ o. o ≡ Some read)) (λ e. mapped ≡ Err e) → ReadsHead m old new mapped
 head_after m first old middle new (Ok read) (Ok o) is reads field same =
     subst (λ o. ReadsHead m old new (Ok o)) (sym same) (head_read m first read old middle new is reads field)
@@ -190,7 +190,7 @@ pub record ReadTo {M : Type 0} (m : message.Ghosts M) (name : List ℕ) (announc
   pub ending : Ending
   pub comes : ComesTo ending (request_of name announced text whole) whole
   pub reads : ReadsInput m text ending old new
-  pub given_is : is_read ≡ true → given ≡ given_by (request_of name announced text whole)
+  pub given_is : is_read ≡ true → given ≡ given_message (request_of name announced text whole)
 
 module _ {P M : Type 0} (p : message.Ghosts P) (m : message.Ghosts M) (input_of : P → M) (left_of : P → ℕ) (is : IsPart p m input_of left_of) (name : List ℕ) where
   read_whole : (is_read : Bool) (given : Option (List ℕ)) (rest : List ℕ) (old middle new : P) → IsRead p is_read given old middle
@@ -293,7 +293,7 @@ module _ {P X : Type 0} (p : message.Ghosts P) (part : P → X)
 -- a call of sign, by what its message gave
 signs_given : {S R P : Type 0} (g : store.Ghosts S) (r : source.Ghosts R) (p : message.Ghosts P) (old new : View S R) (name : List ℕ) (before after : P)
     (capacity : ℕ) (answer : Result (List ℕ) SignFault) (given : Option (List ℕ)) (signs : Signs g r p old new name before after capacity answer)
-    → (IsSome (binding_in old.records name) → KeepsForRepeat old new (is_fault is_before_repeat answer))
+    → (IsSome (binding_at old.records name) → KeepsForRepeat old new (is_fault is_before_repeat answer))
     → (signs.answers.outcome.is_read ≡ true → signs.answers.chance.given ≡ given)
     → SignsGiven g r old new name given capacity answer
 signs_given g r p old new name before after capacity answer given signs repeat tie =
@@ -336,7 +336,7 @@ module _ {S R P M : Type 0} (g : store.Ghosts S) (r : source.Ghosts R) (p : mess
         comes = to.comes;
         reads = to.reads;
         room_kept = kept;
-        answers = (is_name, signs_given g r p old new name before middle capacity (Ok signature) (given_by request) signs repeat to.given_is);
+        answers = (is_name, signs_given g r p old new name before middle capacity (Ok signature) (given_message request) signs repeat to.given_is);
       }
   answered_frame (Refused e) whole room bound kept (is_name, signs, repeat) finishes =
       let to = signed_to (Err e) (is_unread (Refused e)) whole bound signs (says_unread e) (is_said e) finishes in
@@ -349,7 +349,7 @@ module _ {S R P M : Type 0} (g : store.Ghosts S) (r : source.Ghosts R) (p : mess
         comes = to.comes;
         reads = to.reads;
         room_kept = kept;
-        answers = (is_name, signs_given g r p old new name before middle capacity (Err e) (given_by request) signs repeat to.given_is);
+        answers = (is_name, signs_given g r p old new name before middle capacity (Err e) (given_message request) signs repeat to.given_is);
       }
   answered_frame BadName whole room bound kept (no_name, same, stays) finishes =
       let to : ReadTo m name (left_of before) false None (input_of before) (input_of after) whole =
@@ -441,12 +441,12 @@ fault_after false = Some MessageRead
 
 pub taken_frame : {S R I : Type 0} (g : store.Ghosts S) (r : source.Ghosts R) (m : message.Ghosts I) (found : Head) (old new : View S R) (before middle after : I)
     (capacity room : ℕ) (signature : List ℕ) (reply : Reply) (whole : Bool) → ReadsHead m before middle (Ok (Some found))
-    → AnswersFrame g r m (said_by found) old new middle after capacity room signature (reply, whole)
+    → AnswersFrame g r m (head_fields found) old new middle after capacity room signature (reply, whole)
     → Taken g r m old new before after capacity room (reply_bytes reply signature) (fault_after whole)
 taken_frame g r m found old new before middle after capacity room signature reply whole (front, spelled, reads) frame =
     let request = frame.request in
     let exchange : Exchange = record { request = request; reply = reply; signature = signature } in
-    let said : ◌≡◌ {A = List ℕ × ℕ} (said_by found) (request.name, request.announced) = sym (pair_of _ _ _ _ frame.name frame.announced) in
+    let said : ◌≡◌ {A = List ℕ × ℕ} (head_fields found) (request.name, request.announced) = sym (pair_of _ _ _ _ frame.name frame.announced) in
     record {
       bytes = front ++ request.message;
       ending = frame.ending;
@@ -539,7 +539,7 @@ module _ {S R I : Type 0} (g : store.Ghosts S) (r : source.Ghosts R) (m : messag
 module _ {S R I : Type 0} (g : store.Ghosts S) (r : source.Ghosts R) (m : message.Ghosts I) (found : Head) (old new : View S R) (before middle after : I)
     (capacity room : ℕ) (signature bytes : List ℕ) (reply : Reply) (whole : Bool) (contents left : Option (List ℕ)) (same : bytes ≡ signature)
     (head_is : ReadsHead m before middle (Ok (Some found)))
-    (frame : AnswersFrame g r m (said_by found) old new middle after capacity room signature (reply, whole)) where
+    (frame : AnswersFrame g r m (head_fields found) old new middle after capacity room signature (reply, whole)) where
   frame_taken : (b : Bool) → whole ≡ b → Taken g r m old new before after capacity room (reply_bytes reply bytes) (fault_after b)
   frame_taken b is =
       subst (λ (s : List ℕ). Taken g r m old new before after capacity room (reply_bytes reply s) (fault_after b)) (sym same)

@@ -17,7 +17,7 @@ use Rattle.sign_core.specs.Ledger.{Table}
 use Rattle.sign_core.proofs.Adding.{LeavesItsList}
 use Rattle.typecodes.specs.declared.secret.LmsSecret.{LmsSecret}
 use Rattle.typecodes.specs.declared.types.LmsPair.{LmsPair}
-use Rattle.sign_core.specs.Signing.{answered_with}
+use Rattle.sign_core.specs.Signing.{answered_value}
 use Rattle.sign_core.specs.Source.{Provides}
 use Rattle.sign_core.specs.Records.{has_identifier}
 use Rattle.sign_core.specs.Cuts.{IsBeginning}
@@ -28,7 +28,7 @@ use Rattle.sign_core.specs.Signer.{is_store_failed, state_of, view_of}
 use Rattle.sign_core.specs.inner.Signing.{DrawsTree, Extends}
 use Rattle.sign_core.specs.World.{Fate, Outcome, acked, answered, appended, cut_new, cut_old, drawing, no_memory}
 use Rattle.sign_core.specs.inner.Cases.{extended}
-use Rattle.sign_core.specs.World.{open_on, refused}
+use Rattle.sign_core.specs.World.{open_state, refused}
 use Rattle.sign_core.specs.Textbook.{Trees, trees_of}
 use Rattle.sign_core.proofs.Appended.{after_draw, counts_answered, ends_alike, comes_after_draws, is_tried, no_draw_fails, same_fault}
 use Rattle.sign_core.proofs.BoundBelow.{drawing_twice, extends_by, next_extend, whole_draw}
@@ -45,26 +45,26 @@ all_left records left is = record {
 -- the source failed
 draw_fails_by : (key : Key) (level : ℕ) (trees : Trees) (records : List Record) (fields : List (List ℕ)) → length fields < 3
     → ((first : List ℕ) (rest : List (List ℕ)) → fields ≡ first ∷ rest → has_identifier records first ≡ false) → (next : List Record → Outcome (List ℕ))
-    → extended (open_on records) key level (Some trees) (record { fields = fields; fate = acked }) next
-    ≡ drawing (concat fields) (refused (open_on records) RandomFailed)
+    → extended (open_state records) key level (Some trees) (record { fields = fields; fate = acked }) next
+    ≡ drawing (concat fields) (refused (open_state records) RandomFailed)
 draw_fails_by key level trees records [] few fresh next = refl
 draw_fails_by key level trees records (identifier ∷ []) few fresh next =
-    ap (λ b. drawing identifier (if b then refused (open_on records) RandomRepeated else drawing [] (refused (open_on records) RandomFailed)))
+    ap (λ b. drawing identifier (if b then refused (open_state records) RandomRepeated else drawing [] (refused (open_state records) RandomFailed)))
     (fresh identifier [] refl)
-    ∙ drawing_twice identifier [] (refused (open_on records) RandomFailed)
+    ∙ drawing_twice identifier [] (refused (open_state records) RandomFailed)
 draw_fails_by key level trees records (identifier ∷ seed ∷ []) few fresh next =
-    ap (λ b. drawing identifier (if b then refused (open_on records) RandomRepeated else drawing (seed ++ []) (refused (open_on records) RandomFailed)))
+    ap (λ b. drawing identifier (if b then refused (open_state records) RandomRepeated else drawing (seed ++ []) (refused (open_state records) RandomFailed)))
     (fresh identifier (seed ∷ []) refl)
-    ∙ drawing_twice identifier (seed ++ []) (refused (open_on records) RandomFailed)
+    ∙ drawing_twice identifier (seed ++ []) (refused (open_state records) RandomFailed)
 draw_fails_by key level trees records (identifier ∷ seed ∷ randomizer ∷ rest) few fresh next = absurd (omega (arith, few))
 
 -- a record has the I
 draw_repeats : (key : Key) (level : ℕ) (trees : Trees) (records : List Record) (identifier : List ℕ) → has_identifier records identifier ≡ true
     → (next : List Record → Outcome (List ℕ))
-    → extended (open_on records) key level (Some trees) (record { fields = identifier ∷ []; fate = acked }) next
-    ≡ drawing identifier (refused (open_on records) RandomRepeated)
+    → extended (open_state records) key level (Some trees) (record { fields = identifier ∷ []; fate = acked }) next
+    ≡ drawing identifier (refused (open_state records) RandomRepeated)
 draw_repeats key level trees records identifier there next =
-    ap (λ b. drawing identifier (if b then refused (open_on records) RandomRepeated else drawing [] (refused (open_on records) RandomFailed))) there
+    ap (λ b. drawing identifier (if b then refused (open_state records) RandomRepeated else drawing [] (refused (open_state records) RandomFailed))) there
 
 -- an open signer over a store that runs, of which a crash leaves its records
 pub record Rests {S R : Type 0} (g : store.Ghosts S) (view : View S R) : Type 0 where
@@ -76,7 +76,7 @@ module _ {S R : Type 0} (g : store.Ghosts S) (r : source.Ghosts R) (level : ℕ)
   -- what leaves all but the source
   rests_ends : (view : View S R) (random : R) (bytes : List ℕ) (fault : SignFault) (answer : Result (List ℕ) SignFault) → Rests g view
       → is_store_failed fault ≡ false → Err fault ≡ answer
-      → Ends g view (after_draw view random) (drawing bytes (refused (open_on view.records) fault)) answer
+      → Ends g view (after_draw view random) (drawing bytes (refused (open_state view.records) fault)) answer
   rests_ends view random bytes fault answer rests other is = record {
     answer_is = is;
     records = refl;
@@ -102,9 +102,9 @@ module _ {S R : Type 0} (g : store.Ghosts S) (r : source.Ghosts R) (level : ℕ)
       → Extends g r level view (after_draw view random) answer key
   undrawn pair view random RandomFailed answer rests is (fields, failed, gave, sized, few, fresh) = record {
     draw = record { fields = fields; fate = acked };
-    outcome = drawing (concat fields) (refused (open_on view.records) RandomFailed);
-    step = ap (λ t. extended (open_on view.records) key level t (record { fields = fields; fate = acked }) (λ records. answered (open_on records) [])) is_trees
-        ∙ draw_fails_by key level trees view.records fields few fresh (λ records. answered (open_on records) []);
+    outcome = drawing (concat fields) (refused (open_state view.records) RandomFailed);
+    step = ap (λ t. extended (open_state view.records) key level t (record { fields = fields; fate = acked }) (λ records. answered (open_state records) [])) is_trees
+        ∙ draw_fails_by key level trees view.records fields few fresh (λ records. answered (open_state records) []);
     possible = sized;
     ends = rests_ends view random (concat fields) RandomFailed answer rests refl is;
     source = subst (λ (bytes : List ℕ). Provides (r.upcoming view.random) bytes (r.upcoming random)) (sym (append-nil (concat fields))) gave;
@@ -116,10 +116,10 @@ module _ {S R : Type 0} (g : store.Ghosts S) (r : source.Ghosts R) (level : ℕ)
   }
   undrawn pair view random RandomRepeated answer rests is (identifier, kept, gave, sized, there) = record {
     draw = record { fields = identifier ∷ []; fate = acked };
-    outcome = drawing identifier (refused (open_on view.records) RandomRepeated);
-    step = ap (λ t. extended (open_on view.records) key level t (record { fields = identifier ∷ []; fate = acked })
-        (λ records. answered (open_on records) [])) is_trees
-        ∙ draw_repeats key level trees view.records identifier there (λ records. answered (open_on records) []);
+    outcome = drawing identifier (refused (open_state view.records) RandomRepeated);
+    step = ap (λ t. extended (open_state view.records) key level t (record { fields = identifier ∷ []; fate = acked })
+        (λ records. answered (open_state records) [])) is_trees
+        ∙ draw_repeats key level trees view.records identifier there (λ records. answered (open_state records) []);
     possible = sized;
     ends = rests_ends view random identifier RandomRepeated answer rests refl is;
     source = subst (λ (bytes : List ℕ). Provides (r.upcoming view.random) bytes (r.upcoming random)) (sym (append-nil identifier)) gave;
@@ -151,15 +151,15 @@ module _ {S R : Type 0} (g : store.Ghosts S) (r : source.Ghosts R) (level : ℕ)
 
 -- an append's outcome after some draws
 abbrev comes_to : List Record → Record → (bytes : List ℕ) → Fate → Outcome (List ℕ)
-comes_to records entry bytes fate = drawing bytes (appended (open_on records) entry fate (λ all. answered (open_on all) []))
+comes_to records entry bytes fate = drawing bytes (appended (open_state records) entry fate (λ all. answered (open_state all) []))
 
-given : {a b : Result (Unit {0}) SignFault} → a ≡ b → answered_with {B = List ℕ} a [] ≡ answered_with b []
-given is = ap (λ r. answered_with r []) is
+given : {a b : Result (Unit {0}) SignFault} → a ≡ b → answered_value {B = List ℕ} a [] ≡ answered_value b []
+given is = ap (λ r. answered_value r []) is
 
 -- a call that appends a record, and one that draws first, end alike
 ends_drawn : {S R : Type 0} (g : store.Ghosts S) (view new : View S R) (random : R) (entry : Record) (bytes : List ℕ) (fate : Fate)
-    (answer : Result (Unit {0}) SignFault) → Ends g (after_draw view random) new (added (open_on view.records) entry fate) answer
-    → Ends g view new (comes_to view.records entry bytes fate) (answered_with answer [])
+    (answer : Result (Unit {0}) SignFault) → Ends g (after_draw view random) new (added (open_state view.records) entry fate) answer
+    → Ends g view new (comes_to view.records entry bytes fate) (answered_value answer [])
 ends_drawn g view new random entry bytes acked answer ends = ends_alike g view new random _ _ answer _ refl refl refl (given ends.answer_is) (λ _ _ c. c) ends
 ends_drawn g view new random entry bytes cut_old answer ends = ends_alike g view new random _ _ answer _ refl refl refl (given ends.answer_is) (λ _ _ c. c) ends
 ends_drawn g view new random entry bytes cut_new answer ends = ends_alike g view new random _ _ answer _ refl refl refl (given ends.answer_is) (λ _ _ c. c) ends
@@ -177,11 +177,11 @@ pub drawn : {S R : Type 0} (g : store.Ghosts S) (r : source.Ghosts R) (level : �
     → DrawsTree pair view.records (r.failures view.random) (r.failures random) (r.upcoming view.random) (r.upcoming random) (Ok seeds)
     → entry ≡ next_extend key trees view.records level seeds.0.identifier seeds.0.seed seeds.1
     → Adds g (after_draw view random) new entry answer
-    → Extends g r level view new (answered_with answer []) key
+    → Extends g r level view new (answered_value answer []) key
 drawn {S = S} {R = R} g r level key trees view new random pair seeds entry answer is_trees was (kept, gave, sized, fresh, paired) is adds =
     let bytes : List ℕ = seeds.0.identifier ++ (seeds.0.seed ++ seeds.1) in
-    let from : state_of (after_draw view random) ≡ open_on view.records = λ i. record { records = view.records; is_open = was i } in
-    let ends : Ends g view new (comes_to view.records entry bytes adds.fate) (answered_with answer []) =
+    let from : state_of (after_draw view random) ≡ open_state view.records = λ i. record { records = view.records; is_open = was i } in
+    let ends : Ends g view new (comes_to view.records entry bytes adds.fate) (answered_value answer []) =
     ends_drawn g view new random entry bytes adds.fate answer
     (subst (λ s. Ends g (after_draw view random) new (added s entry adds.fate) answer) from adds.ends) in
     let gives : Provides (r.upcoming view.random) bytes (r.upcoming new.random) =
@@ -190,7 +190,7 @@ drawn {S = S} {R = R} g r level key trees view new random pair seeds entry answe
       draw = whole_draw seeds.0.identifier seeds.0.seed seeds.1 adds.fate;
       outcome = comes_to view.records entry bytes adds.fate;
       step = extends_by key level (trees_of key.secret) trees is_trees view.records seeds.0.identifier seeds.0.seed seeds.1 adds.fate fresh
-          (λ records. answered (open_on records) [])
+          (λ records. answered (open_state records) [])
           ∙ drawing_twice seeds.0.identifier (seeds.0.seed ++ seeds.1) _
           ∙ ap (λ e. comes_to view.records e bytes adds.fate) (sym is);
       possible = sized;
@@ -213,9 +213,9 @@ module _ {S R : Type 0} (g : store.Ghosts S) (r : source.Ghosts R) (level : ℕ)
   ungrown view random pair seeds answer rests is (kept, gave, sized, fresh, paired) =
       let bytes : List ℕ = seeds.0.identifier ++ (seeds.0.seed ++ seeds.1) in record {
         draw = whole_draw seeds.0.identifier seeds.0.seed seeds.1 no_memory;
-        outcome = drawing bytes (refused (open_on view.records) OutOfMemory);
+        outcome = drawing bytes (refused (open_state view.records) OutOfMemory);
         step = extends_by key level (trees_of key.secret) trees is_trees view.records seeds.0.identifier seeds.0.seed seeds.1 no_memory fresh
-            (λ records. answered (open_on records) [])
+            (λ records. answered (open_state records) [])
             ∙ drawing_twice seeds.0.identifier (seeds.0.seed ++ seeds.1) _;
         possible = sized;
         ends = rests_ends g r level key trees is_trees view random bytes OutOfMemory answer rests refl is;
@@ -251,9 +251,9 @@ pub drawn_below : {S R : Type 0} {caches others : Cached} (g : store.Ghosts S) (
     → view_of kept_in random ledger caches is_open ≡ v → v.is_open ≡ true → trees_of key.secret ≡ Some trees
     → entry ≡ next_extend key trees ledger.records level seeds.0.identifier seeds.0.seed seeds.1
     → DrawsTree pair ledger.records (r.failures random) (r.failures after) (r.upcoming random) (r.upcoming after) (Ok seeds)
-    → Adds g (view_of kept_in after ledger others is_open) new entry answer → Extends g r level v new (answered_with answer []) key
+    → Adds g (view_of kept_in after ledger others is_open) new entry answer → Extends g r level v new (answered_value answer []) key
 drawn_below {S = S} {R = R} {caches = caches} {others = others} g r key trees kept_in random after ledger is_open v new level pair seeds entry answer is opened these
     same draws adds =
-    subst (λ (w : View S R). Extends g r level w new (answered_with answer []) key) is
+    subst (λ (w : View S R). Extends g r level w new (answered_value answer []) key) is
     (drawn g r level key trees (view_of kept_in random ledger caches is_open) new after pair seeds entry answer these (ap (λ w. w.is_open) is ∙ opened) draws same
     (adds_caching g (view_of kept_in after ledger caches is_open) new others entry answer adds))

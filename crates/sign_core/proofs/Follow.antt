@@ -17,8 +17,8 @@ use Rattle.state_file.specs.declared.record.Version.{Version}
 use Rattle.state_file.specs.declared.record.Version.TheVariants.{One, Two}
 use Rattle.state_file.specs.Laws.{Fits, HasRandomizer, IsCurrent, IsLegal, Names, bottom_of, identifier_of, leaves_at, levels_of}
 use Rattle.state_file.proofs.Legal.{current-all, current-front}
-use Rattle.sign_core.specs.Records.{binding_in, can_follow_legal, can_move, current, has_identifier, has_moved, has_randomizer}
-use Rattle.sign_core.specs.Records.{in_tree, is_free, is_moved, key_in, next_at, next_in, reaches}
+use Rattle.sign_core.specs.Records.{binding_at, can_follow_legal, can_move, current, has_identifier, has_moved, has_randomizer}
+use Rattle.sign_core.specs.Records.{in_tree, is_free, is_moved, the_key, next_at, next_leaf, reaches}
 use Rattle.sign_core.proofs.Found.{next_of}
 use Rattle.sign_core.proofs.TreeSteps.{before_current, current_before, current_is, is_current}
 use Rattle.sign_core.proofs.Leaves.{is_next}
@@ -27,18 +27,18 @@ use Rattle.sign_core.proofs.Lists.{slice_get_new, slice_get_stays}
 
 -- ---- the key and the end
 
-pub key_first : (records : List Record) (key : Key) → slice_get records 0 ≡ Some (KeyRecord key) → key_in records ≡ Some key
+pub key_first : (records : List Record) (key : Key) → slice_get records 0 ≡ Some (KeyRecord key) → the_key records ≡ Some key
 key_first [] key is = absurd (none-some (KeyRecord key) is)
-key_first (entry ∷ rest) key is = ap (λ e. key_in (e ∷ rest)) (same_Some entry (KeyRecord key) is)
+key_first (entry ∷ rest) key is = ap (λ e. the_key (e ∷ rest)) (same_Some entry (KeyRecord key) is)
 
-first_alone : (entry : Record) (rest other : List Record) → key_in (entry ∷ rest) ≡ key_in (entry ∷ other)
+first_alone : (entry : Record) (rest other : List Record) → the_key (entry ∷ rest) ≡ the_key (entry ∷ other)
 first_alone (KeyRecord key) rest other = refl
 first_alone (ExtendRecord extend) rest other = refl
 first_alone (BoundRecord bound) rest other = refl
 first_alone (Retire upto) rest other = refl
 first_alone Moved rest other = refl
 
-pub key_stays : (records more : List Record) → 0 < length records → key_in (records ++ more) ≡ key_in records
+pub key_stays : (records more : List Record) → 0 < length records → the_key (records ++ more) ≡ the_key records
 key_stays [] more some = absurd (omega (arith, some))
 key_stays (entry ∷ rest) more some = first_alone entry (rest ++ more) rest
 
@@ -115,15 +115,15 @@ reach_names key records k Moved tree n within fits is = absurd (none-some (tree,
 
 -- a leaf that is named lies below the next one
 pub named_below : (secret : Secret) (records : List Record) (k : ℕ) (entry : Record) (tree leaf : ℕ) → slice_get records k ≡ Some entry
-    → Names secret records k entry tree leaf → leaf < next_in secret records tree
+    → Names secret records k entry tree leaf → leaf < next_leaf secret records tree
 named_below secret records k entry tree leaf at names =
     let within : k < length records = slice_get_within records k entry at in
-    let above : leaf + 1 ≤ next_in secret records tree =
+    let above : leaf + 1 ≤ next_leaf secret records tree =
     (is_next secret records tree).above k (leaf + 1) entry at (names_reach secret records k entry tree leaf (omega (arith, within)) names) in
     omega (arith, above)
 
 pub retired_below : (secret : Secret) (records : List Record) (k upto tree : ℕ) → slice_get records k ≡ Some (Retire upto)
-    → IsCurrent records k (bottom_of secret) tree → upto ≤ next_in secret records tree
+    → IsCurrent records k (bottom_of secret) tree → upto ≤ next_leaf secret records tree
 retired_below secret records k upto tree at is =
     let within : k < length records = slice_get_within records k (Retire upto) at in
     (is_next secret records tree).above k upto (Retire upto) at (retire_reaches secret records k upto tree (omega (arith, within)) is)
@@ -135,18 +135,18 @@ some_tree None is = absurd (true≢false (sym is))
 some_tree (Some tree) is = (tree, refl)
 
 pub free_means : (secret : Secret) (records : List Record) (level leaf : ℕ) → is_free secret records level leaf ≡ true
-    → (tree : ℕ) × (current level records ≡ Some tree) × (leaf < leaves_at secret level) × (next_in secret records tree ≤ leaf)
+    → (tree : ℕ) × (current level records ≡ Some tree) × (leaf < leaves_at secret level) × (next_leaf secret records tree ≤ leaf)
 free_means secret records level leaf is =
     let (two, high) = and_parts (is_some (current level records) && nat_lt leaf (leaves_at secret level)) (nat_le (next_at secret records level) leaf) is in
     let (some, low) = and_parts (is_some (current level records)) (nat_lt leaf (leaves_at secret level)) two in
     let (tree, at) = some_tree (current level records) some in
-    let next : next_at secret records level ≡ next_in secret records tree = ap (next_of secret records) at in
+    let next : next_at secret records level ≡ next_leaf secret records tree = ap (next_of secret records) at in
     (tree, at, ltb-true leaf (leaves_at secret level) low, omega (arith, next, leb-true (next_at secret records level) leaf high))
 
 pub tell_free : (secret : Secret) (records : List Record) (level leaf tree : ℕ) → current level records ≡ Some tree
-    → leaf < leaves_at secret level → next_in secret records tree ≤ leaf → is_free secret records level leaf ≡ true
+    → leaf < leaves_at secret level → next_leaf secret records tree ≤ leaf → is_free secret records level leaf ≡ true
 tell_free secret records level leaf tree at low high =
-    let next : next_at secret records level ≡ next_in secret records tree = ap (next_of secret records) at in
+    let next : next_at secret records level ≡ next_leaf secret records tree = ap (next_of secret records) at in
     and_from (is_some (current level records) && nat_lt leaf (leaves_at secret level)) (nat_le (next_at secret records level) leaf)
     (and_from (is_some (current level records)) (nat_lt leaf (leaves_at secret level)) (ap is_some at) (lt-ltb leaf (leaves_at secret level) low))
     (le-leb (next_at secret records level) leaf (omega (arith, next, high)))
@@ -174,12 +174,12 @@ extend_means key before extend is =
     not_means false is = refl
 
 bound_means : (key : Key) (before : List Record) (bound : Bound) → can_follow_legal key before (BoundRecord bound) ≡ true
-    → (is_free key.secret before (bottom_of key.secret) bound.leaf ≡ true) × (binding_in before bound.name ≡ None) × HasRandomizer key.secret bound.randomizer
+    → (is_free key.secret before (bottom_of key.secret) bound.leaf ≡ true) × (binding_at before bound.name ≡ None) × HasRandomizer key.secret bound.randomizer
 bound_means key before bound is =
-    let (two, random) = and_parts (is_free key.secret before (bottom_of key.secret) bound.leaf && not (is_some (binding_in before bound.name)))
+    let (two, random) = and_parts (is_free key.secret before (bottom_of key.secret) bound.leaf && not (is_some (binding_at before bound.name)))
     (has_randomizer key.secret bound.randomizer) is in
-    let (free, new) = and_parts (is_free key.secret before (bottom_of key.secret) bound.leaf) (not (is_some (binding_in before bound.name))) two in
-    (free, none_means (binding_in before bound.name) new, randomizer_means key.secret bound.randomizer random)
+    let (free, new) = and_parts (is_free key.secret before (bottom_of key.secret) bound.leaf) (not (is_some (binding_at before bound.name))) two in
+    (free, none_means (binding_at before bound.name) new, randomizer_means key.secret bound.randomizer random)
   where
     none_means : (found : Option (ℕ × Bound)) → not (is_some found) ≡ true → found ≡ None
     none_means None is = refl
@@ -218,14 +218,14 @@ follower_fits key before Moved is = (moves key.version is, sym (length_push befo
     moves Two is = absurd (true≢false (sym is))
 
 same_next : (secret : Secret) (before : List Record) (level tree own leaf : ℕ) → current level before ≡ Some own → current level before ≡ Some tree
-    → next_in secret before own ≤ leaf → next_in secret before tree ≤ leaf
+    → next_leaf secret before own ≤ leaf → next_leaf secret before tree ≤ leaf
 same_next secret before level tree own leaf at there next =
     let same : own ≡ tree = same_Some own tree (sym at ∙ there) in
-    subst (λ t. next_in secret before t ≤ leaf) same next
+    subst (λ t. next_leaf secret before t ≤ leaf) same next
 
 -- it names no leaf below the next one
 pub follower_names : (key : Key) (before : List Record) (entry : Record) (tree leaf : ℕ) → can_follow_legal key before entry ≡ true
-    → Names key.secret (before ++ entry ∷ []) (length before) entry tree leaf → next_in key.secret before tree ≤ leaf
+    → Names key.secret (before ++ entry ∷ []) (length before) entry tree leaf → next_leaf key.secret before tree ≤ leaf
 follower_names key before (KeyRecord other) tree leaf is names = absurd names
 follower_names key before (ExtendRecord extend) tree leaf is (level, of, there, same) =
     let (low, high, free, fresh) = extend_means key before extend is in
@@ -252,23 +252,23 @@ follower_identifier key before (Retire upto) identifier is own = absurd (none-so
 follower_identifier key before Moved identifier is own = absurd (none-some identifier own)
 
 pub follower_name : (key : Key) (before : List Record) (bound : Bound) → can_follow_legal key before (BoundRecord bound) ≡ true
-    → binding_in before bound.name ≡ None
+    → binding_at before bound.name ≡ None
 follower_name key before bound is = let (free, new, random) = bound_means key before bound is in new
 
 -- ---- the last record of a legal list
 
 -- no leaf that the last record of a legal list names was reached before it
 next_under : (before : List Record) (entry : Record) (tree leaf : ℕ) (legal : IsLegal (before ++ entry ∷ []))
-    → Names legal.key.secret (before ++ entry ∷ []) (length before) entry tree leaf → next_in legal.key.secret before tree ≤ leaf
+    → Names legal.key.secret (before ++ entry ∷ []) (length before) entry tree leaf → next_leaf legal.key.secret before tree ≤ leaf
 next_under before entry tree leaf legal names = elim ((is_next legal.key.secret before tree).least) [
   | inl none ↦ omega (arith, none)
   | inr (k, other, at, reached) ↦ by k other at reached
 ]
   where
     by : (k : ℕ) (other : Record) → slice_get before k ≡ Some other
-        → reaches legal.key.secret (take k before) other ≡ Some (tree, next_in legal.key.secret before tree) → next_in legal.key.secret before tree ≤ leaf
+        → reaches legal.key.secret (take k before) other ≡ Some (tree, next_leaf legal.key.secret before tree) → next_leaf legal.key.secret before tree ≤ leaf
     by k other at reached =
-        let next : ℕ = next_in legal.key.secret before tree in
+        let next : ℕ = next_leaf legal.key.secret before tree in
         let below : k < length before = slice_get_within before k other at in
         let within : k ≤ length (before ++ entry ∷ []) = omega (arith, below, length_push before entry) in
         let stands : slice_get (before ++ entry ∷ []) k ≡ Some other = slice_get_stays before (entry ∷ []) k other at in
@@ -291,7 +291,7 @@ new_identifier before entry identifier legal own = false_from_ne_true (has_ident
     legal.identifiers k (length before) other entry identifier (slice_get_within before k other at)
     (slice_get_stays before (entry ∷ []) k other at) (slice_get_new before entry) same own)
 
-new_name : (before : List Record) (bound : Bound) → IsLegal (before ++ BoundRecord bound ∷ []) → binding_in before bound.name ≡ None
+new_name : (before : List Record) (bound : Bound) → IsLegal (before ++ BoundRecord bound ∷ []) → binding_at before bound.name ≡ None
 new_name before bound legal = not_bound before bound.name (λ k other at.
     legal.names k (length before) other bound (slice_get_within before k (BoundRecord other) at)
     (slice_get_stays before (BoundRecord bound ∷ []) k (BoundRecord other) at) (slice_get_new before (BoundRecord bound)))
@@ -306,7 +306,7 @@ last_follows before (ExtendRecord extend) legal some =
     let fits : Fits legal.key (before ++ ExtendRecord extend ∷ []) (length before) (ExtendRecord extend) =
     legal.fits (length before) (ExtendRecord extend) (slice_get_new before (ExtendRecord extend)) in
     let (level, of, high, (tree, is), inside) = fits in
-    let next : next_in legal.key.secret before tree ≤ extend.parent_leaf =
+    let next : next_leaf legal.key.secret before tree ≤ extend.parent_leaf =
     next_under before (ExtendRecord extend) tree extend.parent_leaf legal (level, of, is, refl) in
     let at : current level before ≡ Some tree = was_current before (ExtendRecord extend ∷ []) level tree is in
     let above : level ≡ extend.level - 1 = omega (arith, of) in
@@ -329,16 +329,16 @@ last_follows before (BoundRecord bound) legal some =
     let fits : Fits legal.key (before ++ BoundRecord bound ∷ []) (length before) (BoundRecord bound) =
     legal.fits (length before) (BoundRecord bound) (slice_get_new before (BoundRecord bound)) in
     let ((tree, is), inside, random) = fits in
-    let next : next_in legal.key.secret before tree ≤ bound.leaf =
+    let next : next_leaf legal.key.secret before tree ≤ bound.leaf =
     next_under before (BoundRecord bound) tree bound.leaf legal (is, refl) in
     let at : current (bottom_of legal.key.secret) before ≡ Some tree =
     was_current before (BoundRecord bound ∷ []) (bottom_of legal.key.secret) tree is in
     let free : is_free legal.key.secret before (bottom_of legal.key.secret) bound.leaf ≡ true =
     tell_free legal.key.secret before (bottom_of legal.key.secret) bound.leaf tree at inside next in
-    let new : not (is_some (binding_in before bound.name)) ≡ true = ap (λ o. not (is_some o)) (new_name before bound legal) in
-    and_from (is_free legal.key.secret before (bottom_of legal.key.secret) bound.leaf && not (is_some (binding_in before bound.name)))
+    let new : not (is_some (binding_at before bound.name)) ≡ true = ap (λ o. not (is_some o)) (new_name before bound legal) in
+    and_from (is_free legal.key.secret before (bottom_of legal.key.secret) bound.leaf && not (is_some (binding_at before bound.name)))
     (has_randomizer legal.key.secret bound.randomizer)
-    (and_from (is_free legal.key.secret before (bottom_of legal.key.secret) bound.leaf) (not (is_some (binding_in before bound.name))) free new)
+    (and_from (is_free legal.key.secret before (bottom_of legal.key.secret) bound.leaf) (not (is_some (binding_at before bound.name))) free new)
     (tell_randomizer legal.key.secret bound.randomizer random)
 last_follows before (Retire upto) legal some =
     let fits : Fits legal.key (before ++ Retire upto ∷ []) (length before) (Retire upto) =

@@ -8,13 +8,13 @@ use Rattle.state_file.specs.declared.record.Key.{Key}
 use Rattle.state_file.specs.declared.record.Record.{Record}
 use Rattle.state_file.specs.declared.record.Secret.{Secret}
 use Rattle.sign_core.specs.Events.{AreFields, tree_sizes}
-use Rattle.sign_core.specs.Records.{can_move, next_in}
-use Rattle.sign_core.specs.Textbook.{Trees, digest_at, secret_at, signings_above}
-use Rattle.sign_core.specs.World.{Draw, Migration, State, closed_on, migrated_to}
+use Rattle.sign_core.specs.Records.{can_move, next_leaf}
+use Rattle.sign_core.specs.Textbook.{Trees, digest_at, secret_at, chain_signings}
+use Rattle.sign_core.specs.World.{Draw, Migration, State, closed_state, migrated_list}
 use Rattle.sign_core.specs.inner.Links.{signing_of_bound}
 
 abbrev pub next_of : Secret → List Record → (tree : Option ℕ) → ℕ
-next_of secret records tree = unwrap_or (option_map (next_in secret records) tree) 0
+next_of secret records tree = unwrap_or (option_map (next_leaf secret records) tree) 0
 
 abbrev pub digest_under : Option Trees → List Record → (tree leaf : ℕ) → (randomizer message : List ℕ) → List ℕ
 digest_under found records tree leaf randomizer message =
@@ -22,7 +22,7 @@ digest_under found records tree leaf randomizer message =
 
 abbrev pub hss_signature_under : Option Trees → List Record → (level tree : ℕ) → Bound → List ℕ
 hss_signature_under found records level tree bound =
-    unwrap_or (option_map (λ trees. hss_signature_bytes (hss_textbook (signings_above trees level records tree) (signing_of_bound trees records tree bound))) found) []
+    unwrap_or (option_map (λ trees. hss_signature_bytes (hss_textbook (chain_signings trees level records tree) (signing_of_bound trees records tree bound))) found) []
 
 abbrev pub IsTreeDraw : Draw → Type 0
 IsTreeDraw draw = AreFields tree_sizes draw.fields
@@ -31,7 +31,7 @@ abbrev pub new_bound : Key → List Record → (name : List ℕ) → (leaf : ℕ
 new_bound key records name leaf randomizer message =
     record { name = name; leaf = leaf; randomizer = randomizer; digest = digest_at key records (length records) leaf randomizer message }
 
-abbrev pub migrated_under : State → Migration → Option Key → State
-migrated_under state fate found =
+abbrev pub migrated_key : State → Migration → Option Key → State
+migrated_key state fate found =
     let can = option_map_or (λ (key : Key). can_move key.version) found false in
-    if can && not state.is_open then closed_on (migrated_to state.records fate) else state
+    if can && not state.is_open then closed_state (migrated_list state.records fate) else state

@@ -15,9 +15,9 @@ use Rattle.sign_core.specs.Records.{has_identifier, next_at}
 use Rattle.sign_core.specs.Requests.{BeginsTree, IsComplete, bytes_drawn}
 use Rattle.sign_core.specs.Events.{randomizer_sizes, tree_sizes}
 use Rattle.sign_core.specs.World.{Chance, Draw, Fate, Outcome, acked, drawing}
-use Rattle.sign_core.specs.inner.Cases.{bound_with, extended, extended_with}
-use Rattle.sign_core.specs.World.{open_on, randomizer_from, refused}
-use Rattle.sign_core.specs.inner.Cases.{bound_below}
+use Rattle.sign_core.specs.inner.Cases.{bound_message, extended, extended_seed}
+use Rattle.sign_core.specs.World.{open_state, randomizer_of_fields, refused}
+use Rattle.sign_core.specs.inner.Cases.{bound_trees}
 use Rattle.sign_core.specs.Textbook.{Trees, digest_at, signature_at, trees_of}
 use Rattle.sign_core.proofs.BoundBelow.{extends_by, fields_drawn_before, next_extend, whole_draw}
 use Rattle.sign_core.proofs.Found.{new_bound}
@@ -43,11 +43,11 @@ whole draw is =
 again_extended : (key : Key) (level : ℕ) (found : Option Trees) (trees : Trees) → found ≡ Some trees
     → (records : List Record) (identifier seed randomizer : List ℕ)
     → has_identifier records identifier ≡ true → (next : List Record → Outcome (List ℕ))
-    → (extended (open_on records) key level found (whole_draw identifier seed randomizer acked) next).answer ≡ Err RandomRepeated
+    → (extended (open_state records) key level found (whole_draw identifier seed randomizer acked) next).answer ≡ Err RandomRepeated
 again_extended key level found trees is_trees records identifier seed randomizer there next =
-    ap (λ t. (extended (open_on records) key level t (whole_draw identifier seed randomizer acked) next).answer) is_trees
-    ∙ ap (λ b. (drawing identifier (if b then refused (open_on records) RandomRepeated
-    else extended_with (open_on records) trees level (next_at key.secret records (level - 1)) identifier (seed ∷ randomizer ∷ []) acked next)).answer) there
+    ap (λ t. (extended (open_state records) key level t (whole_draw identifier seed randomizer acked) next).answer) is_trees
+    ∙ ap (λ b. (drawing identifier (if b then refused (open_state records) RandomRepeated
+    else extended_seed (open_state records) trees level (next_at key.secret records (level - 1)) identifier (seed ∷ randomizer ∷ []) acked next)).answer) there
 
 -- ---- what is left to do is done
 
@@ -61,9 +61,9 @@ pub record IsDone (key : Key) (name message : List ℕ) (chance : Chance) (below
       → BeginsTree key (records ++ take i trees) (bottom_of key.secret - below + i + 1) draw.fields entry
   pub named : bound.name ≡ name
   pub leaf : bound.leaf ≡ next_at key.secret (records ++ trees) (bottom_of key.secret)
-  pub randomizer : randomizer_from key.secret chance.bound.fields ≡ Some bound.randomizer
+  pub randomizer : randomizer_of_fields key.secret chance.bound.fields ≡ Some bound.randomizer
   pub digest : bound.digest ≡ digest_at key (records ++ trees) (length (records ++ trees)) bound.leaf bound.randomizer message
-  pub state : outcome.state ≡ open_on (records ++ trees ++ BoundRecord bound ∷ [])
+  pub state : outcome.state ≡ open_state (records ++ trees ++ BoundRecord bound ∷ [])
   pub answer : outcome.answer ≡ Ok (signature_at key (records ++ trees ++ BoundRecord bound ∷ []) (length (records ++ trees)) bound)
   pub drawn : outcome.drawn ≡ bytes_drawn draws ++ concat chance.bound.fields
   pub read : outcome.is_read ≡ true
@@ -75,14 +75,14 @@ IsFine key name message chance below draws records outcome =
     (outcome.answer ≡ Err RandomRepeated) ⊎ IsDone key name message chance below draws records outcome
 
 bound_done : (key : Key) (name message drawn : List ℕ) (chance : Chance) (records : List Record) → chance.given ≡ Some message
-    → randomizer_from key.secret chance.bound.fields ≡ Some drawn → chance.bound.fate ≡ acked
-    → IsDone key name message chance 0 [] records (bound_below key name chance 0 [] records)
+    → randomizer_of_fields key.secret chance.bound.fields ≡ Some drawn → chance.bound.fate ≡ acked
+    → IsDone key name message chance 0 [] records (bound_trees key name chance 0 [] records)
 bound_done key name message drawn chance records given is acknowledged =
     let bound = new_bound key records name (next_at key.secret records (bottom_of key.secret)) drawn message in
-    let outcome = bound_below key name chance 0 [] records in
+    let outcome = bound_trees key name chance 0 [] records in
     let none : records ++ [] ≡ records = append-nil records in
-    let came : outcome ≡ drawing (concat chance.bound.fields) (bound_with (open_on records) key name (Some drawn) (Some message) acked) =
-    ap (λ (t : Option (List ℕ) × Option (List ℕ) × Fate). drawing (concat chance.bound.fields) (bound_with (open_on records) key name t.0 t.1 t.2))
+    let came : outcome ≡ drawing (concat chance.bound.fields) (bound_message (open_state records) key name (Some drawn) (Some message) acked) =
+    ap (λ (t : Option (List ℕ) × Option (List ℕ) × Fate). drawing (concat chance.bound.fields) (bound_message (open_state records) key name t.0 t.1 t.2))
     (λ i. (is i, given i, acknowledged i)) in
     record {
       trees = [];
@@ -93,7 +93,7 @@ bound_done key name message drawn chance records given is acknowledged =
       leaf = ap (λ all. next_at key.secret all (bottom_of key.secret)) (sym none);
       randomizer = is;
       digest = ap (λ all. digest_at key all (length all) bound.leaf drawn message) (sym none);
-      state = ap (λ (o : Outcome (List ℕ)). o.state) came ∙ ap (λ all. open_on (all ++ BoundRecord bound ∷ [])) (sym none);
+      state = ap (λ (o : Outcome (List ℕ)). o.state) came ∙ ap (λ all. open_state (all ++ BoundRecord bound ∷ [])) (sym none);
       answer = ap (λ (o : Outcome (List ℕ)). o.answer) came
           ∙ ap (λ all. Ok (signature_at key (all ++ BoundRecord bound ∷ []) (length all) bound)) (sym none);
       drawn = ap (λ (o : Outcome (List ℕ)). o.drawn) came ∙ append-nil (concat chance.bound.fields);
@@ -150,7 +150,7 @@ tree_done key trees name message chance below draws records identifier seed rand
       leaf = done.leaf ∙ ap (λ all. next_at key.secret all (bottom_of key.secret)) all_records;
       randomizer = done.randomizer;
       digest = done.digest ∙ ap (λ all. digest_at key all (length all) done.bound.leaf done.bound.randomizer message) all_records;
-      state = done.state ∙ ap (λ all. open_on (all ++ BoundRecord done.bound ∷ [])) all_records;
+      state = done.state ∙ ap (λ all. open_state (all ++ BoundRecord done.bound ∷ [])) all_records;
       answer = done.answer ∙ ap (λ all. Ok (signature_at key (all ++ BoundRecord done.bound ∷ []) (length all) done.bound)) all_records;
       drawn = ap (λ bytes. identifier ++ ((seed ++ randomizer) ++ bytes)) done.drawn
           ∙ fields_drawn_before identifier seed randomizer (bytes_drawn draws) (concat chance.bound.fields);
@@ -160,10 +160,10 @@ tree_done key trees name message chance below draws records identifier seed rand
 
 -- all records of the name
 pub fine_bound_below : (key : Key) (name message drawn : List ℕ) (chance : Chance) (below : ℕ) (draws : List Draw) (records : List Record)
-    → chance.given ≡ Some message → randomizer_from key.secret chance.bound.fields ≡ Some drawn → chance.bound.fate ≡ acked
+    → chance.given ≡ Some message → randomizer_of_fields key.secret chance.bound.fields ≡ Some drawn → chance.bound.fate ≡ acked
     → below ≤ bottom_of key.secret → (0 < below → (trees : Trees) × (trees_of key.secret ≡ Some trees))
     → length draws ≡ below → ((i : ℕ) (draw : Draw) → slice_get draws i ≡ Some draw → IsComplete tree_sizes draw)
-    → IsFine key name message chance below draws records (bound_below key name chance below draws records)
+    → IsFine key name message chance below draws records (bound_trees key name chance below draws records)
 fine_bound_below key name message drawn chance zero [] records given is acknowledged inside trees count each =
     inr (bound_done key name message drawn chance records given is acknowledged)
 fine_bound_below key name message drawn chance zero (draw ∷ draws) records given is acknowledged inside trees count each = absurd (omega (arith, count))
@@ -173,9 +173,9 @@ fine_bound_below key name message drawn chance (suc below) (draw ∷ draws) reco
     let (identifier, seed, randomizer, same) = whole draw (each 0 draw refl) in
     let level = bottom_of key.secret - below in
     let first = whole_draw identifier seed randomizer acked in
-    let next = bound_below key name chance below draws in
+    let next = bound_trees key name chance below draws in
     let entry = next_extend key made records level identifier seed randomizer in
-    let done : (d : Draw) → Outcome (List ℕ) = λ d. extended (open_on records) key level (trees_of key.secret) d next in
+    let done : (d : Draw) → Outcome (List ℕ) = λ d. extended (open_state records) key level (trees_of key.secret) d next in
     subst (λ d. IsFine key name message chance (suc below) (d ∷ draws) records (done d)) (sym same)
     (elim (cases_eq_bool (has_identifier records identifier)) as (λ u. IsFine key name message chance (suc below) (first ∷ draws) records (done first)) [
       | inl there ↦ inl (again_extended key level (trees_of key.secret) made are records identifier seed randomizer there next)
@@ -197,7 +197,7 @@ fine_bound_below key name message drawn chance (suc below) (draw ∷ draws) reco
     cases_eq_bool false = inr refl
 
 pub randomizer_drawn : (secret : Secret) (fields : List (List ℕ)) → length fields ≡ length (randomizer_sizes secret)
-    → (drawn : List ℕ) × (randomizer_from secret fields ≡ Some drawn)
+    → (drawn : List ℕ) × (randomizer_of_fields secret fields ≡ Some drawn)
 randomizer_drawn (Lms secret) [] count = absurd (omega (arith, count))
 randomizer_drawn (Lms secret) (a ∷ []) count = (a, refl)
 randomizer_drawn (Lms secret) (a ∷ b ∷ rest) count = absurd (omega (arith, count))

@@ -10,22 +10,22 @@ use Rattle.state_file.specs.declared.record.Record.{Record}
 use Rattle.state_file.specs.declared.record.Record.TheVariants.{Key as KeyRecord, Extend as ExtendRecord, Bound as BoundRecord, Retire, Moved}
 use Rattle.state_file.specs.Laws.{Fits, IsLegal}
 use Rattle.state_file.proofs.Legal.{legal_beginning}
-use Rattle.sign_core.specs.Records.{can_follow, first_illegal, illegal_from, key_in}
+use Rattle.sign_core.specs.Records.{can_follow, first_illegal, next_illegal, the_key}
 use Rattle.sign_core.proofs.Lists.{slice_get_some, take_with_next}
 use Rattle.sign_core.proofs.Legal.{grew, grows}
 
 -- ---- the first record that can't follow
 
 abbrev Follows : List Record → ℕ → Record → Bool
-Follows all k entry = can_follow (key_in (take k all)) (take k all) entry
+Follows all k entry = can_follow (the_key (take k all)) (take k all) entry
 
 -- the first m records from place k on can each follow the records before it
 abbrev FollowBelow : List Record → ℕ → List Record → ℕ → Type 0
 FollowBelow all k rest m = (i : ℕ) (entry : Record) → i < m → slice_get rest i ≡ Some entry → Follows all (k + i) entry ≡ true
 
 abbrev FoundIllegal : List Record → ℕ → List Record → Type 0
-FoundIllegal all k rest = ((illegal_from all k rest ≡ None) × FollowBelow all k rest (length rest))
-    ⊎ ((at : ℕ) × (entry : Record) × (illegal_from all k rest ≡ Some (k + at)) × (slice_get rest at ≡ Some entry)
+FoundIllegal all k rest = ((next_illegal all k rest ≡ None) × FollowBelow all k rest (length rest))
+    ⊎ ((at : ℕ) × (entry : Record) × (next_illegal all k rest ≡ Some (k + at)) × (slice_get rest at ≡ Some entry)
     × (Follows all (k + at) entry ≡ false) × FollowBelow all k rest at)
 
 first_below : (all : List Record) (k m : ℕ) (first : Record) (rest : List Record) → Follows all k first ≡ true → FollowBelow all (k + 1) rest m
@@ -40,13 +40,13 @@ first_below all k m first rest follows below (suc i) entry under at =
 found_illegal_first : (all : List Record) (k : ℕ) (first : Record) (rest : List Record) (follows : Bool) → Follows all k first ≡ follows
     → FoundIllegal all (k + 1) rest → FoundIllegal all k (first ∷ rest)
 found_illegal_first all k first rest true is (inl (at, below)) =
-    inl (ap (λ b. cond b (illegal_from all (k + 1) rest) (Some k)) is ∙ at, first_below all k (length rest) first rest is below)
+    inl (ap (λ b. cond b (next_illegal all (k + 1) rest) (Some k)) is ∙ at, first_below all k (length rest) first rest is below)
 found_illegal_first all k first rest true is (inr (at, entry, found, stands, not, below)) =
     let on : k + 1 + at ≡ k + suc at = omega arith in
     inr (
       suc at,
       entry,
-      ap (λ b. cond b (illegal_from all (k + 1) rest) (Some k)) is ∙ found ∙ ap Some on,
+      ap (λ b. cond b (next_illegal all (k + 1) rest) (Some k)) is ∙ found ∙ ap Some on,
       stands,
       ap (λ n. Follows all n entry) (sym on) ∙ not,
       first_below all k at first rest is below,
@@ -56,7 +56,7 @@ found_illegal_first all k first rest false is later =
     inr (
       0,
       first,
-      ap (λ b. cond b (illegal_from all (k + 1) rest) (Some k)) is ∙ ap Some here,
+      ap (λ b. cond b (next_illegal all (k + 1) rest) (Some k)) is ∙ ap Some here,
       refl,
       ap (λ n. Follows all n first) (sym here) ∙ is,
       λ i entry under at. absurd (omega (arith, under)),
@@ -177,55 +177,55 @@ first_is records k is = elim (found_illegal records 0 records) [
 -- ---- one more record
 
 pub illegal_append : (all : List Record) (k : ℕ) (xs ys : List Record)
-    → illegal_from all k (xs ++ ys) ≡ option_or (illegal_from all k xs) (illegal_from all (k + length xs) ys)
-illegal_append all k [] ys = let here : k ≡ k + 0 = omega arith in ap (λ n. illegal_from all n ys) here
+    → next_illegal all k (xs ++ ys) ≡ option_or (next_illegal all k xs) (next_illegal all (k + length xs) ys)
+illegal_append all k [] ys = let here : k ≡ k + 0 = omega arith in ap (λ n. next_illegal all n ys) here
 illegal_append all k (first ∷ xs) ys =
     let on : k + 1 + length xs ≡ k + suc (length xs) = omega arith in
-    by (Follows all k first) (illegal_append all (k + 1) xs ys ∙ ap (λ n. option_or (illegal_from all (k + 1) xs) (illegal_from all n ys)) on)
+    by (Follows all k first) (illegal_append all (k + 1) xs ys ∙ ap (λ n. option_or (next_illegal all (k + 1) xs) (next_illegal all n ys)) on)
   where
     by : (follows : Bool)
-        → illegal_from all (k + 1) (xs ++ ys) ≡ option_or (illegal_from all (k + 1) xs) (illegal_from all (k + suc (length xs)) ys)
-        → cond follows (illegal_from all (k + 1) (xs ++ ys)) (Some k)
-        ≡ option_or (cond follows (illegal_from all (k + 1) xs) (Some k)) (illegal_from all (k + suc (length xs)) ys)
+        → next_illegal all (k + 1) (xs ++ ys) ≡ option_or (next_illegal all (k + 1) xs) (next_illegal all (k + suc (length xs)) ys)
+        → cond follows (next_illegal all (k + 1) (xs ++ ys)) (Some k)
+        ≡ option_or (cond follows (next_illegal all (k + 1) xs) (Some k)) (next_illegal all (k + suc (length xs)) ys)
     by true rest = rest
     by false rest = refl
 
 pub illegal_front : (records more : List Record) (k : ℕ) (rest : List Record) → k + length rest ≤ length records
-    → illegal_from (records ++ more) k rest ≡ illegal_from records k rest
+    → next_illegal (records ++ more) k rest ≡ next_illegal records k rest
 illegal_front records more k [] within = refl
 illegal_front records more k (first ∷ rest) within =
     let same : take k (records ++ more) ≡ take k records = take-append-le k records more (omega (arith, within)) in
     let others = illegal_front records more (k + 1) rest (omega (arith, within)) in
-    λ i. cond (can_follow (key_in (same i)) (same i) first) (others i) (Some k)
+    λ i. cond (can_follow (the_key (same i)) (same i) first) (others i) (Some k)
 
 -- the first illegal record stays; without one, it is a new record that can't follow
 pub first_illegal_appended : (records : List Record) (entry : Record)
     → first_illegal (records ++ entry ∷ [])
-    ≡ option_or (first_illegal records) (cond (can_follow (key_in records) records entry) None (Some (length records)))
+    ≡ option_or (first_illegal records) (cond (can_follow (the_key records) records entry) None (Some (length records)))
 first_illegal_appended records entry =
     let here : 0 + length records ≡ length records = omega arith in
     let whole : take (length records) (records ++ entry ∷ []) ≡ records = take_at records (entry ∷ []) (length records) refl in
     illegal_append (records ++ entry ∷ []) 0 records (entry ∷ [])
-    ∙ ap (λ n. option_or (illegal_from (records ++ entry ∷ []) 0 records) (illegal_from (records ++ entry ∷ []) n (entry ∷ []))) here
+    ∙ ap (λ n. option_or (next_illegal (records ++ entry ∷ []) 0 records) (next_illegal (records ++ entry ∷ []) n (entry ∷ []))) here
     ∙ (λ i. option_or (illegal_front records (entry ∷ []) 0 records (omega arith) i)
-    (cond (can_follow (key_in (whole i)) (whole i) entry) None (Some (length records))))
+    (cond (can_follow (the_key (whole i)) (whole i) entry) None (Some (length records))))
 
 -- ---- more records
 
 pub first_illegal_after : (records more : List Record)
-    → first_illegal (records ++ more) ≡ option_or (first_illegal records) (illegal_from (records ++ more) (length records) more)
+    → first_illegal (records ++ more) ≡ option_or (first_illegal records) (next_illegal (records ++ more) (length records) more)
 first_illegal_after records more =
     let here : 0 + length records ≡ length records = omega arith in
     illegal_append (records ++ more) 0 records more
-    ∙ ap (λ n. option_or (illegal_from (records ++ more) 0 records) (illegal_from (records ++ more) n more)) here
-    ∙ ap (λ o. option_or o (illegal_from (records ++ more) (length records) more)) (illegal_front records more 0 records (omega arith))
+    ∙ ap (λ n. option_or (next_illegal (records ++ more) 0 records) (next_illegal (records ++ more) n more)) here
+    ∙ ap (λ o. option_or o (next_illegal (records ++ more) (length records) more)) (illegal_front records more 0 records (omega arith))
 
 -- the first illegal record is no earlier than the search begins
-illegal_least : (all : List Record) (k : ℕ) (rest : List Record) (j : ℕ) → illegal_from all k rest ≡ Some j → k ≤ j
+illegal_least : (all : List Record) (k : ℕ) (rest : List Record) (j : ℕ) → next_illegal all k rest ≡ Some j → k ≤ j
 illegal_least all k [] j is = absurd (none-some j is)
 illegal_least all k (first ∷ rest) j is = by (Follows all k first) is (illegal_least all (k + 1) rest j)
   where
-    by : (follows : Bool) → cond follows (illegal_from all (k + 1) rest) (Some k) ≡ Some j → (illegal_from all (k + 1) rest ≡ Some j → k + 1 ≤ j) → k ≤ j
+    by : (follows : Bool) → cond follows (next_illegal all (k + 1) rest) (Some k) ≡ Some j → (next_illegal all (k + 1) rest ≡ Some j → k + 1 ≤ j) → k ≤ j
     by true is later = omega (arith, later is)
     by false is later = omega (arith, same_Some k j is)
 
@@ -233,4 +233,4 @@ illegal_least all k (first ∷ rest) j is = by (Follows all k first) is (illegal
 pub illegal_after : (records more : List Record) (j : ℕ) → first_illegal records ≡ None → first_illegal (records ++ more) ≡ Some j → length records ≤ j
 illegal_after records more j legal is =
     illegal_least (records ++ more) (length records) more j
-    (sym (first_illegal_after records more ∙ ap (λ o. option_or o (illegal_from (records ++ more) (length records) more)) legal) ∙ is)
+    (sym (first_illegal_after records more ∙ ap (λ o. option_or o (next_illegal (records ++ more) (length records) more)) legal) ∙ is)

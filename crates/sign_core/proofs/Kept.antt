@@ -11,7 +11,7 @@ use Rattle.state_file.specs.declared.record.Record.{Record}
 use Rattle.state_file.specs.declared.record.Record.TheVariants.{Key as KeyRecord, Extend as ExtendRecord, Bound as BoundRecord, Retire, Moved}
 use Rattle.state_file.specs.declared.record.Secret.{Secret}
 use Rattle.state_file.specs.Laws.{bottom_of}
-use Rattle.sign_core.specs.Records.{current, in_tree, next_in, number_in, reaches}
+use Rattle.sign_core.specs.Records.{current, in_tree, next_leaf, reached_number, reaches}
 use Rattle.sign_core.specs.inner.Trees.{AreAbove, FollowsBound, FollowsExtend, FollowsRetire, IsBegun, IsRaised, raised}
 use Rattle.sign_core.specs.Trees.{HasTrees, kept_at, tree_at, with_next}
 use Rattle.sign_core.specs.declared.trees.Tree.{Tree}
@@ -59,7 +59,7 @@ tree_kept secret records key entry level other tree n first is reached apart kep
     by (Some own) at =
         let away : tree ≢ own = λ same. trees_apart records key other level own tree first at is apart (sym same) in
         ap (λ m. Some (record { place = own; next = m }))
-        (next_kept secret records entry own (ap (number_in own) reached ∙ number_other own tree n away))
+        (next_kept secret records entry own (ap (reached_number own) reached ∙ number_other own tree n away))
 
 -- a record that reaches a number in a level's tree, and changes no tree, raises what is kept of that level
 pub has_raised : (secret : Secret) (records : List Record) (key : Key) (entry : Record) (level tree n : ℕ) (old new : List (Option Tree))
@@ -146,15 +146,15 @@ follows_moved secret records levels has k within =
 -- ---- what is kept, read
 
 with_next_means : (secret : Secret) (records : List Record) (found : Option ℕ) (tree : Tree) → with_next secret records found ≡ Some tree
-    → (found ≡ Some tree.place) × (next_in secret records tree.place ≡ tree.next)
+    → (found ≡ Some tree.place) × (next_leaf secret records tree.place ≡ tree.next)
 with_next_means secret records None tree is = absurd (none-some tree is)
 with_next_means secret records (Some place) tree is =
-    let same = same_Some (record { place = place; next = next_in secret records place }) tree is in
-    (ap (λ t. Some t.place) same, subst (λ p. next_in secret records p ≡ tree.next) (ap (λ t. t.place) same) (ap (λ t. t.next) same))
+    let same = same_Some (record { place = place; next = next_leaf secret records place }) tree is in
+    (ap (λ t. Some t.place) same, subst (λ p. next_leaf secret records p ≡ tree.next) (ap (λ t. t.place) same) (ap (λ t. t.next) same))
 
 -- a tree that is kept is current, and its next leaf is kept with it
 pub kept_tree : (secret : Secret) (records : List Record) (levels : List (Option Tree)) (level : ℕ) (tree : Tree) → HasTrees secret records levels
-    → level < 8 → kept_at levels level ≡ Some tree → (current level records ≡ Some tree.place) × (next_in secret records tree.place ≡ tree.next)
+    → level < 8 → kept_at levels level ≡ Some tree → (current level records ≡ Some tree.place) × (next_leaf secret records tree.place ≡ tree.next)
 kept_tree secret records levels level tree has within is =
     with_next_means secret records (current level records) tree (sym (has level within) ∙ is)
 
@@ -164,4 +164,4 @@ kept_none secret records levels level has within is = by (current level records)
   where
     by : (found : Option ℕ) → with_next secret records found ≡ None → found ≡ None
     by None none = refl
-    by (Some place) none = absurd (none-some (record { place = place; next = next_in secret records place }) (sym none))
+    by (Some place) none = absurd (none-some (record { place = place; next = next_leaf secret records place }) (sym none))

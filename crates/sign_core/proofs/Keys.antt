@@ -6,9 +6,9 @@ use Rattle.state_file.specs.Laws.{IsLegal}
 use Rattle.state_file.specs.declared.record.Key.{Key}
 use Rattle.state_file.specs.declared.record.Record.{Record}
 use Rattle.state_file.specs.declared.record.Record.TheVariants.{Key as KeyRecord, Extend as ExtendRecord, Bound as BoundRecord, Retire, Moved}
-use Rattle.sign_core.specs.Records.{key_in}
+use Rattle.sign_core.specs.Records.{the_key}
 
-pub key_stands : (records : List Record) (key : Key) → key_in records ≡ Some key → slice_get records 0 ≡ Some (KeyRecord key)
+pub key_stands : (records : List Record) (key : Key) → the_key records ≡ Some key → slice_get records 0 ≡ Some (KeyRecord key)
 key_stands [] key is = absurd (cc)
 key_stands (KeyRecord first ∷ rest) key is = ap (λ k. Some (KeyRecord k)) (same_Some first key is)
 key_stands (ExtendRecord extend ∷ rest) key is = absurd (cc)
@@ -29,5 +29,5 @@ one_key : (a b : Key) → Some (KeyRecord a) ≡ Some (KeyRecord b) → a ≡ b
 unfolding key_of_record
 one_key a b same = same_Some a b (ap key_of_record same)
 
-pub legal_key : (records : List Record) (key : Key) (legal : IsLegal records) → key_in records ≡ Some key → legal.key ≡ key
+pub legal_key : (records : List Record) (key : Key) (legal : IsLegal records) → the_key records ≡ Some key → legal.key ≡ key
 legal_key records key legal is = one_key legal.key key (sym legal.first ∙ key_stands records key is)

@@ -11,22 +11,22 @@ use Rattle.state_file.specs.declared.record.Record.TheVariants.{Key as KeyRecord
 use Rattle.state_file.specs.declared.record.Secret.{Secret}
 use Rattle.sign_core.specs.declared.key.AnyPublic.{AnyPublic}
 use Rattle.sign_core.specs.declared.fault.SignFault.{SignFault}
-use Rattle.sign_core.specs.Records.{are_same, binding_in, deepest, first_illegal, has_identifier, has_moved, key_in, leaves_of_current, next_at, is_long}
+use Rattle.sign_core.specs.Records.{are_same, binding_at, deepest, first_illegal, has_identifier, has_moved, the_key, leaves_of_current, next_at, is_long}
 use Rattle.sign_core.specs.Records.{wanted_count}
-use Rattle.sign_core.specs.Textbook.{Trees, damaged_in, digest_at, public_in, tree_before, trees_of}
+use Rattle.sign_core.specs.Textbook.{Trees, damaged_at, digest_at, any_public_of, current_at, trees_of}
 use Rattle.sign_core.specs.World.{Chance, Creation, Draw, Event, Fate, Opening, Outcome, State, World, acked, after, appended}
-use Rattle.sign_core.specs.inner.Cases.{begun, bound_anew}
-use Rattle.sign_core.specs.inner.Cases.{bound_sound, bound_with}
+use Rattle.sign_core.specs.inner.Cases.{begun, bound_level}
+use Rattle.sign_core.specs.inner.Cases.{bound_sound, bound_message}
 use Rattle.sign_core.specs.World.{create, created, cut_new, cut_old, first_draw}
-use Rattle.sign_core.specs.inner.Cases.{created_after, extended, extended_by, extended_with, bound_below}
-use Rattle.sign_core.specs.World.{new_key, no_memory, open_on, opened, randomizer_from, reopen}
-use Rattle.sign_core.specs.inner.Cases.{opened_by, opened_on, published, repeated}
+use Rattle.sign_core.specs.inner.Cases.{created_load, extended, extended_identifier, extended_seed, bound_trees}
+use Rattle.sign_core.specs.World.{new_key, no_memory, open_state, opened, randomizer_of_fields, reopen}
+use Rattle.sign_core.specs.inner.Cases.{opened_illegal, opened_key, published, repeated}
 use Rattle.sign_core.specs.World.{request}
 use Rattle.sign_core.specs.inner.Cases.{repeated_sound}
-use Rattle.sign_core.specs.World.{retire, retired, run, secret_from, stop, migrate}
-use Rattle.sign_core.specs.inner.Cases.{requested_of, requested_under, retired_under}
+use Rattle.sign_core.specs.World.{retire, retired, run, secret_of_fields, stop, migrate}
+use Rattle.sign_core.specs.inner.Cases.{requested_binding, requested_key, retired_key}
 use Rattle.sign_core.specs.Lasting.{IsCarriedInto, IsNoMigration, LastingLaw, LastsInto, lasting}
-use Rattle.sign_core.specs.World.{Migration, carried_over, left_alone, migrated_to, sealed}
+use Rattle.sign_core.specs.World.{Migration, carried_over, left_alone, migrated_list, sealed}
 use Rattle.sign_core.proofs.Migrating.{front_of, migrated_has}
 use Rattle.state_file.specs.Carried.{carried, in_version, unmoved, with_moved}
 use Rattle.state_file.specs.declared.record.Version.{Version}
@@ -64,19 +64,19 @@ grown_published records None = unchanged records
 grown_begun : (state : State) (chance : Creation) (secret : Option Secret) → Grown state.records (begun state chance secret)
 grown_begun state chance None = unchanged state.records
 grown_begun state chance (Some secret) = grown_choice state.records (not chance.has_room) _ _ (unchanged state.records)
-    (grown_append state (KeyRecord (new_key chance.version secret)) chance.fate _ (λ records. grown_published records (public_in (new_key chance.version secret))))
+    (grown_append state (KeyRecord (new_key chance.version secret)) chance.fate _ (λ records. grown_published records (any_public_of (new_key chance.version secret))))
 
-grown_created : (failed : Option SignFault) (state : State) (spec : Spec) (chance : Creation) → Grown state.records (created_after failed state spec chance)
+grown_created : (failed : Option SignFault) (state : State) (spec : Spec) (chance : Creation) → Grown state.records (created_load failed state spec chance)
 grown_created (Some fault) state spec chance = unchanged state.records
 grown_created None state spec chance = grown_choice state.records (nat_le 1 (length state.records)) _ _ (unchanged state.records)
-    (grown_begun state chance (secret_from spec chance.fields))
+    (grown_begun state chance (secret_of_fields spec chance.fields))
 
-grown_opened_on : (records : List Record) (found : Option Key) → Grown records (opened_on records found)
+grown_opened_on : (records : List Record) (found : Option Key) → Grown records (opened_key records found)
 grown_opened_on records None = unchanged records
-grown_opened_on records (Some key) = grown_published records (public_in key)
+grown_opened_on records (Some key) = grown_published records (any_public_of key)
 
-grown_opened : (state : State) (chance : Opening) (illegal : Option ℕ) → Grown state.records (opened_by state chance illegal)
-grown_opened state None None = grown_opened_on state.records (key_in state.records)
+grown_opened : (state : State) (chance : Opening) (illegal : Option ℕ) → Grown state.records (opened_illegal state chance illegal)
+grown_opened state None None = grown_opened_on state.records (the_key state.records)
 grown_opened state None (Some k) = unchanged state.records
 grown_opened state (Some (slot, fault)) None = unchanged state.records
 grown_opened state (Some (slot, fault)) (Some k) = unchanged state.records
@@ -84,37 +84,37 @@ grown_opened state (Some (slot, fault)) (Some k) = unchanged state.records
 -- ---- requests
 
 grown_bound : (state : State) (key : Key) (name : List ℕ) (randomizer given : Option (List ℕ)) (fate : Fate)
-    → Grown state.records (bound_with state key name randomizer given fate)
+    → Grown state.records (bound_message state key name randomizer given fate)
 grown_bound state key name None given fate = unchanged state.records
 grown_bound state key name (Some randomizer) None fate = unchanged state.records
 grown_bound state key name (Some randomizer) (Some message) fate = grown_append state _ fate _ (λ records. unchanged records)
 
-grown_with : (state : State) (trees : Trees) (level leaf : ℕ) (identifier : List ℕ) (fields : List (List ℕ)) (fate : Fate)
+grown_seed : (state : State) (trees : Trees) (level leaf : ℕ) (identifier : List ℕ) (fields : List (List ℕ)) (fate : Fate)
     (next : List Record → Outcome (List ℕ))
-    → ((records : List Record) → Grown records (next records)) → Grown state.records (extended_with state trees level leaf identifier fields fate next)
-grown_with state trees level leaf identifier [] fate next later = unchanged state.records
-grown_with state trees level leaf identifier (seed ∷ []) fate next later = unchanged state.records
-grown_with state trees level leaf identifier (seed ∷ randomizer ∷ []) fate next later = grown_append state _ fate next later
-grown_with state trees level leaf identifier (seed ∷ randomizer ∷ more ∷ rest) fate next later = unchanged state.records
+    → ((records : List Record) → Grown records (next records)) → Grown state.records (extended_seed state trees level leaf identifier fields fate next)
+grown_seed state trees level leaf identifier [] fate next later = unchanged state.records
+grown_seed state trees level leaf identifier (seed ∷ []) fate next later = unchanged state.records
+grown_seed state trees level leaf identifier (seed ∷ randomizer ∷ []) fate next later = grown_append state _ fate next later
+grown_seed state trees level leaf identifier (seed ∷ randomizer ∷ more ∷ rest) fate next later = unchanged state.records
 
-grown_by : (state : State) (trees : Trees) (level leaf : ℕ) (fields : List (List ℕ)) (fate : Fate) (next : List Record → Outcome (List ℕ))
-    → ((records : List Record) → Grown records (next records)) → Grown state.records (extended_by state trees level leaf fields fate next)
-grown_by state trees level leaf [] fate next later = unchanged state.records
-grown_by state trees level leaf (identifier ∷ fields) fate next later = grown_choice state.records (has_identifier state.records identifier) _ _
-    (unchanged state.records) (grown_with state trees level leaf identifier fields fate next later)
+grown_identifier : (state : State) (trees : Trees) (level leaf : ℕ) (fields : List (List ℕ)) (fate : Fate) (next : List Record → Outcome (List ℕ))
+    → ((records : List Record) → Grown records (next records)) → Grown state.records (extended_identifier state trees level leaf fields fate next)
+grown_identifier state trees level leaf [] fate next later = unchanged state.records
+grown_identifier state trees level leaf (identifier ∷ fields) fate next later = grown_choice state.records (has_identifier state.records identifier) _ _
+    (unchanged state.records) (grown_seed state trees level leaf identifier fields fate next later)
 
 grown_extended : (state : State) (key : Key) (level : ℕ) (trees : Option Trees) (draw : Draw) (next : List Record → Outcome (List ℕ))
     → ((records : List Record) → Grown records (next records)) → Grown state.records (extended state key level trees draw next)
 grown_extended state key level None draw next later = unchanged state.records
 grown_extended state key level (Some trees) draw next later =
-    grown_by state trees level (next_at key.secret state.records (level - 1)) draw.fields draw.fate next later
+    grown_identifier state trees level (next_at key.secret state.records (level - 1)) draw.fields draw.fate next later
 
 grown_bound_below : (key : Key) (name : List ℕ) (chance : Chance) (below : ℕ) (draws : List Draw) (records : List Record)
-    → Grown records (bound_below key name chance below draws records)
+    → Grown records (bound_trees key name chance below draws records)
 grown_bound_below key name chance zero draws records =
-    grown_bound (open_on records) key name (randomizer_from key.secret chance.bound.fields) chance.given chance.bound.fate
+    grown_bound (open_state records) key name (randomizer_of_fields key.secret chance.bound.fields) chance.given chance.bound.fate
 grown_bound_below key name chance (suc below) draws records =
-    grown_extended (open_on records) key (bottom_of key.secret - below) (trees_of key.secret) (first_draw draws) _
+    grown_extended (open_state records) key (bottom_of key.secret - below) (trees_of key.secret) (first_draw draws) _
     (grown_bound_below key name chance below (drop 1 draws))
 
 grown_sound : (state : State) (key : Key) (name : List ℕ) (chance : Chance) (level : ℕ) (damaged : Option ℕ)
@@ -122,13 +122,13 @@ grown_sound : (state : State) (key : Key) (name : List ℕ) (chance : Chance) (l
 grown_sound state key name chance level (Some slot) = unchanged state.records
 grown_sound state key name chance level None = grown_bound_below key name chance (bottom_of key.secret - level) chance.trees state.records
 
-grown_anew : (limit : ℕ) (state : State) (key : Key) (name : List ℕ) (chance : Chance) (level : Option ℕ)
-    → Grown state.records (bound_anew limit state key name chance level)
-grown_anew limit state key name chance None = unchanged state.records
-grown_anew limit state key name chance (Some level) =
+grown_level : (limit : ℕ) (state : State) (key : Key) (name : List ℕ) (chance : Chance) (level : Option ℕ)
+    → Grown state.records (bound_level limit state key name chance level)
+grown_level limit state key name chance None = unchanged state.records
+grown_level limit state key name chance (Some level) =
     grown_choice state.records (nat_lt limit (length state.records + wanted_count key.secret level)) _ _ (unchanged state.records)
     (grown_choice state.records (not chance.has_room) _ _ (unchanged state.records)
-    (grown_sound state key name chance level (damaged_in key level state.records (tree_before level state.records (length state.records)))))
+    (grown_sound state key name chance level (damaged_at key level state.records (current_at level state.records (length state.records)))))
 
 grown_repeated_sound : (state : State) (key : Key) (k : ℕ) (bound : Bound) (damaged : Option ℕ) → Grown state.records (repeated_sound state key k bound damaged)
 grown_repeated_sound state key k bound (Some slot) = unchanged state.records
@@ -142,21 +142,21 @@ grown_repeated state key k bound chance (Some message) =
     (grown_choice state.records (not chance.has_room) _ _ (unchanged state.records) (grown_repeated_sound state key k bound _))
 
 grown_of : (limit : ℕ) (state : State) (key : Key) (name : List ℕ) (chance : Chance) (found : Option (ℕ × Bound))
-    → Grown state.records (requested_of limit state key name chance found)
+    → Grown state.records (requested_binding limit state key name chance found)
 grown_of limit state key name chance (Some (k, bound)) = grown_repeated state key k bound chance chance.given
 grown_of limit state key name chance None = grown_choice state.records (is_long key name) _ _ (unchanged state.records)
-    (grown_anew limit state key name chance (deepest key.secret state.records))
+    (grown_level limit state key name chance (deepest key.secret state.records))
 
-grown_under : (limit : ℕ) (state : State) (name : List ℕ) (chance : Chance) (found : Option Key)
-    → Grown state.records (requested_under limit state name chance found)
-grown_under limit state name chance None = unchanged state.records
-grown_under limit state name chance (Some key) = grown_choice state.records (not state.is_open) _ _ (unchanged state.records)
+grown_key : (limit : ℕ) (state : State) (name : List ℕ) (chance : Chance) (found : Option Key)
+    → Grown state.records (requested_key limit state name chance found)
+grown_key limit state name chance None = unchanged state.records
+grown_key limit state name chance (Some key) = grown_choice state.records (not state.is_open) _ _ (unchanged state.records)
     (grown_choice state.records (has_moved state.records) _ _ (unchanged state.records)
-    (grown_of limit state key name chance (binding_in state.records name)))
+    (grown_of limit state key name chance (binding_at state.records name)))
 
 -- ---- retire
 
-grown_retired : (limit : ℕ) (state : State) (upto : ℕ) (fate : Fate) (found : Option Key) → Grown state.records (retired_under limit state upto fate found)
+grown_retired : (limit : ℕ) (state : State) (upto : ℕ) (fate : Fate) (found : Option Key) → Grown state.records (retired_key limit state upto fate found)
 grown_retired limit state upto fate None = unchanged state.records
 grown_retired limit state upto fate (Some key) = grown_choice state.records (not state.is_open) _ _ (unchanged state.records)
     (grown_choice state.records (has_moved state.records) _ _ (unchanged state.records)
@@ -177,10 +177,10 @@ extends_after limit world (create spec chance) none =
 extends_after limit world (reopen chance) none =
     only_grown world (opened world.state chance) (grown_opened world.state chance (first_illegal world.state.records))
 extends_after limit world (request name chance) none =
-    let (more, are) = grown_under limit world.state name chance (key_in world.state.records) in
+    let (more, are) = grown_key limit world.state name chance (the_key world.state.records) in
     record { records = more; handed = _; records_are = are; handed_are = refl }
 extends_after limit world (retire upto fate) none =
-    only_grown world (retired limit world.state upto fate) (grown_retired limit world.state upto fate (key_in world.state.records))
+    only_grown world (retired limit world.state upto fate) (grown_retired limit world.state upto fate (the_key world.state.records))
 extends_after limit world (migrate fate) none = absurd none
 extends_after limit world stop none =
     record { records = []; handed = []; records_are = sym (append-nil world.state.records); handed_are = sym (append-nil world.handed) }
@@ -241,7 +241,7 @@ lasting_carried records = lasting_in Two (unmoved records) ∙ (elim (cases_Bool
   | inr stays ↦ ap (λ test. lasting (if test then take (length records - 1) records else records)) stays
 ])
 
-lasting_to : (records : List Record) (fate : Migration) → lasting (migrated_to records fate) ≡ lasting records
+lasting_to : (records : List Record) (fate : Migration) → lasting (migrated_list records fate) ≡ lasting records
 lasting_to records left_alone = refl
 lasting_to records sealed = lasting_sealed records
 lasting_to records carried_over = lasting_carried records

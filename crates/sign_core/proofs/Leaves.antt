@@ -9,7 +9,7 @@ use Rattle.std.proofs.lemmas.List.{reverse-append}
 use Rattle.state_file.specs.declared.record.Record.{Record}
 use Rattle.state_file.specs.declared.record.Secret.{Secret}
 use Rattle.state_file.specs.Laws.{levels_of}
-use Rattle.sign_core.specs.Records.{IsNext, deepest, free_at, next_in, number_in, numbers_from, reaches}
+use Rattle.sign_core.specs.Records.{IsNext, deepest, free_at, next_leaf, reached_number, reached_numbers, reaches}
 
 -- ---- the greatest of a list of numbers
 
@@ -36,13 +36,13 @@ is_one least (n ∷ ns) = elim (is_one (max least n) ns) [
 
 -- ---- the next leaf of a tree
 
-pub number_own : (tree n : ℕ) → number_in tree (Some (tree, n)) ≡ n
+pub number_own : (tree n : ℕ) → reached_number tree (Some (tree, n)) ≡ n
 number_own tree n = ap (λ b. cond b n 0) (eq-eqb tree tree refl)
 
-pub number_other : (tree other n : ℕ) → other ≢ tree → number_in tree (Some (other, n)) ≡ 0
+pub number_other : (tree other n : ℕ) → other ≢ tree → reached_number tree (Some (other, n)) ≡ 0
 number_other tree other n apart = ap (λ b. cond b n 0) (ne_eqb other tree apart)
 
-number_means : (tree n : ℕ) (reached : Option (ℕ × ℕ)) → number_in tree reached ≡ n → (n ≡ 0) ⊎ (reached ≡ Some (tree, n))
+number_means : (tree n : ℕ) (reached : Option (ℕ × ℕ)) → reached_number tree reached ≡ n → (n ≡ 0) ⊎ (reached ≡ Some (tree, n))
 number_means tree n None is = inl (sym is)
 number_means tree n (Some (other, m)) is = by (nat_eq other tree) refl is
   where
@@ -52,40 +52,40 @@ number_means tree n (Some (other, m)) is = by (nat_eq other tree) refl is
 
 -- the numbers that records reach in a tree, by their places
 number_at : (secret : Secret) (all : List Record) (tree k : ℕ) (rest : List Record) (i : ℕ) (entry : Record) → slice_get rest i ≡ Some entry
-    → slice_get (numbers_from secret all tree k rest) i ≡ Some (number_in tree (reaches secret (take (k + i) all) entry))
+    → slice_get (reached_numbers secret all tree k rest) i ≡ Some (reached_number tree (reaches secret (take (k + i) all) entry))
 number_at secret all tree k [] i entry at = absurd (none-some entry at)
 number_at secret all tree k (first ∷ rest) zero entry at =
     let here : k ≡ k + 0 = omega arith in
-    λ j. Some (number_in tree (reaches secret (take (here j) all) (same_Some first entry at j)))
+    λ j. Some (reached_number tree (reaches secret (take (here j) all) (same_Some first entry at j)))
 number_at secret all tree k (first ∷ rest) (suc i) entry at =
     let on : k + 1 + i ≡ k + suc i = omega arith in
-    number_at secret all tree (k + 1) rest i entry at ∙ ap (λ n. Some (number_in tree (reaches secret (take n all) entry))) on
+    number_at secret all tree (k + 1) rest i entry at ∙ ap (λ n. Some (reached_number tree (reaches secret (take n all) entry))) on
 
 at_number : (secret : Secret) (all : List Record) (tree k : ℕ) (rest : List Record) (i n : ℕ)
-    → slice_get (numbers_from secret all tree k rest) i ≡ Some n
-    → (entry : Record) × (slice_get rest i ≡ Some entry) × (number_in tree (reaches secret (take (k + i) all) entry) ≡ n)
+    → slice_get (reached_numbers secret all tree k rest) i ≡ Some n
+    → (entry : Record) × (slice_get rest i ≡ Some entry) × (reached_number tree (reaches secret (take (k + i) all) entry) ≡ n)
 at_number secret all tree k [] i n at = absurd (none-some n at)
 at_number secret all tree k (first ∷ rest) zero n at =
     let here : k + 0 ≡ k = omega arith in
-    (first, refl, ap (λ m. number_in tree (reaches secret (take m all) first)) here ∙ same_Some (number_in tree (reaches secret (take k all) first)) n at)
+    (first, refl, ap (λ m. reached_number tree (reaches secret (take m all) first)) here ∙ same_Some (reached_number tree (reaches secret (take k all) first)) n at)
 at_number secret all tree k (first ∷ rest) (suc i) n at =
     let on : k + suc i ≡ k + 1 + i = omega arith in
     let (entry, stands, number) = at_number secret all tree (k + 1) rest i n at in
-    (entry, stands, ap (λ m. number_in tree (reaches secret (take m all) entry)) on ∙ number)
+    (entry, stands, ap (λ m. reached_number tree (reaches secret (take m all) entry)) on ∙ number)
 
 next_above : (secret : Secret) (records : List Record) (tree k n : ℕ) (entry : Record) → slice_get records k ≡ Some entry
-    → reaches secret (take k records) entry ≡ Some (tree, n) → n ≤ next_in secret records tree
+    → reaches secret (take k records) entry ≡ Some (tree, n) → n ≤ next_leaf secret records tree
 next_above secret records tree k n entry at reached =
     let place : 0 + k ≡ k = omega arith in
-    let own : number_in tree (reaches secret (take (0 + k) records) entry) ≡ n =
-    ap (λ m. number_in tree (reaches secret (take m records) entry)) place ∙ ap (number_in tree) reached ∙ number_own tree n in
-    above_each 0 (numbers_from secret records tree 0 records) k n (number_at secret records tree 0 records k entry at ∙ ap Some own)
+    let own : reached_number tree (reaches secret (take (0 + k) records) entry) ≡ n =
+    ap (λ m. reached_number tree (reaches secret (take m records) entry)) place ∙ ap (reached_number tree) reached ∙ number_own tree n in
+    above_each 0 (reached_numbers secret records tree 0 records) k n (number_at secret records tree 0 records k entry at ∙ ap Some own)
 
 abbrev Reached : Secret → List Record → (tree next : ℕ) → Type 0
 Reached secret records tree next = (k : ℕ) × (entry : Record) × (slice_get records k ≡ Some entry)
     × (reaches secret (take k records) entry ≡ Some (tree, next))
 
-next_reached : (secret : Secret) (records : List Record) (tree i next : ℕ) → slice_get (numbers_from secret records tree 0 records) i ≡ Some next
+next_reached : (secret : Secret) (records : List Record) (tree i next : ℕ) → slice_get (reached_numbers secret records tree 0 records) i ≡ Some next
     → (next ≡ 0) ⊎ Reached secret records tree next
 next_reached secret records tree i next at =
     let (entry, stands, number) = at_number secret records tree 0 records i next at in
@@ -95,13 +95,13 @@ next_reached secret records tree i next at =
       | inr reached ↦ inr (i, entry, stands, ap (λ m. reaches secret (take m records) entry) place ∙ reached)
     ]
 
--- `next_in` is the least number above every leaf that is named or retired
-pub is_next : (secret : Secret) (records : List Record) (tree : ℕ) → IsNext secret records tree (next_in secret records tree)
+-- `next_leaf` is the least number above every leaf that is named or retired
+pub is_next : (secret : Secret) (records : List Record) (tree : ℕ) → IsNext secret records tree (next_leaf secret records tree)
 is_next secret records tree = record {
   above = λ k n entry at reached. next_above secret records tree k n entry at reached;
-  least = elim (is_one 0 (numbers_from secret records tree 0 records)) [
+  least = elim (is_one 0 (reached_numbers secret records tree 0 records)) [
     | inl none ↦ inl none
-    | inr (i, at) ↦ next_reached secret records tree i (next_in secret records tree) at
+    | inr (i, at) ↦ next_reached secret records tree i (next_leaf secret records tree) at
   ];
 }
 

@@ -17,13 +17,13 @@ use Rattle.state_file.specs.declared.record.Record.{Record}
 use Rattle.state_file.specs.declared.record.Record.TheVariants.{Extend as ExtendRecord, Bound as BoundRecord}
 use Rattle.state_file.specs.declared.record.Secret.{Secret}
 use Rattle.state_file.specs.declared.record.Secret.TheVariants.{Lms, Hss, Xmss}
-use Rattle.state_file.specs.Laws.{bottom_of, leaves_at, leaves_in, levels_of}
-use Rattle.sign_core.specs.Records.{are_same, binding_in, can_follow, can_follow_legal, current, has_identifier, has_moved, has_randomizer, is_free}
-use Rattle.sign_core.specs.Ledger.{ByPlace, ByText, IsTableOf, made_at, made_by, of_place, of_text}
+use Rattle.state_file.specs.Laws.{bottom_of, leaves_at, tree_leaves_at, levels_of}
+use Rattle.sign_core.specs.Records.{are_same, binding_at, can_follow, can_follow_legal, current, has_identifier, has_moved, has_randomizer, is_free}
+use Rattle.sign_core.specs.Ledger.{ByPlace, ByText, IsTableOf, made_at, made_entry, of_place, of_text}
 use Rattle.sign_core.specs.inner.Trees.{FollowsBound, FollowsExtend, place_of}
 use Rattle.sign_core.specs.Trees.{HasTrees, with_next}
 use Rattle.sign_core.specs.Trees.{kept_at as tree_kept}
-use Rattle.sign_core.specs.Textbook.{HasSizes, tree_before}
+use Rattle.sign_core.specs.Textbook.{HasSizes, current_at}
 use Rattle.sign_core.specs.declared.ledger.Binding.{Binding}
 use Rattle.sign_core.specs.declared.ledger.Made.{Made}
 use Rattle.sign_core.specs.declared.trees.Tree.{Tree}
@@ -48,7 +48,7 @@ xmss_most xmss.H10 = omega arith
 xmss_most xmss.H16 = omega arith
 xmss_most xmss.H20 = omega arith
 
-leaves_in_few : (levels : List LmsPair) (level : ℕ) → leaves_in levels level ≤ 2 ^ 25
+leaves_in_few : (levels : List LmsPair) (level : ℕ) → tree_leaves_at levels level ≤ 2 ^ 25
 leaves_in_few [] level = omega arith
 leaves_in_few (pair ∷ rest) zero = height_inside (height_of pair.tree) (lms_most pair.tree)
 leaves_in_few (pair ∷ rest) (suc level) = leaves_in_few rest level
@@ -71,9 +71,9 @@ bound_free : (records : List Record) (key : Key) (bound : Bound) → can_follow 
 bound_free records key bound follows =
     let (stays, rest) = follows_legal records key (BoundRecord bound) follows in
     let (two, random) = and_parts
-    (is_free key.secret records (bottom_of key.secret) bound.leaf && not (is_some (binding_in records bound.name)))
+    (is_free key.secret records (bottom_of key.secret) bound.leaf && not (is_some (binding_at records bound.name)))
     (has_randomizer key.secret bound.randomizer) rest in
-    (and_parts (is_free key.secret records (bottom_of key.secret) bound.leaf) (not (is_some (binding_in records bound.name))) two).0
+    (and_parts (is_free key.secret records (bottom_of key.secret) bound.leaf) (not (is_some (binding_at records bound.name))) two).0
 
 pub bound_leaf : (records : List Record) (key : Key) (bound : Bound) → can_follow (Some key) records (BoundRecord bound) ≡ true
     → bound.leaf < 2 ^ 25
@@ -111,7 +111,7 @@ place_with_next secret records None = refl
 place_with_next secret records (Some place) = refl
 
 tree_of_end : (secret : Secret) (records : List Record) (levels : List (Option Tree)) (level : ℕ) → HasTrees secret records levels → level < 8
-    → place_of (tree_kept levels level) ≡ tree_before level records (length records)
+    → place_of (tree_kept levels level) ≡ current_at level records (length records)
 tree_of_end secret records levels level has within =
     ap place_of (has level within) ∙ place_with_next secret records (current level records)
     ∙ sym (ap (λ l. unwrap_or (current level l) 0) (take_all (length records) records (omega arith)))
@@ -134,9 +134,9 @@ grown_bound records key made bindings identifiers levels count moved old bound b
     let (stays, rest) = follows_legal records key (BoundRecord bound) follows in
     let (place, at, inside, next) = free_means key.secret records (bottom_of key.secret) bound.leaf (bound_free records key bound follows) in
     let some : 0 < length records = is_some_record records key made bindings identifiers levels count moved old (BoundRecord bound) follows in
-    let under : tree ≡ tree_before (bottom_of key.secret) records (length records) =
+    let under : tree ≡ current_at (bottom_of key.secret) records (length records) =
     tree_is ∙ tree_of_end key.secret records levels bottom old.trees_are within
-    ∙ ap (λ l. tree_before l records (length records)) last in
+    ∙ ap (λ l. current_at l records (length records)) last in
     subst (λ l. IsTableOf l key made new_bindings identifiers new_levels (count + 1) moved) (sym grown) (record {
       legal = grows records (BoundRecord bound) old.legal (ap (λ o. can_follow o records (BoundRecord bound)) old.keyed ∙ follows);
       keyed = key_stays records (BoundRecord bound ∷ []) some ∙ old.keyed;
@@ -160,14 +160,14 @@ grown_bound records key made bindings identifiers levels count moved old bound b
 -- an Extend is kept at its place, with the tree that was current above it
 made_grown : (records : List Record) (extend : Extend) (place : ℕ)
     → made_at (records ++ ExtendRecord extend ∷ []) place
-    ≡ cond (nat_eq (length records) place) (made_by records (length records) (Some (ExtendRecord extend))) (made_at records place)
+    ≡ cond (nat_eq (length records) place) (made_entry records (length records) (Some (ExtendRecord extend))) (made_at records place)
 made_grown records extend place = elim (cases_eq (length records) place) [
   | inl same ↦
       sym (ap (made_at (records ++ ExtendRecord extend ∷ [])) same) ∙ made_here records (ExtendRecord extend)
-      ∙ sym (ap (λ b. cond b (made_by records (length records) (Some (ExtendRecord extend))) (made_at records place)) (eq-eqb (length records) place same))
+      ∙ sym (ap (λ b. cond b (made_entry records (length records) (Some (ExtendRecord extend))) (made_at records place)) (eq-eqb (length records) place same))
   | inr apart ↦
       by apart
-      ∙ sym (ap (λ b. cond b (made_by records (length records) (Some (ExtendRecord extend))) (made_at records place)) (ne_eqb (length records) place apart))
+      ∙ sym (ap (λ b. cond b (made_entry records (length records) (Some (ExtendRecord extend))) (made_at records place)) (ne_eqb (length records) place apart))
 ]
   where
     by : (length records ≡ place → ⊥) → made_at (records ++ ExtendRecord extend ∷ []) place ≡ made_at records place
@@ -199,9 +199,9 @@ grown_extend records key made bindings identifiers levels count moved old extend
     let (low, high, free) = extend_parts records key extend follows in
     let (place, at, inside, next) = free_means key.secret records (extend.level - 1) extend.parent_leaf free in
     let some : 0 < length records = is_some_record records key made bindings identifiers levels count moved old (ExtendRecord extend) follows in
-    let under : parent ≡ tree_before (extend.level - 1) records (length records) =
+    let under : parent ≡ current_at (extend.level - 1) records (length records) =
     parent_is ∙ tree_of_end key.secret records levels (level - 1) old.trees_are within
-    ∙ ap (λ l. tree_before (l - 1) records (length records)) same in
+    ∙ ap (λ l. current_at (l - 1) records (length records)) same in
     subst (λ l. IsTableOf l key new_made bindings new_identifiers new_levels (count + 1) moved) (sym grown) (record {
       legal = grows records (ExtendRecord extend) old.legal (ap (λ o. can_follow o records (ExtendRecord extend)) old.keyed ∙ follows);
       keyed = key_stays records (ExtendRecord extend ∷ []) some ∙ old.keyed;

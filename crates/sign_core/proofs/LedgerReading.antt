@@ -10,7 +10,7 @@ use Rattle.state_file.specs.declared.record.Record.TheVariants.{Key as KeyRecord
 use Rattle.state_file.specs.declared.record.Secret.{Secret}
 use Rattle.state_file.specs.declared.record.Secret.TheVariants.{Lms, Hss, Xmss}
 use Rattle.state_file.specs.Laws.{Fits, IsCurrent, IsLegal, bottom_of, leaves_at, levels_of}
-use Rattle.sign_core.specs.Records.{current, deepest, free_at, in_tree, key_in, next_in, reaches}
+use Rattle.sign_core.specs.Records.{current, deepest, free_at, in_tree, the_key, next_leaf, reaches}
 use Rattle.sign_core.specs.Trees.{tree_at, with_next}
 use Rattle.sign_core.specs.declared.trees.Tree.{Tree}
 use Rattle.sign_core.specs.Textbook.{AllHaveSizes, SecretHasSizes}
@@ -23,7 +23,7 @@ levels_within (Lms secret) sizes = (omega arith, omega arith)
 levels_within (Hss levels identifier seed) sizes = sizes.2
 levels_within (Xmss secret) sizes = (omega arith, omega arith)
 
-pub key_levels : (records : List Record) (key : Key) → AllHaveSizes records → key_in records ≡ Some key
+pub key_levels : (records : List Record) (key : Key) → AllHaveSizes records → the_key records ≡ Some key
     → (1 ≤ levels_of key.secret) × (levels_of key.secret ≤ 8)
 key_levels records key sizes keyed = levels_within key.secret ((sizes 0 (KeyRecord key) (key_stands records key keyed)).0)
 
@@ -81,17 +81,17 @@ module _ (records : List Record) (key : Key) (level tree n : ℕ) (first : slice
   reach_inside Moved fits reached = absurd (none-some (tree, n) reached)
 
 pub next_inside : (records : List Record) (legal : IsLegal records) (level tree : ℕ) → current level records ≡ Some tree
-    → next_in legal.key.secret records tree ≤ leaves_at legal.key.secret level
+    → next_leaf legal.key.secret records tree ≤ leaves_at legal.key.secret level
 next_inside records legal level tree is = elim ((is_next legal.key.secret records tree).least) [
   | inl none ↦ omega (arith, none)
   | inr (k, entry, at, reached) ↦
       let within : k < length records = slice_get_within records k entry at in
-      reach_inside records legal.key level tree (next_in legal.key.secret records tree) legal.first is k (omega (arith, within)) entry
+      reach_inside records legal.key level tree (next_leaf legal.key.secret records tree) legal.first is k (omega (arith, within)) entry
       (legal.fits k entry at) reached
 ]
 
 -- in memory no next leaf passes the end of its tree
-pub tree_inside : (records : List Record) (key : Key) (level : ℕ) (tree : Tree) → IsLegal records → key_in records ≡ Some key
+pub tree_inside : (records : List Record) (key : Key) (level : ℕ) (tree : Tree) → IsLegal records → the_key records ≡ Some key
     → tree_at key.secret records level ≡ Some tree → tree.next ≤ leaves_at key.secret level
 tree_inside records key level tree legal keyed is =
     by (current level records) refl is
@@ -100,10 +100,10 @@ tree_inside records key level tree legal keyed is =
         → tree.next ≤ leaves_at key.secret level
     by None none at = absurd (none-some tree at)
     by (Some place) here at =
-        let own = same_Some (record { place = place; next = next_in key.secret records place }) tree at in
-        let number : next_in key.secret records place ≡ tree.next = ap (λ t. t.next) own in
-        let low : next_in key.secret records place ≤ leaves_at key.secret level =
-        subst (λ k. next_in k.secret records place ≤ leaves_at k.secret level) (legal_key records key legal keyed)
+        let own = same_Some (record { place = place; next = next_leaf key.secret records place }) tree at in
+        let number : next_leaf key.secret records place ≡ tree.next = ap (λ t. t.next) own in
+        let low : next_leaf key.secret records place ≤ leaves_at key.secret level =
+        subst (λ k. next_leaf k.secret records place ≤ leaves_at k.secret level) (legal_key records key legal keyed)
         (next_inside records legal level place here) in
         omega (arith, low, number)
 

@@ -12,8 +12,8 @@ use Rattle.state_file.specs.declared.record.Record.{Record}
 use Rattle.state_file.specs.declared.record.Record.TheVariants.{Key as KeyRecord, Extend as ExtendRecord, Bound as BoundRecord, Retire, Moved}
 use Rattle.state_file.specs.declared.record.Secret.{Secret}
 use Rattle.state_file.specs.Laws.{bottom_of, identifier_of, leaves_at}
-use Rattle.sign_core.specs.Records.{are_same, binding_in, can_follow, can_follow_legal, current, has_identifier, has_moved, is_moved}
-use Rattle.sign_core.specs.Ledger.{ByPlace, ByText, IsTableOf, binding_kept, kept_of, made_at, made_by}
+use Rattle.sign_core.specs.Records.{are_same, binding_at, can_follow, can_follow_legal, current, has_identifier, has_moved, is_moved}
+use Rattle.sign_core.specs.Ledger.{ByPlace, ByText, IsTableOf, binding_kept, kept_of, made_at, made_entry}
 use Rattle.sign_core.specs.inner.Trees.{FollowsRetire}
 use Rattle.sign_core.specs.Trees.{HasTrees}
 use Rattle.sign_core.specs.Textbook.{AllHaveSizes, HasSizes}
@@ -41,7 +41,7 @@ slice_get_after (x ∷ xs) new zero beyond = absurd (omega (arith, beyond))
 slice_get_after (x ∷ xs) new (suc k) beyond = slice_get_after xs new k (omega (arith, beyond))
 
 made_same : (records : List Record) (entry : Record) (place : ℕ) (found : Option Record) → place ≤ length records
-    → made_by (records ++ entry ∷ []) place found ≡ made_by records place found
+    → made_entry (records ++ entry ∷ []) place found ≡ made_entry records place found
 made_same records entry place (Some (ExtendRecord extend)) within =
     ap (λ l. Some (record { extend = extend; parent = unwrap_or (current (extend.level - 1) l) 0 })) (take_of_longer records (entry ∷ []) place within)
 made_same records entry place (Some (KeyRecord key)) within = refl
@@ -53,21 +53,21 @@ made_same records entry place None within = refl
 pub made_before : (records : List Record) (entry : Record) (place : ℕ) → place < length records
     → made_at (records ++ entry ∷ []) place ≡ made_at records place
 made_before records entry place below =
-    ap (made_by (records ++ entry ∷ []) place) (slice_get_front records (entry ∷ []) place below)
+    ap (made_entry (records ++ entry ∷ []) place) (slice_get_front records (entry ∷ []) place below)
     ∙ made_same records entry place (slice_get records place) (omega (arith, below))
 
 pub made_after : (records : List Record) (entry : Record) (place : ℕ) → length records < place
     → made_at (records ++ entry ∷ []) place ≡ made_at records place
 made_after records entry place beyond =
-    ap (made_by (records ++ entry ∷ []) place) (slice_get_after records entry place beyond)
-    ∙ sym (ap (made_by records place) (slice_get_past records place (omega (arith, beyond))))
+    ap (made_entry (records ++ entry ∷ []) place) (slice_get_after records entry place beyond)
+    ∙ sym (ap (made_entry records place) (slice_get_past records place (omega (arith, beyond))))
 
-pub made_here : (records : List Record) (entry : Record) → made_at (records ++ entry ∷ []) (length records) ≡ made_by records (length records) (Some entry)
+pub made_here : (records : List Record) (entry : Record) → made_at (records ++ entry ∷ []) (length records) ≡ made_entry records (length records) (Some entry)
 made_here records entry =
-    ap (made_by (records ++ entry ∷ []) (length records)) (slice_get_new records entry)
+    ap (made_entry (records ++ entry ∷ []) (length records)) (slice_get_new records entry)
     ∙ made_same records entry (length records) (Some entry) (omega arith)
 
-pub made_other : (records : List Record) (entry : Record) (place : ℕ) → ((k : ℕ) → made_by records k (Some entry) ≡ None)
+pub made_other : (records : List Record) (entry : Record) (place : ℕ) → ((k : ℕ) → made_entry records k (Some entry) ≡ None)
     → made_at (records ++ entry ∷ []) place ≡ made_at records place
 made_other records entry place none = elim (cases_lt place (length records)) [
   | inl below ↦ made_before records entry place below
@@ -75,7 +75,7 @@ made_other records entry place none = elim (cases_lt place (length records)) [
     | inl same ↦
         subst (λ k. made_at (records ++ entry ∷ []) k ≡ made_at records k) (sym same)
         (made_here records entry ∙ none (length records)
-        ∙ sym (ap (made_by records (length records)) (slice_get_past records (length records) (omega arith))))
+        ∙ sym (ap (made_entry records (length records)) (slice_get_past records (length records) (omega arith))))
     | inr apart ↦ made_after records entry place (omega (arith, beyond, apart))
   ]
 ]
@@ -93,7 +93,7 @@ kept_stays secret records more k bound within =
       tree = unwrap_or (current (bottom_of secret) l) 0;
     }) (take_of_longer records more k within)
 
-kept_longer : (secret : Secret) (records more : List Record) (name : List ℕ) (found : Option (ℕ × Bound)) → binding_in records name ≡ found
+kept_longer : (secret : Secret) (records more : List Record) (name : List ℕ) (found : Option (ℕ × Bound)) → binding_at records name ≡ found
     → option_map (kept_of secret (records ++ more)) found ≡ option_map (kept_of secret records) found
 kept_longer secret records more name None is = refl
 kept_longer secret records more name (Some (k, bound)) is =
@@ -105,10 +105,10 @@ pub kept_other : (secret : Secret) (records : List Record) (entry : Record) (nam
     → binding_kept secret (records ++ entry ∷ []) name ≡ binding_kept secret records name
 kept_other secret records entry name none =
     ap (option_map (kept_of secret (records ++ entry ∷ []))) (binding_other records entry name none)
-    ∙ kept_longer secret records (entry ∷ []) name (binding_in records name) refl
+    ∙ kept_longer secret records (entry ∷ []) name (binding_at records name) refl
 
 -- a Bound of a new name becomes its binding, and every other name keeps its own
-pub kept_bound : (secret : Secret) (records : List Record) (bound : Bound) (name : List ℕ) → binding_in records bound.name ≡ None
+pub kept_bound : (secret : Secret) (records : List Record) (bound : Bound) (name : List ℕ) → binding_at records bound.name ≡ None
     → binding_kept secret (records ++ BoundRecord bound ∷ []) name
     ≡ cond (are_same bound.name name) (Some (kept_of secret records (length records, bound))) (binding_kept secret records name)
 kept_bound secret records bound name free = by (are_same bound.name name) refl
@@ -163,7 +163,7 @@ module _ (records : List Record) (key : Key) (made : ByPlace Made) (bindings : B
   is_some_record = slice_get_within records 0 (KeyRecord key) (key_stands records key old.keyed)
 
   -- after a record that makes no tree and binds no name
-  pub grown_plain : ((k : ℕ) → made_by records k (Some entry) ≡ None) → ((name : List ℕ) → binds name entry ≡ None) → identifier_of entry ≡ None
+  pub grown_plain : ((k : ℕ) → made_entry records k (Some entry) ≡ None) → ((name : List ℕ) → binds name entry ≡ None) → identifier_of entry ≡ None
       → HasSizes entry → (new_levels : List (Option Tree)) → HasTrees key.secret (records ++ entry ∷ []) new_levels
       → (new_moved : Bool) → new_moved ≡ is_moved (Some entry) → (new : List Record) → new ≡ records ++ entry ∷ []
       → IsTableOf new key made bindings identifiers new_levels (count + 1) new_moved

@@ -10,7 +10,7 @@ use Rattle.state_file.specs.declared.record.Record.TheVariants.{Key as KeyRecord
 use Rattle.state_file.specs.declared.record.Secret.{Secret}
 use Rattle.state_file.specs.Laws.{Fits, IsCurrent, IsLegal, Names, bottom_of, identifier_of}
 use Rattle.state_file.proofs.Legal.{current-all, current-front}
-use Rattle.sign_core.specs.Records.{can_follow, can_follow_legal, has_moved, key_in, next_in}
+use Rattle.sign_core.specs.Records.{can_follow, can_follow_legal, has_moved, the_key, next_leaf}
 use Rattle.sign_core.proofs.Lists.{front_or_new, slice_get_front, slice_get_stays}
 use Rattle.sign_core.proofs.Bindings.{stands_identifier, unbound}
 use Rattle.sign_core.proofs.Follow.{follower_fits, follower_identifier, follower_name, follower_names}
@@ -91,10 +91,10 @@ module _ (before : List Record) (entry : Record) (legal : IsLegal before) (stays
         (names_front legal.key.secret before (entry ∷ []) k b tree later (omega (arith, below)) names_b)
     | inr (end, same) ↦
         let is_a : slice_get before j ≡ Some a = in_front before entry a j (omega (arith, under, end)) at_a in
-        let low : leaf < next_in legal.key.secret before tree =
+        let low : leaf < next_leaf legal.key.secret before tree =
         named_below legal.key.secret before j a tree leaf is_a
         (names_front legal.key.secret before (entry ∷ []) j a tree leaf (omega (arith, under, end)) names_a) in
-        let high : next_in legal.key.secret before tree ≤ later =
+        let high : next_leaf legal.key.secret before tree ≤ later =
         follower_names legal.key before entry tree later follows
         (names_at_end legal.key.secret before entry b k tree later end same names_b) in
         omega (arith, low, high)
@@ -110,10 +110,10 @@ module _ (before : List Record) (entry : Record) (legal : IsLegal before) (stays
         (names_front legal.key.secret before (entry ∷ []) k b tree leaf (omega (arith, below)) names_b)
     | inr (end, same) ↦
         let is_a : slice_get before j ≡ Some (Retire upto) = in_front before entry (Retire upto) j (omega (arith, under, end)) at_a in
-        let low : upto ≤ next_in legal.key.secret before tree =
+        let low : upto ≤ next_leaf legal.key.secret before tree =
         retired_below legal.key.secret before j upto tree is_a
         (current-front before (entry ∷ []) j (bottom_of legal.key.secret) tree (omega (arith, under, end)) current) in
-        let high : next_in legal.key.secret before tree ≤ leaf =
+        let high : next_leaf legal.key.secret before tree ≤ leaf =
         follower_names legal.key before entry tree leaf follows
         (names_at_end legal.key.secret before entry b k tree leaf end same names_b) in
         omega (arith, low, high)
@@ -139,13 +139,13 @@ not_means : (b : Bool) → not b ≡ true → b ≡ false
 not_means true is = sym is
 not_means false is = refl
 
-pub grows : (before : List Record) (entry : Record) → IsLegal before → can_follow (key_in before) before entry ≡ true → IsLegal (before ++ entry ∷ [])
+pub grows : (before : List Record) (entry : Record) → IsLegal before → can_follow (the_key before) before entry ≡ true → IsLegal (before ++ entry ∷ [])
 grows before entry legal follows =
-    let (stays, rest) = parts_of (key_in before) legal.key before entry (key_first before legal.key legal.first) follows in
+    let (stays, rest) = parts_of (the_key before) legal.key before entry (key_first before legal.key legal.first) follows in
     grown before entry legal (not_means (has_moved before) stays) rest
 
 pub grew : (before : List Record) (entry : Record) → 0 < length before → IsLegal (before ++ entry ∷ [])
-    → can_follow (key_in before) before entry ≡ true
+    → can_follow (the_key before) before entry ≡ true
 grew before entry some legal =
     let first : slice_get before 0 ≡ Some (KeyRecord legal.key) = in_front before entry (KeyRecord legal.key) 0 some legal.first in
     subst (λ o. can_follow o before entry ≡ true) (sym (key_first before legal.key first))

@@ -12,7 +12,7 @@ use Rattle.typecodes.specs.declared.secret.LmsSecret.{LmsSecret}
 use Rattle.lms.specs.declared.signing_tree.SigningTree.{SigningTree}
 use Rattle.hss.specs.declared.secret.Level.{Level}
 use Rattle.hss.specs.Secret.{Signing, signing_of}
-use Rattle.state_file.specs.Laws.{IsCurrent, IsLegal, leaves_at, leaves_in, levels_of}
+use Rattle.state_file.specs.Laws.{IsCurrent, IsLegal, leaves_at, tree_leaves_at, levels_of}
 use Rattle.state_file.specs.declared.record.Extend.{Extend}
 use Rattle.state_file.specs.declared.record.Key.{Key}
 use Rattle.state_file.specs.declared.record.Record.{Record}
@@ -20,11 +20,11 @@ use Rattle.state_file.specs.declared.record.Record.TheVariants.{Key as KeyRecord
 use Rattle.state_file.specs.declared.record.Secret.{Secret}
 use Rattle.state_file.specs.declared.record.Secret.TheVariants.{Lms, Hss, Xmss}
 use Rattle.sign_core.specs.declared.ledger.Made.{Made}
-use Rattle.sign_core.specs.Records.{current, key_in}
+use Rattle.sign_core.specs.Records.{current, the_key}
 use Rattle.sign_core.specs.inner.Links.{AreMade, IsMade, IsTreeAt, IsTreeBy, signings_of}
-use Rattle.sign_core.specs.Ledger.{made_at, made_by}
-use Rattle.sign_core.specs.Textbook.{Trees, chain, damaged_in, is_sound_at, secret_at, secret_by, tree_before}
-use Rattle.sign_core.specs.Textbook.{signing_by, signing_with, signings_above, trees_of}
+use Rattle.sign_core.specs.Ledger.{made_at, made_entry}
+use Rattle.sign_core.specs.Textbook.{Trees, chain, damaged_at, is_sound_at, secret_at, made_secret, current_at}
+use Rattle.sign_core.specs.Textbook.{parent_signing, leaf_signing, chain_signings, trees_of}
 use Rattle.sign_core.proofs.Chains.{got_front, got_last, named_by}
 use Rattle.sign_core.proofs.Keys.{key_stands, legal_key}
 use Rattle.sign_core.proofs.TreeSteps.{before_current}
@@ -43,12 +43,12 @@ one_extend : (a b : Extend) → Some (ExtendRecord a) ≡ Some (ExtendRecord b) 
 unfolding extend_in
 one_extend a b same = same_Some a b (ap extend_in same)
 
-pub made_extend : (records : List Record) (place : ℕ) (entry : Option Record) (made : Made) → made_by records place entry ≡ Some made
-    → (entry ≡ Some (ExtendRecord made.extend)) × (made.parent ≡ tree_before (made.extend.level - 1) records place)
+pub made_extend : (records : List Record) (place : ℕ) (entry : Option Record) (made : Made) → made_entry records place entry ≡ Some made
+    → (entry ≡ Some (ExtendRecord made.extend)) × (made.parent ≡ current_at (made.extend.level - 1) records place)
 made_extend records place (Some (ExtendRecord extend)) made is =
-    let own : Made = record { extend = extend; parent = tree_before (extend.level - 1) records place } in
+    let own : Made = record { extend = extend; parent = current_at (extend.level - 1) records place } in
     let same : own ≡ made = same_Some own made is in
-    (ap (λ m. Some (ExtendRecord m.extend)) same, subst (λ m. m.parent ≡ tree_before (m.extend.level - 1) records place) same refl)
+    (ap (λ m. Some (ExtendRecord m.extend)) same, subst (λ m. m.parent ≡ current_at (m.extend.level - 1) records place) same refl)
 made_extend records place (Some (KeyRecord key)) made is = absurd (cc)
 made_extend records place (Some (BoundRecord bound)) made is = absurd (cc)
 made_extend records place (Some (Retire upto)) made is = absurd (cc)
@@ -72,7 +72,7 @@ current_stands records k zero tree is = is
 current_stands records k (suc level) tree (last, above) = (last.extend, last.stands, last.of_level)
 
 leaves_in_at : (levels : List LmsPair) (level : ℕ) (other : LmsPair) → level < length levels
-    → leaves_in levels level ≡ 2 ^ height_of (slice_index_or levels level other).tree
+    → tree_leaves_at levels level ≡ 2 ^ height_of (slice_index_or levels level other).tree
 leaves_in_at [] level other within = absurd (omega (arith, within))
 leaves_in_at (pair ∷ rest) zero other within = refl
 leaves_in_at (pair ∷ rest) (suc level) other within = leaves_in_at rest level other (omega (arith, within))
@@ -100,15 +100,15 @@ pub pair_at : (key : Key) (trees : Trees) (records : List Record) (level place :
     → trees_of key.secret ≡ Some trees → IsTreeAt records level place
     → (secret_at trees records place).pair ≡ slice_index_or trees.pairs level trees.top.pair
 pair_at key trees records zero place first these at =
-    ap (λ r. (secret_by trees r).pair) (ap (slice_get records) at ∙ first) ∙ top_pair key.secret trees these
+    ap (λ r. (made_secret trees r).pair) (ap (slice_get records) at ∙ first) ∙ top_pair key.secret trees these
 pair_at key trees records (suc level) place first these (extend, stands, of_level) =
-    ap (λ r. (secret_by trees r).pair) stands ∙ ap (λ n. slice_index_or trees.pairs n trees.top.pair) of_level
+    ap (λ r. (made_secret trees r).pair) stands ∙ ap (λ n. slice_index_or trees.pairs n trees.top.pair) of_level
 
 -- The tree above an Extend's is one of the level above, and the leaf is one of its leaves.
-pub parent_of : (key : Key) (trees : Trees) (records : List Record) (level place : ℕ) (extend : Extend) → IsLegal records → key_in records ≡ Some key
+pub parent_of : (key : Key) (trees : Trees) (records : List Record) (level place : ℕ) (extend : Extend) → IsLegal records → the_key records ≡ Some key
     → trees_of key.secret ≡ Some trees → slice_get records place ≡ Some (ExtendRecord extend) → extend.level ≡ suc level
-    → IsTreeAt records level (tree_before level records place)
-    × (extend.parent_leaf < 2 ^ height_of (secret_at trees records (tree_before level records place)).pair.tree)
+    → IsTreeAt records level (current_at level records place)
+    × (extend.parent_leaf < 2 ^ height_of (secret_at trees records (current_at level records place)).pair.tree)
 parent_of key trees records level place extend legal keyed these stands of_level =
     let first = key_stands records key keyed in
     let (own, is, below, (tree, is_current), leaf) = legal.fits place (ExtendRecord extend) stands in
@@ -117,8 +117,8 @@ parent_of key trees records level place extend legal keyed these stands of_level
     let at : IsCurrent records place level tree = subst (λ n. IsCurrent records place n tree) same is_current in
     let within : place < length records = slice_get_within records place (ExtendRecord extend) stands in
     let before : current level (take place records) ≡ Some tree = before_current records place level tree (omega (arith, within)) at in
-    let tree_is : tree ≡ tree_before level records place = sym (ap (λ o. unwrap_or o 0) before) in
-    let there : IsTreeAt records level (tree_before level records place) =
+    let tree_is : tree ≡ current_at level records place = sym (ap (λ o. unwrap_or o 0) before) in
+    let there : IsTreeAt records level (current_at level records place) =
     subst (IsTreeAt records level) tree_is (current_stands records place level tree at) in
     let few : level < levels_of key.secret =
     subst (λ (k : Key). level < levels_of k.secret) keys (omega (arith, of_level, below)) in
@@ -150,28 +150,28 @@ found_after test (y ∷ xs) ys none = by_test (test y) (found_after test xs ys) 
     by_test true later at = absurd (cc)
     by_test false later at = later at
 
-pub top_sound : (key : Key) (records : List Record) (place : ℕ) → is_sound_at key records place ≡ true → damaged_in key 0 records place ≡ None
+pub top_sound : (key : Key) (records : List Record) (place : ℕ) → is_sound_at key records place ≡ true → damaged_at key 0 records place ≡ None
 top_sound key records place sound = ap (λ b. cond (not b) (Some place) None) sound
 
-pub top_damaged : (key : Key) (records : List Record) (place : ℕ) → is_sound_at key records place ≡ false → damaged_in key 0 records place ≡ Some place
+pub top_damaged : (key : Key) (records : List Record) (place : ℕ) → is_sound_at key records place ≡ false → damaged_at key 0 records place ≡ Some place
 top_damaged key records place damaged = ap (λ b. cond (not b) (Some place) None) damaged
 
-pub below_sound : (key : Key) (records : List Record) (level place : ℕ) → damaged_in key level records (tree_before level records place) ≡ None
-    → is_sound_at key records place ≡ true → damaged_in key (suc level) records place ≡ None
+pub below_sound : (key : Key) (records : List Record) (level place : ℕ) → damaged_at key level records (current_at level records place) ≡ None
+    → is_sound_at key records place ≡ true → damaged_at key (suc level) records place ≡ None
 below_sound key records level place above sound =
-    found_after (λ k. not (is_sound_at key records k)) (chain level records (tree_before level records place)) (place ∷ []) above
+    found_after (λ k. not (is_sound_at key records k)) (chain level records (current_at level records place)) (place ∷ []) above
     ∙ top_sound key records place sound
 
-pub below_damaged : (key : Key) (records : List Record) (level place : ℕ) → damaged_in key level records (tree_before level records place) ≡ None
-    → is_sound_at key records place ≡ false → damaged_in key (suc level) records place ≡ Some place
+pub below_damaged : (key : Key) (records : List Record) (level place : ℕ) → damaged_at key level records (current_at level records place) ≡ None
+    → is_sound_at key records place ≡ false → damaged_at key (suc level) records place ≡ Some place
 below_damaged key records level place above damaged =
-    found_after (λ k. not (is_sound_at key records k)) (chain level records (tree_before level records place)) (place ∷ []) above
+    found_after (λ k. not (is_sound_at key records k)) (chain level records (current_at level records place)) (place ∷ []) above
     ∙ top_damaged key records place damaged
 
-pub above_damaged : (key : Key) (records : List Record) (level place k : ℕ) → damaged_in key level records (tree_before level records place) ≡ Some k
-    → damaged_in key (suc level) records place ≡ Some k
+pub above_damaged : (key : Key) (records : List Record) (level place k : ℕ) → damaged_at key level records (current_at level records place) ≡ Some k
+    → damaged_at key (suc level) records place ≡ Some k
 above_damaged key records level place k above =
-    found_front (λ j. not (is_sound_at key records j)) (chain level records (tree_before level records place)) (place ∷ []) k above
+    found_front (λ j. not (is_sound_at key records j)) (chain level records (current_at level records place)) (place ∷ []) k above
 
 -- ---- the levels of a chain
 
@@ -187,8 +187,8 @@ more_made levels last before made i other at =
 
 -- the signing of a tree that was just made
 pub tree_signs : (tree : SigningTree) (secret : LmsSecret) (leaf : ℕ) (randomizer digest : List ℕ) → IsTreeBy secret leaf tree
-    → signing_with tree.secret tree.leaf randomizer digest ≡ signing_with secret leaf randomizer digest
-tree_signs tree secret leaf randomizer digest by = λ i. signing_with (by.secret_is i) (by.leaf_is i) randomizer digest
+    → leaf_signing tree.secret tree.leaf randomizer digest ≡ leaf_signing secret leaf randomizer digest
+tree_signs tree secret leaf randomizer digest by = λ i. leaf_signing (by.secret_is i) (by.leaf_is i) randomizer digest
 
 -- ---- one more level
 
@@ -196,11 +196,11 @@ tree_signs tree secret leaf randomizer digest by = λ i. signing_with (by.secret
 pub record IsUnder (trees : Trees) (records : List Record) (level place : ℕ) (made : Made) : Type 0 where
   pub stands : slice_get records place ≡ Some (ExtendRecord made.extend)
   pub some : 1 ≤ level
-  pub above : tree_before (level - 1) records place ≡ made.parent
+  pub above : current_at (level - 1) records place ≡ made.parent
   pub parent : IsTreeAt records (level - 1) made.parent
   pub inside : made.extend.parent_leaf < 2 ^ height_of (secret_at trees records made.parent).pair.tree
 
-pub is_under : (key : Key) (trees : Trees) (records : List Record) (level place : ℕ) (made : Made) → IsLegal records → key_in records ≡ Some key
+pub is_under : (key : Key) (trees : Trees) (records : List Record) (level place : ℕ) (made : Made) → IsLegal records → the_key records ≡ Some key
     → trees_of key.secret ≡ Some trees → IsTreeAt records level place → made_at records place ≡ Some made → IsUnder trees records level place made
 is_under key trees records level place made legal keyed these at is =
     let (stands, parent) = made_extend records place (slice_get records place) made is in
@@ -208,7 +208,7 @@ is_under key trees records level place made legal keyed these at is =
     let next : made.extend.level ≡ suc (level - 1) = omega (arith, same, some) in
     let (there, inside) = parent_of key trees records (level - 1) place made.extend legal keyed these stands next in
     let level_is : made.extend.level - 1 ≡ level - 1 = omega (arith, same) in
-    let above : tree_before (level - 1) records place ≡ made.parent = sym (parent ∙ ap (λ n. tree_before n records place) level_is) in
+    let above : current_at (level - 1) records place ≡ made.parent = sym (parent ∙ ap (λ n. current_at n records place) level_is) in
     record {
       stands = stands;
       some = some;
@@ -221,61 +221,61 @@ next_level : (level : ℕ) → 1 ≤ level → suc (level - 1) ≡ level
 next_level level some = omega (arith, some)
 
 pub chain_sound : (key : Key) (trees : Trees) (records : List Record) (level place : ℕ) (made : Made) → IsUnder trees records level place made
-    → damaged_in key (level - 1) records made.parent ≡ None → is_sound_at key records place ≡ true → damaged_in key level records place ≡ None
+    → damaged_at key (level - 1) records made.parent ≡ None → is_sound_at key records place ≡ true → damaged_at key level records place ≡ None
 chain_sound key trees records level place made below above sound =
-    subst (λ n. damaged_in key n records place ≡ None) (next_level level below.some)
-    (below_sound key records (level - 1) place (ap (damaged_in key (level - 1) records) below.above ∙ above) sound)
+    subst (λ n. damaged_at key n records place ≡ None) (next_level level below.some)
+    (below_sound key records (level - 1) place (ap (damaged_at key (level - 1) records) below.above ∙ above) sound)
 
 pub chain_damaged : (key : Key) (trees : Trees) (records : List Record) (level place k : ℕ) (made : Made) → IsUnder trees records level place made
-    → damaged_in key (level - 1) records made.parent ≡ None → (k ≡ place) × (is_sound_at key records place ≡ false)
-    → damaged_in key level records place ≡ Some k
+    → damaged_at key (level - 1) records made.parent ≡ None → (k ≡ place) × (is_sound_at key records place ≡ false)
+    → damaged_at key level records place ≡ Some k
 chain_damaged key trees records level place k made below above (here, damaged) =
-    subst (λ n. damaged_in key n records place ≡ Some k) (next_level level below.some)
-    (below_damaged key records (level - 1) place (ap (damaged_in key (level - 1) records) below.above ∙ above) damaged ∙ ap Some (sym here))
+    subst (λ n. damaged_at key n records place ≡ Some k) (next_level level below.some)
+    (below_damaged key records (level - 1) place (ap (damaged_at key (level - 1) records) below.above ∙ above) damaged ∙ ap Some (sym here))
 
 pub chain_damaged_above : (key : Key) (trees : Trees) (records : List Record) (level place k : ℕ) (made : Made) → IsUnder trees records level place made
-    → damaged_in key (level - 1) records made.parent ≡ Some k → damaged_in key level records place ≡ Some k
+    → damaged_at key (level - 1) records made.parent ≡ Some k → damaged_at key level records place ≡ Some k
 chain_damaged_above key trees records level place k made below above =
-    subst (λ n. damaged_in key n records place ≡ Some k) (next_level level below.some)
-    (above_damaged key records (level - 1) place k (ap (damaged_in key (level - 1) records) below.above ∙ above))
+    subst (λ n. damaged_at key n records place ≡ Some k) (next_level level below.some)
+    (above_damaged key records (level - 1) place k (ap (damaged_at key (level - 1) records) below.above ∙ above))
 
 -- the signings of a chain's trees, with one more level
 pub signings_more : (trees : Trees) (records : List Record) (level place : ℕ) (extend : Extend) → slice_get records place ≡ Some (ExtendRecord extend)
-    → signings_above trees level records (tree_before level records place) ++ named_by (secret_at trees records (tree_before level records place)) extend ∷ []
-    ≡ signings_above trees (suc level) records place
+    → chain_signings trees level records (current_at level records place) ++ named_by (secret_at trees records (current_at level records place)) extend ∷ []
+    ≡ chain_signings trees (suc level) records place
 signings_more trees records level place extend stands =
-    let parent = tree_before level records place in
-    sym (ap (λ r. signings_above trees level records parent ++ signing_by trees records parent r) stands)
+    let parent = current_at level records place in
+    sym (ap (λ r. chain_signings trees level records parent ++ parent_signing trees records parent r) stands)
 
 signings_of_chain : (trees : Trees) (records : List Record) (level place : ℕ) (made : Made) → IsUnder trees records level place made
-    → signings_above trees (level - 1) records made.parent ++ named_by (secret_at trees records made.parent) made.extend ∷ []
-    ≡ signings_above trees level records place
+    → chain_signings trees (level - 1) records made.parent ++ named_by (secret_at trees records made.parent) made.extend ∷ []
+    ≡ chain_signings trees level records place
 signings_of_chain trees records level place made below =
-    subst (λ p. signings_above trees (level - 1) records p ++ named_by (secret_at trees records p) made.extend ∷ [] ≡ signings_above trees level records place)
+    subst (λ p. chain_signings trees (level - 1) records p ++ named_by (secret_at trees records p) made.extend ∷ [] ≡ chain_signings trees level records place)
     below.above
     (signings_more trees records (level - 1) place made.extend below.stands
-    ∙ ap (λ n. signings_above trees n records place) (next_level level below.some))
+    ∙ ap (λ n. chain_signings trees n records place) (next_level level below.some))
 
 pub all_signings : (trees : Trees) (records : List Record) (level place : ℕ) (made : Made) (old above new : List Signing)
-    → IsUnder trees records level place made → above ≡ old ++ signings_above trees (level - 1) records made.parent
-    → new ≡ above ++ named_by (secret_at trees records made.parent) made.extend ∷ [] → new ≡ old ++ signings_above trees level records place
+    → IsUnder trees records level place made → above ≡ old ++ chain_signings trees (level - 1) records made.parent
+    → new ≡ above ++ named_by (secret_at trees records made.parent) made.extend ∷ [] → new ≡ old ++ chain_signings trees level records place
 all_signings trees records level place made old above new below above_is is =
     let one = named_by (secret_at trees records made.parent) made.extend in
-    is ∙ ap (λ xs. xs ++ one ∷ []) above_is ∙ append_assoc old (signings_above trees (level - 1) records made.parent) (one ∷ [])
+    is ∙ ap (λ xs. xs ++ one ∷ []) above_is ∙ append_assoc old (chain_signings trees (level - 1) records made.parent) (one ∷ [])
     ∙ ap (λ xs. old ++ xs) (signings_of_chain trees records level place made below)
 
 -- What holds of a chain once the levels above a tree are there: whether the tree's record is sound decides.
 pub record Reaches (key : Key) (trees : Trees) (records : List Record) (level place : ℕ) (old new : List Level) : Type 0 where
-  pub sound : is_sound_at key records place ≡ true → damaged_in key level records place ≡ None
-  pub damaged : is_sound_at key records place ≡ false → damaged_in key level records place ≡ Some place
-  pub signings : signings_of new ≡ signings_of old ++ signings_above trees level records place
+  pub sound : is_sound_at key records place ≡ true → damaged_at key level records place ≡ None
+  pub damaged : is_sound_at key records place ≡ false → damaged_at key level records place ≡ Some place
+  pub signings : signings_of new ≡ signings_of old ++ chain_signings trees level records place
   pub len : length new ≡ length old + level
   pub made : AreMade old → AreMade new
 
 top_level : (records : List Record) (level place : ℕ) → IsTreeAt records level place → made_at records place ≡ None → level ≡ 0
 top_level records zero place at none = refl
 top_level records (suc level) place (extend, stands, of_level) none =
-    absurd (none_some (sym none ∙ ap (made_by records place) stands))
+    absurd (none_some (sym none ∙ ap (made_entry records place) stands))
   where
     none_some : {A X : Type 0} {a : A} → None ≡ Some a → X
     none_some same = cc
@@ -294,8 +294,8 @@ reaches_top key trees records level place above at none =
 
 -- an Extend's tree stands under the one whose leaf signs it
 pub reaches_below : (key : Key) (trees : Trees) (records : List Record) (level place : ℕ) (made : Made) (old above : List Level) (tree : SigningTree)
-    → IsUnder trees records level place made → damaged_in key (level - 1) records made.parent ≡ None
-    → signings_of above ≡ signings_of old ++ signings_above trees (level - 1) records made.parent → length above ≡ length old + (level - 1)
+    → IsUnder trees records level place made → damaged_at key (level - 1) records made.parent ≡ None
+    → signings_of above ≡ signings_of old ++ chain_signings trees (level - 1) records made.parent → length above ≡ length old + (level - 1)
     → (AreMade old → AreMade above) → IsTreeBy (secret_at trees records made.parent) made.extend.parent_leaf tree
     → Reaches key trees records level place old
     (above ++ record { tree = tree; randomizer = made.extend.randomizer; digest = made.extend.digest } ∷ [])

@@ -16,22 +16,22 @@ use Rattle.state_file.specs.Opening.{ContentKind, OpensAs, damaged, no_key, no_k
 use Rattle.state_file.proofs.Adding.{prepared_no_key}
 use Rattle.state_file.proofs.Contents.{some_opening, standing}
 use Rattle.sign_core.specs.declared.fault.SignFault.{SignFault}
-use Rattle.sign_core.specs.Calls.{AreLastingCalls, Call, IsCall, IsLastingCall, IsRun, events_of, reached_by, store_after_calls}
-use Rattle.sign_core.specs.Lives.{AreLives, IsAtStart, IsLeftByRun, IsLife, IsStoreOn, IsTriedOn, Life, LivesLaw, IsServingLife, disk_at_end, fails, handed_by, handed_by_all, CanMigrate, LedTo}
-use Rattle.sign_core.specs.Lives.{left_by, left_by_all, serves, world_after, world_on}
+use Rattle.sign_core.specs.Calls.{AreLastingCalls, Call, IsCall, IsLastingCall, IsRun, events_of, reached_records, store_after_calls}
+use Rattle.sign_core.specs.Lives.{AreLives, IsAtStart, IsLeftByRun, IsLife, IsStoreOn, IsTriedOn, Life, LivesLaw, IsServingLife, disk_at_end, fails, life_handed, all_handed, CanMigrate, LedTo}
+use Rattle.sign_core.specs.Lives.{contents_left, all_contents_left, serves, world_left, world_found}
 use Rattle.sign_core.specs.Cuts.{IsBeginning, IsLeftBy}
 use Rattle.sign_core.specs.Events.{IsEvent}
 use Rattle.sign_core.specs.Once.{IsOnce}
 use Rattle.sign_core.specs.SignerCalls.{world_of}
-use Rattle.sign_core.specs.World.{Event, Handed, World, after, beginning, closed_on, create, handed_with, reopen, request, requested, retire, run, stop, migrate}
-use Rattle.sign_core.specs.World.{Migration, carried_over, migrated_to, sealed}
+use Rattle.sign_core.specs.World.{Event, Handed, World, after, beginning, closed_state, create, newly_handed, reopen, request, requested, retire, run, stop, migrate}
+use Rattle.sign_core.specs.World.{Migration, carried_over, migrated_list, sealed}
 use Rattle.sign_core.specs.Records.{can_move}
 use Rattle.state_file.specs.Carried.{carried, with_moved}
 use Rattle.sign_core.proofs.Calls.{all_both, run_both, stop_left}
 use Rattle.sign_core.proofs.Events.{kept_by_run}
 use Rattle.sign_core.proofs.OnceParts.{once}
 use Rattle.sign_core.proofs.Answered.{signed_open}
-use Rattle.sign_core.proofs.Found.{migrated_under}
+use Rattle.sign_core.proofs.Found.{migrated_key}
 
 -- ---- which list a content stands for
 
@@ -92,10 +92,10 @@ no_run limit world = record { events = []; possible = tt; leads = refl }
 one_event : (limit : ℕ) (world : World) (event : Event) → IsEvent event → IsRun limit world (after limit world event)
 one_event limit world event can = record { events = event ∷ []; possible = (can, tt); leads = refl }
 
-by_stop : (limit : ℕ) (world : World) → IsRun limit world (world_of (closed_on world.state.records) world.handed)
+by_stop : (limit : ℕ) (world : World) → IsRun limit world (world_of (closed_state world.state.records) world.handed)
 by_stop limit world = record { events = stop ∷ []; possible = (tt, tt); leads = refl }
 
-left_run : (limit : ℕ) (world : World) (list : List Record) → IsLeftBy limit world list → IsRun limit world (world_of (closed_on list) world.handed)
+left_run : (limit : ℕ) (world : World) (list : List Record) → IsLeftBy limit world list → IsRun limit world (world_of (closed_state list) world.handed)
 left_run limit world list by = record { events = by.events; possible = by.possible; leads = by.leads }
 
 run_once : (limit : ℕ) (world : World) → IsRun limit beginning world → IsOnce limit world
@@ -104,7 +104,7 @@ run_once limit world by = subst (IsOnce limit) by.leads (once limit (run limit b
 -- ---- an event after which no signer is open hands nothing out
 
 silent : (handed : List Handed) (name : List ℕ) (given : Option (List ℕ)) (answer : Result (List ℕ) SignFault)
-    → ((signature : List ℕ) → answer ≡ Ok signature → ⊥) → handed ++ handed_with name given answer ≡ handed
+    → ((signature : List ℕ) → answer ≡ Ok signature → ⊥) → handed ++ newly_handed name given answer ≡ handed
 silent handed name (Some message) (Ok signature) never = absurd (never signature refl)
 silent handed name None (Ok signature) never = append-nil handed
 silent handed name (Some message) (Err fault) never = append-nil handed
@@ -146,7 +146,7 @@ module _ {D : Type 0} (d : disk.Ghosts D) (g : store.Ghosts (FileStore D d)) (ti
       → LeavesRuns first now old → IsCall g.moment g.left_since limit now old call
       → d.left_since (disk_of call.store) (d.moment (disk_of old)) content → IsLeftByRun limit first now.handed content
   in_call first now old call content runs was is since =
-      let all = reached_by limit now call.event in
+      let all = reached_records limit now call.event in
       let begins = IsBeginning (length now.state.records) all in
       elim is.leaves as (λ u. IsLeftByRun limit first now.handed content) [
         | inl leaves ↦
@@ -171,7 +171,7 @@ module _ {D : Type 0} (d : disk.Ghosts D) (g : store.Ghosts (FileStore D d)) (ti
       record {
         records = list;
         stands = stands;
-        runs = subst (λ l. IsRun limit first (world_of (closed_on l) left.handed)) (sym same)
+        runs = subst (λ l. IsRun limit first (world_of (closed_state l) left.handed)) (sym same)
             (runs_on limit first left _ (runs_on limit first now left runs (one_event limit now call.event is.is_call.possible)) (by_stop limit left));
       }
 
@@ -227,16 +227,16 @@ module _ {D : Type 0} (d : disk.Ghosts D) (g : store.Ghosts (FileStore D d)) (ti
       kept_leaves store.records store.tag (d.state store.disk) content (store.kept honest prepared.running) may
 
   served_first : (on : D) (store : FileStore D d) (handed : List Handed) → IsTrue (d.honest on) → IsStoreOn d on store
-      → HasServed (world_on store handed) (world_on store handed) store
+      → HasServed (world_found store handed) (world_found store handed) store
   served_first on store handed honest is =
       let own = has_first on store honest is in
       record {
         honest = own;
-        runs = no_run limit (world_on store handed);
+        runs = no_run limit (world_found store handed);
         leaves = λ content since. record {
           records = records_of store;
           stands = leaves_first on store content own is (time.only_now (disk_of store) content own since);
-          runs = no_run limit (world_on store handed);
+          runs = no_run limit (world_found store handed);
         };
       }
 
@@ -258,16 +258,16 @@ module _ {D : Type 0} (d : disk.Ghosts D) (g : store.Ghosts (FileStore D d)) (ti
 
   -- the run to the world in which a life's calls begin
   run_to : (before : List ℕ → Type 0) (handed : List Handed) (on : D) (store : FileStore D d) → LeavesByRuns before handed → IsAtStart d before on
-      → IsStoreOn d on store → IsRun limit beginning (world_on store handed)
+      → IsStoreOn d on store → IsRun limit beginning (world_found store handed)
   run_to before handed on store known begins is =
       let was = known (d.state on).content (begins.holds (d.state on).content (time.shows on begins.honest)) in
-      subst (λ l. IsRun limit beginning (world_of (closed_on l) handed)) (sym (finds on store was.records is was.stands)) was.runs
+      subst (λ l. IsRun limit beginning (world_of (closed_state l) handed)) (sym (finds on store was.records is was.stands)) was.runs
 
   after_service : (before : List ℕ → Type 0) (handed : List Handed) (on : D) (store : FileStore D d) (calls : List (Call (FileStore D d)))
       (last : Call (FileStore D d)) → IsAtStart d before on → IsServingLife d g limit handed on store calls last
-      → HasServed (world_on store handed) (world_after limit store calls handed) (store_after_calls store calls)
+      → HasServed (world_found store handed) (world_left limit store calls handed) (store_after_calls store calls)
   after_service before handed on store calls last begins is =
-      all_calls (world_on store handed) (world_on store handed) store calls (served_first on store handed begins.honest is.is_store) is.each
+      all_calls (world_found store handed) (world_found store handed) store calls (served_first on store handed begins.honest is.is_store) is.each
 
   failed : (before : List ℕ → Type 0) (handed : List Handed) (old new : D) (content : List ℕ) → LeavesByRuns before handed → IsAtStart d before old
       → IsTriedOn d old new → d.left_since new (d.moment old) content → IsLeftByRun limit beginning handed content
@@ -280,28 +280,28 @@ module _ {D : Type 0} (d : disk.Ghosts D) (g : store.Ghosts (FileStore D d)) (ti
         record {
           records = [];
           stands = prepared_no_key (d.state old).content content short changes;
-          runs = subst (λ l. IsRun limit beginning (world_of (closed_on l) handed)) none was.runs;
+          runs = subst (λ l. IsRun limit beginning (world_of (closed_state l) handed)) none was.runs;
         }
   ]
 
   one_life : (before : List ℕ → Type 0) (handed : List Handed) (life : Life D d) → LeavesByRuns before handed → IsLife d g limit before handed life
-      → LeavesByRuns (left_by d life) (handed_by limit handed life)
+      → LeavesByRuns (contents_left d life) (life_handed limit handed life)
   one_life before handed (fails old new) known is content since = failed before handed old new content known is.0 is.1 since
   one_life before handed (serves on store calls last) known is content since =
       let served = after_service before handed on store calls last is.0 is.1 in
-      let left = in_call (world_on store handed) (world_after limit store calls handed) (store_after_calls store calls) last content served.runs served.leaves
+      let left = in_call (world_found store handed) (world_left limit store calls handed) (store_after_calls store calls) last content served.runs served.leaves
       is.1.is_last since in
       record {
         records = left.records;
         stands = left.stands;
-        runs = runs_on limit beginning (world_on store handed) _ (run_to before handed on store known is.0 is.1.is_store) left.runs;
+        runs = runs_on limit beginning (world_found store handed) _ (run_to before handed on store known is.0 is.1.is_store) left.runs;
       }
 
   all_lives : (before : List ℕ → Type 0) (handed : List Handed) (lives : List (Life D d)) → LeavesByRuns before handed
-      → AreLives d g limit before handed lives → LeavesByRuns (left_by_all d before lives) (handed_by_all limit handed lives)
+      → AreLives d g limit before handed lives → LeavesByRuns (all_contents_left d before lives) (all_handed limit handed lives)
   all_lives before handed [] known are = known
   all_lives before handed (life ∷ lives) known are =
-      all_lives (left_by d life) (handed_by limit handed life) lives (one_life before handed life known are.0) are.1
+      all_lives (contents_left d life) (life_handed limit handed life) lives (one_life before handed life known are.0) are.1
 
 none_led : (limit : ℕ) (content : List ℕ) → HasNoKey content → LedTo limit [] content
 none_led limit content none = record { records = []; stands = none; runs = no_run limit beginning }
@@ -315,27 +315,27 @@ without_key d g limit [] are = tt
 without_key d g limit (fails old new ∷ lives) are = ((start_without d limit old are.0.0, are.0.1), are.1)
 without_key d g limit (serves on store calls last ∷ lives) are = ((start_without d limit on are.0.0, are.0.1), are.1)
 
-left_without_key : {D : Type 0} (d : disk.Ghosts D) (limit : ℕ) (lives : List (Life D d)) (content : List ℕ) → left_by_all d HasNoKey lives content
-    → left_by_all d (LedTo limit []) lives content
+left_without_key : {D : Type 0} (d : disk.Ghosts D) (limit : ℕ) (lives : List (Life D d)) (content : List ℕ) → all_contents_left d HasNoKey lives content
+    → all_contents_left d (LedTo limit []) lives content
 left_without_key d limit [] content left = none_led limit content left
 left_without_key d limit (life ∷ lives) content left = left
 
-migrated_run : (limit : ℕ) (handed : List Handed) (records : List Record) (fate : Migration) → IsRun limit beginning (world_of (closed_on records) handed)
-    → CanMigrate records → IsRun limit beginning (world_of (closed_on (migrated_to records fate)) handed)
+migrated_run : (limit : ℕ) (handed : List Handed) (records : List Record) (fate : Migration) → IsRun limit beginning (world_of (closed_state records) handed)
+    → CanMigrate records → IsRun limit beginning (world_of (closed_state (migrated_list records fate)) handed)
 migrated_run limit handed records fate is (key, keyed, one) =
     let event : Event = migrate fate in
-    let leads : after limit (world_of (closed_on records) handed) event ≡ world_of (closed_on (migrated_to records fate)) handed =
-    ap (λ found. world_of (migrated_under (closed_on records) fate found) handed) keyed
-    ∙ ap (λ version. world_of (if can_move version && true then closed_on (migrated_to records fate) else closed_on records) handed) one in
-    runs_on limit beginning (world_of (closed_on records) handed) _ is (subst (IsRun limit (world_of (closed_on records) handed)) leads
-    (one_event limit (world_of (closed_on records) handed) event tt))
+    let leads : after limit (world_of (closed_state records) handed) event ≡ world_of (closed_state (migrated_list records fate)) handed =
+    ap (λ found. world_of (migrated_key (closed_state records) fate found) handed) keyed
+    ∙ ap (λ version. world_of (if can_move version && true then closed_state (migrated_list records fate) else closed_state records) handed) one in
+    runs_on limit beginning (world_of (closed_state records) handed) _ is (subst (IsRun limit (world_of (closed_state records) handed)) leads
+    (one_event limit (world_of (closed_state records) handed) event tt))
 
 pub migrates : (limit : ℕ) (handed : List Handed) (records : List Record) (content moved : List ℕ) → IsLeftByRun limit beginning handed content
     → StandsFor records content → CanMigrate records → StandsFor (carried records) moved ⊎ StandsFor (with_moved records) moved
     → IsLeftByRun limit beginning handed moved
 migrates limit handed records content moved left stands can there =
     let same : left.records ≡ records = stands_one left.records records content left.stands stands in
-    let was : IsRun limit beginning (world_of (closed_on records) handed) = subst (λ l. IsRun limit beginning (world_of (closed_on l) handed)) same left.runs in
+    let was : IsRun limit beginning (world_of (closed_state records) handed) = subst (λ l. IsRun limit beginning (world_of (closed_state l) handed)) same left.runs in
     elim there as (λ u. IsLeftByRun limit beginning handed moved) [
       | inl over ↦ record { records = carried records; stands = over; runs = migrated_run limit handed records carried_over was can }
       | inr last ↦ record { records = with_moved records; stands = last; runs = migrated_run limit handed records sealed was can }
@@ -363,7 +363,7 @@ tried_later d old new (inr leaves) = leaves.later
 
 goes_on : {D : Type 0} (d : disk.Ghosts D) (g : store.Ghosts (FileStore D d)) → KeepsTime d → (tied : IsTiedToDisk d g) → (limit : ℕ) (before : List ℕ → Type 0)
     (handed : List Handed) (life : Life D d) → IsTrue (d.honest (disk_at_end life)) → IsLife d g limit before handed life
-    → IsAtStart d (left_by d life) (disk_at_end life)
+    → IsAtStart d (contents_left d life) (disk_at_end life)
 goes_on d g time tied limit before handed (fails old new) honest is = record {
   honest = honest;
   holds = λ content may. time.counts_now new (d.moment old) content honest (tried_later d old new is.1) may;
@@ -373,7 +373,7 @@ goes_on d g time tied limit before handed (serves on store calls last) honest is
   holds = λ content may.
       let ended = store_after_calls store calls in
       time.counts_now (disk_of last.store) (d.moment (disk_of ended)) content honest
-      (no_earlier d g tied limit (world_after limit store calls handed) ended last is.1.is_last) may;
+      (no_earlier d g tied limit (world_left limit store calls handed) ended last is.1.is_last) may;
 }
 
 known_led : (limit : ℕ) (handed : List Handed) (content : List ℕ) → LedTo limit handed content → IsLeftByRun limit beginning handed content
@@ -384,20 +384,20 @@ lives_law d g time tied = record {
   without_key = without_key d g;
   left_without_key = left_without_key d;
   migrates = migrates;
-  after_power = λ limit handed lives on content honest same left. after_power d (left_by_all d (LedTo limit handed) lives) on content honest same left;
+  after_power = λ limit handed lives on content honest same left. after_power d (all_contents_left d (LedTo limit handed) lives) on content honest same left;
   goes_on = λ limit handed lives life honest is.
-      goes_on d g time tied limit (left_by_all d (LedTo limit handed) lives) (handed_by_all limit handed lives) life honest is;
+      goes_on d g time tied limit (all_contents_left d (LedTo limit handed) lives) (all_handed limit handed lives) life honest is;
   finds = λ on store records is stands. finds d g time tied 0 on store records is stands;
   leaves = λ limit handed lives content are left. all_lives d g time tied limit (LedTo limit handed) handed lives (known_led limit handed) are content left;
   once = λ limit handed lives content records are left stands.
       let by = all_lives d g time tied limit (LedTo limit handed) handed lives (known_led limit handed) are content left in
       let same : by.records ≡ records = stands_one by.records records content by.stands stands in
-      subst (λ l. IsOnce limit (world_of (closed_on l) (handed_by_all limit handed lives))) same (run_once limit _ by.runs);
+      subst (λ l. IsOnce limit (world_of (closed_state l) (all_handed limit handed lives))) same (run_once limit _ by.runs);
   once_after = λ limit handed lives on store calls last are is.
-      let all = handed_by_all limit handed lives in
-      let left = left_by_all d (LedTo limit handed) lives in
+      let all = all_handed limit handed lives in
+      let left = all_contents_left d (LedTo limit handed) lives in
       let known = all_lives d g time tied limit (LedTo limit handed) handed lives (known_led limit handed) are in
       let start = run_to d g time tied limit left all on store known is.0 is.1.is_store in
       let served = after_service d g time tied limit left all on store calls last is.0 is.1 in
-      run_once limit (world_after limit store calls all) (runs_on limit beginning (world_on store all) _ start served.runs);
+      run_once limit (world_left limit store calls all) (runs_on limit beginning (world_found store all) _ start served.runs);
 }

@@ -19,7 +19,7 @@ use Rattle.state_file.specs.declared.store.file_store.FileStore.{FileStore}
 use Rattle.state_file.specs.Disk.{ChangesOnly, Counts, DiskState, IsSynced, LeavesOnly, MayLeave, settled}
 use Rattle.state_file.specs.File.{HasNoKey, SpellsRecords, StandsFor}
 use Rattle.state_file.specs.FileStore.{disk_of, has_stopped, records_of, stands_one, synced_left}
-use Rattle.state_file.specs.Filling.{CountsEither, LeftByFill, offsets_below}
+use Rattle.state_file.specs.Filling.{CountsEither, LeftByFill, first_offsets}
 use Rattle.state_file.specs.Gates.{slot_and_gate}
 use Rattle.state_file.specs.Laws.{has_moved}
 use Rattle.state_file.specs.MigrateFault.{is_failed_migration}
@@ -33,12 +33,12 @@ use Rattle.state_file.proofs.Moved.{ends_moved, moved_signs_nothing}
 use Rattle.sign_core.specs.Migration.{AnswersNew, AnswersOld, CountsOne, IsFateOf, IsMigration, IsUntouched, LeftAtOld, Migrates}
 use Rattle.sign_core.specs.inner.OldFile.{Keeps, OpensOld, RefusesOld}
 use Rattle.sign_core.specs.OldFile.{ReportsOld, SpellsMovable}
-use Rattle.sign_core.specs.Records.{can_move, key_in}
-use Rattle.sign_core.specs.World.{Migration, State, carried_over, closed_on, left_alone, migrated, migrated_to, sealed}
+use Rattle.sign_core.specs.Records.{can_move, the_key}
+use Rattle.sign_core.specs.World.{Migration, State, carried_over, closed_state, left_alone, migrated, migrated_list, sealed}
 use Rattle.sign_core.proofs.Adding.{version_of_key}
 use Rattle.sign_core.proofs.Follow.{key_first}
 use Rattle.sign_core.proofs.Lives.{KeepsTime, spelled_stands}
-use Rattle.sign_core.proofs.Found.{migrated_under}
+use Rattle.sign_core.proofs.Found.{migrated_key}
 
 -- ---- lists
 
@@ -62,24 +62,24 @@ carried_sealed records = ap (map (in_version Two)) (unmoved_sealed records)
 
 -- ---- the event
 
-alone_under : (records : List Record) (found : Option Key) → migrated_under (closed_on records) left_alone found ≡ closed_on records
-alone_under records None = refl
-alone_under records (Some key) = elim (can_move key.version) as (λ (test : Bool). (if test && true then closed_on records else closed_on records) ≡ closed_on records) [
+alone_key : (records : List Record) (found : Option Key) → migrated_key (closed_state records) left_alone found ≡ closed_state records
+alone_key records None = refl
+alone_key records (Some key) = elim (can_move key.version) as (λ (test : Bool). (if test && true then closed_state records else closed_state records) ≡ closed_state records) [
   | true ↦ refl
   | false ↦ refl
 ]
 
-left_alone_records : (records : List Record) → (migrated (closed_on records) left_alone).records ≡ records
-left_alone_records records = ap (λ (s : State). s.records) (alone_under records (key_in records))
+left_alone_records : (records : List Record) → (migrated (closed_state records) left_alone).records ≡ records
+left_alone_records records = ap (λ (s : State). s.records) (alone_key records (the_key records))
 
 migrated_records : (content : List ℕ) (records : List Record) (fate : Migration) → SpellsMovable content records
-    → (migrated (closed_on records) fate).records ≡ migrated_to records fate
+    → (migrated (closed_state records) fate).records ≡ migrated_list records fate
 migrated_records content records fate is =
-    let keyed : key_in records ≡ Some is.legal.key = key_first records is.legal.key is.legal.first in
+    let keyed : the_key records ≡ Some is.legal.key = key_first records is.legal.key is.legal.first in
     let one = sym (version_of_key records is.legal.key keyed) ∙ is.version in
     ap (λ (s : State). s.records)
-    (ap (migrated_under (closed_on records) fate) keyed
-    ∙ ap (λ version. if can_move version && true then closed_on (migrated_to records fate) else closed_on records) one)
+    (ap (migrated_key (closed_state records) fate) keyed
+    ∙ ap (λ version. if can_move version && true then closed_state (migrated_list records fate) else closed_state records) one)
 
 -- ---- answers, by their cases
 
@@ -339,7 +339,7 @@ module _ {D E : Type 0} (d : disk.Ghosts D) (e : disk.Ghosts E) (old_time : Keep
     is_fate = tt;
     stands = (
       subst (λ l. StandsFor l c) (sym (migrated_records (d.state old).content (records_of store) sealed (opens.found honest))
-          ∙ ap (λ l. (migrated (closed_on l) sealed).records) (sym same)) stands,
+          ∙ ap (λ l. (migrated (closed_state l) sealed).records) (sym same)) stands,
       none,
     );
   }
@@ -528,8 +528,8 @@ module _ {D E : Type 0} (d : disk.Ghosts D) (e : disk.Ghosts E) (old_time : Keep
               records,
               opens.found,
               record {
-                changes = subst (λ s. ChangesOnly (offsets_below (256 * length (carried records) + 1) ∷ []) s.content c) (checks.answer honest).1
-                    (subst (λ l. ChangesOnly (offsets_below (256 * length l + 1) ∷ []) (e.state (place_disk place)).content c) over by.changes);
+                changes = subst (λ s. ChangesOnly (first_offsets (256 * length (carried records) + 1) ∷ []) s.content c) (checks.answer honest).1
+                    (subst (λ l. ChangesOnly (first_offsets (256 * length l + 1) ∷ []) (e.state (place_disk place)).content c) over by.changes);
                 kind = λ on. kind c on by;
               },
             )) (fills.new_moments (on_place honest)));

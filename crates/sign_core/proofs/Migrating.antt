@@ -24,13 +24,13 @@ use Rattle.lmots.specs.Key.{message_digest_of}
 use Rattle.hss.specs.Secret.{Signing}
 use Rattle.hss.specs.Writing.{signature_bytes, textbook}
 use Rattle.sign_core.specs.Headline.{IsRecorded}
-use Rattle.sign_core.specs.Records.{are_same, binding_in, can_follow, can_follow_legal, can_move, has_randomizer, current, has_identifier, has_moved, illegal_from, in_tree}
-use Rattle.sign_core.specs.Records.{is_free, is_moved, key_in, last_from, next_at, next_in, number_in, numbers_from, reaches, same_tree, under}
-use Rattle.sign_core.proofs.Found.{migrated_under, next_of}
-use Rattle.sign_core.specs.Textbook.{AllHaveSizes, AreSound, HasSizes, Trees, digest_at, digest_by, is_sound_at, is_sound_extend}
+use Rattle.sign_core.specs.Records.{are_same, binding_at, can_follow, can_follow_legal, can_move, has_randomizer, current, has_identifier, has_moved, next_illegal, in_tree}
+use Rattle.sign_core.specs.Records.{is_free, is_moved, the_key, last_extend, next_at, next_leaf, reached_number, reached_numbers, reaches, same_tree, under}
+use Rattle.sign_core.proofs.Found.{migrated_key, next_of}
+use Rattle.sign_core.specs.Textbook.{AllHaveSizes, AreSound, HasSizes, Trees, digest_at, any_digest, is_sound_at, is_sound_extend}
 use Rattle.sign_core.proofs.Found.{digest_under, hss_signature_under}
-use Rattle.sign_core.specs.Textbook.{is_sound_record, secret_at, secret_by, signature_at, signature_by, signing_by, signings_above, tree_before, trees_of}
-use Rattle.sign_core.specs.World.{Handed, Migration, State, carried_over, closed_on, left_alone, migrated, migrated_to, sealed}
+use Rattle.sign_core.specs.Textbook.{is_sound_record, secret_at, made_secret, signature_at, any_signature, parent_signing, chain_signings, current_at, trees_of}
+use Rattle.sign_core.specs.World.{Handed, Migration, State, carried_over, closed_state, left_alone, migrated, migrated_list, sealed}
 use Rattle.sign_core.proofs.Bindings.{binding_other, binding_stands, is_of}
 use Rattle.sign_core.proofs.Follow.{key_stays as key_of_front, moved_means, none_moved}
 use Rattle.sign_core.proofs.Illegal.{legal_from_none, none_from_legal}
@@ -67,12 +67,12 @@ module _ (version : Version) (key : Key) where
 
   current_head : (level : ℕ) (rest : List Record) → current level (new_list rest) ≡ current level (old_list rest)
   current_head zero rest = refl
-  current_head (suc level) rest = under_head level rest (λ tail. current_head level tail) (last_from (suc level) 0 None (old_list rest))
+  current_head (suc level) rest = under_head level rest (λ tail. current_head level tail) (last_extend (suc level) 0 None (old_list rest))
 
   current_taken : (level k : ℕ) (rest : List Record) → current level (take k (new_list rest)) ≡ current level (take k (old_list rest))
   current_taken level k rest = taken_head level rest (current_head level) k
 
-  before_head : (level : ℕ) (rest : List Record) (k : ℕ) → tree_before level (new_list rest) k ≡ tree_before level (old_list rest) k
+  before_head : (level : ℕ) (rest : List Record) (k : ℕ) → current_at level (new_list rest) k ≡ current_at level (old_list rest) k
   before_head level rest k = ap (λ tree. unwrap_or tree 0) (current_taken level k rest)
 
   -- ---- leaves
@@ -86,12 +86,12 @@ module _ (version : Version) (key : Key) where
   reaches_head secret rest k Moved = refl
 
   numbers_head : (secret : Secret) (rest : List Record) (tree k : ℕ) (tail : List Record)
-      → numbers_from secret (new_list rest) tree k tail ≡ numbers_from secret (old_list rest) tree k tail
+      → reached_numbers secret (new_list rest) tree k tail ≡ reached_numbers secret (old_list rest) tree k tail
   numbers_head secret rest tree k [] = refl
   numbers_head secret rest tree k (entry ∷ tail) =
-      ap₂ (λ n numbers. number_in tree n ∷ numbers) (reaches_head secret rest k entry) (numbers_head secret rest tree (k + 1) tail)
+      ap₂ (λ n numbers. reached_number tree n ∷ numbers) (reaches_head secret rest k entry) (numbers_head secret rest tree (k + 1) tail)
 
-  next_head : (secret : Secret) (rest : List Record) (tree : ℕ) → next_in secret (new_list rest) tree ≡ next_in secret (old_list rest) tree
+  next_head : (secret : Secret) (rest : List Record) (tree : ℕ) → next_leaf secret (new_list rest) tree ≡ next_leaf secret (old_list rest) tree
   next_head secret rest tree = ap (λ numbers. fold max 0 (0 ∷ numbers)) (numbers_head secret rest tree 1 rest)
 
   next_of_head : (secret : Secret) (rest : List Record) (found : Option ℕ) → next_of secret (new_list rest) found ≡ next_of secret (old_list rest) found
@@ -131,7 +131,7 @@ module _ (version : Version) (key : Key) where
       ap₂ (λ free has. nat_le 1 extend.level && nat_lt extend.level (levels_of key.secret) && free && not has)
       (free_head key.secret rest (extend.level - 1) extend.parent_leaf) (identifier_head rest extend.identifier)
   follow_head rest (BoundRecord bound) stays =
-      ap (λ free. free && not (is_some (binding_in (old_list rest) bound.name)) && has_randomizer key.secret bound.randomizer)
+      ap (λ free. free && not (is_some (binding_at (old_list rest) bound.name)) && has_randomizer key.secret bound.randomizer)
       (free_head key.secret rest (bottom_of key.secret) bound.leaf)
   follow_head rest (Retire upto) stays =
       ap (λ tree. is_some tree && nat_le upto (leaves_at key.secret (bottom_of key.secret))) (current_head (bottom_of key.secret) rest)
@@ -142,12 +142,12 @@ module _ (version : Version) (key : Key) where
   can_follow_head rest entry stays = ap₂ (λ moved can. not moved && can) (moved_head rest) (follow_head rest entry stays)
 
   illegal_head : (rest : List Record) (k : ℕ) (tail : List Record) → NoMoved tail
-      → illegal_from (new_list rest) (suc k) tail ≡ illegal_from (old_list rest) (suc k) tail
+      → next_illegal (new_list rest) (suc k) tail ≡ next_illegal (old_list rest) (suc k) tail
   illegal_head rest k [] none = refl
   illegal_head rest k (entry ∷ tail) none =
       let next : suc (k + 1) ≡ suc k + 1 = omega arith in
       ap₂ (λ follows later. if follows then later else Some (suc k)) (can_follow_head (take k rest) entry (none 0 entry refl))
-      (subst (λ n. illegal_from (new_list rest) n tail ≡ illegal_from (old_list rest) n tail) next
+      (subst (λ n. next_illegal (new_list rest) n tail ≡ next_illegal (old_list rest) n tail) next
       (illegal_head rest (k + 1) tail (λ i other at. none (suc i) other at)))
 
   legal_head : (rest : List Record) → NoMoved rest → IsLegal (old_list rest) → IsLegal (new_list rest)
@@ -161,12 +161,12 @@ module _ (version : Version) (key : Key) where
   secret_by_head trees rest (suc tree) = refl
 
   secret_before_head : (trees : Trees) (rest : List Record) (level k : ℕ)
-      → secret_at trees (new_list rest) (tree_before level (new_list rest) k) ≡ secret_at trees (old_list rest) (tree_before level (old_list rest) k)
+      → secret_at trees (new_list rest) (current_at level (new_list rest) k) ≡ secret_at trees (old_list rest) (current_at level (old_list rest) k)
   secret_before_head trees rest level k =
-      ap (secret_at trees (new_list rest)) (before_head level rest k) ∙ secret_by_head trees rest (tree_before level (old_list rest) k)
+      ap (secret_at trees (new_list rest)) (before_head level rest k) ∙ secret_by_head trees rest (current_at level (old_list rest) k)
 
   signing_found : (trees : Trees) (rest : List Record) (parent : ℕ) (found : Option Record)
-      → signing_by trees (new_list rest) parent found ≡ signing_by trees (old_list rest) parent found
+      → parent_signing trees (new_list rest) parent found ≡ parent_signing trees (old_list rest) parent found
   signing_found trees rest parent (Some (ExtendRecord extend)) =
       let signing : LmsSecret → List Signing = λ secret. record {
         secret = secret;
@@ -182,16 +182,16 @@ module _ (version : Version) (key : Key) where
   signing_found trees rest parent None = refl
 
   signing_at : (trees : Trees) (rest : List Record) (parent tree : ℕ)
-      → signing_by trees (new_list rest) parent (slice_get (new_list rest) tree) ≡ signing_by trees (old_list rest) parent (slice_get (old_list rest) tree)
+      → parent_signing trees (new_list rest) parent (slice_get (new_list rest) tree) ≡ parent_signing trees (old_list rest) parent (slice_get (old_list rest) tree)
   signing_at trees rest parent zero = refl
   signing_at trees rest parent (suc tree) = signing_found trees rest parent (slice_get rest tree)
 
   signings_head : (trees : Trees) (level : ℕ) (rest : List Record) (tree : ℕ)
-      → signings_above trees level (new_list rest) tree ≡ signings_above trees level (old_list rest) tree
+      → chain_signings trees level (new_list rest) tree ≡ chain_signings trees level (old_list rest) tree
   signings_head trees zero rest tree = refl
   signings_head trees (suc level) rest tree =
-      let parent = tree_before level (old_list rest) tree in
-      let all : ℕ → List Signing = λ p. signings_above trees level (new_list rest) p ++ signing_by trees (new_list rest) p (slice_get (new_list rest) tree) in
+      let parent = current_at level (old_list rest) tree in
+      let all : ℕ → List Signing = λ p. chain_signings trees level (new_list rest) p ++ parent_signing trees (new_list rest) p (slice_get (new_list rest) tree) in
       ap all (before_head level rest tree)
       ∙ ap₂ (λ above own. above ++ own) (signings_head trees level rest parent) (signing_at trees rest parent tree)
 
@@ -203,14 +203,14 @@ module _ (version : Version) (key : Key) where
       ap₂ (λ above secret. signature_bytes (textbook above (bottom secret))) (signings_head trees level rest tree) (secret_by_head trees rest tree)
 
   signature_head : (secret : Secret) (rest : List Record) (k : ℕ) (bound : Bound)
-      → signature_by secret (new_list rest) k bound ≡ signature_by secret (old_list rest) k bound
+      → any_signature secret (new_list rest) k bound ≡ any_signature secret (old_list rest) k bound
   signature_head (Lms secret) rest k bound = refl
   signature_head (Xmss secret) rest k bound = refl
   signature_head (Hss levels identifier seed) rest k bound =
       let bottom = length levels - 1 in
       let trees = trees_of (Hss levels identifier seed) in
       ap (λ tree. hss_signature_under trees (new_list rest) bottom tree bound) (before_head bottom rest k)
-      ∙ hss_head trees rest bottom (tree_before bottom (old_list rest) k) bound
+      ∙ hss_head trees rest bottom (current_at bottom (old_list rest) k) bound
 
   digest_found : (trees : Option Trees) (rest : List Record) (tree leaf : ℕ) (randomizer message : List ℕ)
       → digest_under trees (new_list rest) tree leaf randomizer message ≡ digest_under trees (old_list rest) tree leaf randomizer message
@@ -219,20 +219,20 @@ module _ (version : Version) (key : Key) where
       ap (λ secret. message_digest_of secret.identifier leaf randomizer message) (secret_by_head trees rest tree)
 
   digest_head : (secret : Secret) (root : List ℕ) (rest : List Record) (k leaf : ℕ) (randomizer message : List ℕ)
-      → digest_by secret root (new_list rest) k leaf randomizer message ≡ digest_by secret root (old_list rest) k leaf randomizer message
+      → any_digest secret root (new_list rest) k leaf randomizer message ≡ any_digest secret root (old_list rest) k leaf randomizer message
   digest_head (Lms secret) root rest k leaf randomizer message = refl
   digest_head (Xmss secret) root rest k leaf randomizer message = refl
   digest_head (Hss levels identifier seed) root rest k leaf randomizer message =
       let bottom = length levels - 1 in
       let trees = trees_of (Hss levels identifier seed) in
       ap (λ tree. digest_under trees (new_list rest) tree leaf randomizer message) (before_head bottom rest k)
-      ∙ digest_found trees rest (tree_before bottom (old_list rest) k) leaf randomizer message
+      ∙ digest_found trees rest (current_at bottom (old_list rest) k) leaf randomizer message
 
   extend_head : (trees : Option Trees) (rest : List Record) (k : ℕ) (extend : Extend)
       → is_sound_extend trees (new_list rest) k extend ≡ is_sound_extend trees (old_list rest) k extend
   extend_head None rest k extend = refl
   extend_head (Some trees) rest k extend =
-      let made = public_of (secret_by trees (Some (ExtendRecord extend))) in
+      let made = public_of (made_secret trees (Some (ExtendRecord extend))) in
       let test : LmsSecret → Bool = λ parent.
       are_same extend.root made.root && are_same extend.digest
       (message_digest_of parent.identifier extend.parent_leaf extend.randomizer (public_bytes made)) in
@@ -321,7 +321,7 @@ module _ (front : List Record) (some : 0 < length front) where
 
   recorded_front : (x : Handed) → IsRecorded (front ++ Moved ∷ []) x → IsRecorded front x
   recorded_front x is =
-      let named : binding_in front x.name ≡ Some (is.k, is.bound) = sym (binding_other front Moved x.name refl) ∙ is.is_bound.named in
+      let named : binding_at front x.name ≡ Some (is.k, is.bound) = sym (binding_other front Moved x.name refl) ∙ is.is_bound.named in
       let low : is.k < length front = slice_get_within front is.k (BoundRecord is.bound) (binding_stands front x.name is.k is.bound named).0 in
       let within : is.k ≤ length front = omega (arith, low) in
       record {
@@ -339,7 +339,7 @@ module _ (front : List Record) (some : 0 < length front) where
   sizes_front : AllHaveSizes (front ++ Moved ∷ []) → AllHaveSizes front
   sizes_front sizes k entry at = sizes k entry (slice_get_stays front (Moved ∷ []) k entry at)
 
-  kept_front : (handed : List Handed) (key : Key) → key_in (front ++ Moved ∷ []) ≡ Some key → IsKept (front ++ Moved ∷ []) handed → IsKept front handed
+  kept_front : (handed : List Handed) (key : Key) → the_key (front ++ Moved ∷ []) ≡ Some key → IsKept (front ++ Moved ∷ []) handed → IsKept front handed
   kept_front handed key keyed kept = record {
     ground = inr (sound_front (sound_with (front ++ Moved ∷ []) handed key kept keyed));
     sizes = sizes_front kept.sizes;
@@ -348,7 +348,7 @@ module _ (front : List Record) (some : 0 < length front) where
 
 -- ---- records that are carried over
 
-list_of_key : (records : List Record) (key : Key) → key_in records ≡ Some key → (rest : List Record) × (records ≡ KeyRecord key ∷ rest)
+list_of_key : (records : List Record) (key : Key) → the_key records ≡ Some key → (rest : List Record) × (records ≡ KeyRecord key ∷ rest)
 list_of_key [] key is = absurd (cc)
 list_of_key (KeyRecord own ∷ rest) key is = (rest, ap (λ k. KeyRecord k ∷ rest) (same_Some own key is))
 list_of_key (ExtendRecord extend ∷ rest) key is = absurd (cc)
@@ -378,7 +378,7 @@ pub record IsCarried (records : List Record) (key : Key) : Type 0 where
   pub is : (records ≡ KeyRecord key ∷ rest) ⊎ (records ≡ (KeyRecord key ∷ rest) ++ Moved ∷ [])
   pub carried_is : carried records ≡ KeyRecord (key_in_version Two key) ∷ rest
 
-carried_front : (records front : List Record) (key : Key) → IsLegal front → key_in front ≡ Some key → NoMoved front → unmoved records ≡ front
+carried_front : (records front : List Record) (key : Key) → IsLegal front → the_key front ≡ Some key → NoMoved front → unmoved records ≡ front
     → (records ≡ front) ⊎ (records ≡ front ++ Moved ∷ []) → IsCarried records key
 unfolding carried
 carried_front records front key legal keyed none same is =
@@ -397,7 +397,7 @@ carried_front records front key legal keyed none same is =
       carried_is = ap (map (in_version Two)) (same ∙ list) ∙ ap (λ l. KeyRecord (key_in_version Two key) ∷ l) (same_mapped Two rest only);
     }
 
-pub is_carried : (records : List Record) (key : Key) → IsLegal records → key_in records ≡ Some key → IsCarried records key
+pub is_carried : (records : List Record) (key : Key) → IsLegal records → the_key records ≡ Some key → IsCarried records key
 is_carried records key legal keyed = elim (cases_Bool (has_moved records)) [
   | inl moved ↦ by_front moved (front_of records moved)
   | inr stays ↦
@@ -408,24 +408,24 @@ is_carried records key legal keyed = elim (cases_Bool (has_moved records)) [
     by_front : has_moved records ≡ true → (front : List Record) × (records ≡ front ++ Moved ∷ []) × (unmoved records ≡ front) → IsCarried records key
     by_front moved (front, is, same) =
         let whole : IsLegal (front ++ Moved ∷ []) = subst IsLegal is legal in
-        let some : 0 < length front = some_front front key (sym (ap key_in is) ∙ keyed) in
+        let some : 0 < length front = some_front front key (sym (ap the_key is) ∙ keyed) in
         carried_front records front key (legal_beginning front (Moved ∷ []) some whole)
-        (sym (key_of_front front (Moved ∷ []) some) ∙ sym (ap key_in is) ∙ keyed)
+        (sym (key_of_front front (Moved ∷ []) some) ∙ sym (ap the_key is) ∙ keyed)
         (λ k entry at equal.
         let end : k + 1 ≡ length (front ++ Moved ∷ []) = (whole.fits k Moved (slice_get_stays front (Moved ∷ []) k Moved (at ∙ ap Some equal))).1 in
         let low : k < length front = slice_get_within front k entry at in
         omega (arith, end, low, length_push front Moved))
         same (inr is)
       where
-        some_front : (front : List Record) (key : Key) → key_in (front ++ Moved ∷ []) ≡ Some key → 0 < length front
+        some_front : (front : List Record) (key : Key) → the_key (front ++ Moved ∷ []) ≡ Some key → 0 < length front
         some_front [] key keyed = absurd (cc)
         some_front (entry ∷ rest) key keyed = omega arith
 
 pub legal_carried : (records : List Record) (key : Key) → IsCarried records key → IsLegal (carried records)
 legal_carried records key is = subst IsLegal (sym is.carried_is) (legal_head Two key is.rest is.none is.legal)
 
-pub key_carried : (records : List Record) (key : Key) → IsCarried records key → key_in (carried records) ≡ Some (key_in_version Two key)
-key_carried records key is = ap key_in is.carried_is
+pub key_carried : (records : List Record) (key : Key) → IsCarried records key → the_key (carried records) ≡ Some (key_in_version Two key)
+key_carried records key is = ap the_key is.carried_is
 
 pub sizes_carried : (records : List Record) (key : Key) → IsCarried records key → AllHaveSizes records → AllHaveSizes (carried records)
 sizes_carried records key is sizes =
@@ -434,14 +434,14 @@ sizes_carried records key is sizes =
       | inr more ↦ sizes_front (KeyRecord key ∷ is.rest) (omega arith) (subst AllHaveSizes more sizes)
     ]))
 
-kept_carried : (records : List Record) (handed : List Handed) (key : Key) → IsKept records handed → key_in records ≡ Some key → IsKept (carried records) handed
+kept_carried : (records : List Record) (handed : List Handed) (key : Key) → IsKept records handed → the_key records ≡ Some key → IsKept (carried records) handed
 kept_carried records handed key kept keyed =
     let is = is_carried records key (sound_with records handed key kept keyed).legal keyed in
     subst (λ l. IsKept l handed) (sym is.carried_is) (kept_head Two key is.rest handed is.none
     (elim is.is as (λ u. IsKept (KeyRecord key ∷ is.rest) handed) [
       | inl alone ↦ subst (λ l. IsKept l handed) alone kept
       | inr more ↦
-          kept_front (KeyRecord key ∷ is.rest) (omega arith) handed key (sym (ap key_in more) ∙ keyed) (subst (λ l. IsKept l handed) more kept)
+          kept_front (KeyRecord key ∷ is.rest) (omega arith) handed key (sym (ap the_key more) ∙ keyed) (subst (λ l. IsKept l handed) more kept)
     ]))
 
 -- ---- any migration
@@ -449,7 +449,7 @@ kept_carried records handed key kept keyed =
 pub moved_can : (key : Key) (records : List Record) → has_moved records ≡ false → can_move key.version ≡ true → can_follow (Some key) records Moved ≡ true
 moved_can key records stays moves = and_from (not (has_moved records)) (can_move key.version) (not_from_false (has_moved records) stays) moves
 
-kept_sealed : (records : List Record) (handed : List Handed) (key : Key) → IsKept records handed → key_in records ≡ Some key → can_move key.version ≡ true
+kept_sealed : (records : List Record) (handed : List Handed) (key : Key) → IsKept records handed → the_key records ≡ Some key → can_move key.version ≡ true
     → IsKept (with_moved records) handed
 kept_sealed records handed key kept keyed moves = elim (cases_Bool (has_moved records)) as (λ u. IsKept (with_moved records) handed) [
   | inl moved ↦ subst (λ l. IsKept l handed) (sym (ap (λ test. if test then records else records ++ Moved ∷ []) moved)) kept
@@ -458,8 +458,8 @@ kept_sealed records handed key kept keyed moves = elim (cases_Bool (has_moved re
       (kept_grown records handed key Moved kept keyed (moved_can key records stays moves) refl tt)
 ]
 
-kept_to : (records : List Record) (handed : List Handed) (key : Key) (fate : Migration) → IsKept records handed → key_in records ≡ Some key
-    → can_move key.version ≡ true → IsKept (migrated_to records fate) handed
+kept_to : (records : List Record) (handed : List Handed) (key : Key) (fate : Migration) → IsKept records handed → the_key records ≡ Some key
+    → can_move key.version ≡ true → IsKept (migrated_list records fate) handed
 kept_to records handed key left_alone kept keyed moves = kept
 kept_to records handed key sealed kept keyed moves = kept_sealed records handed key kept keyed moves
 kept_to records handed key carried_over kept keyed moves = kept_carried records handed key kept keyed
@@ -470,13 +470,13 @@ state_choice P false x y first second = second
 
 -- what holds of the old records, and of all that a migration may leave, holds after it
 pub migrated_has : (P : List Record → Type 0) (state : State) (fate : Migration) → P state.records
-    → ((key : Key) → key_in state.records ≡ Some key → can_move key.version ≡ true → P (migrated_to state.records fate)) → P (migrated state fate).records
-migrated_has P state fate was each = by (key_in state.records) refl
+    → ((key : Key) → the_key state.records ≡ Some key → can_move key.version ≡ true → P (migrated_list state.records fate)) → P (migrated state fate).records
+migrated_has P state fate was each = by (the_key state.records) refl
   where
-    by : (found : Option Key) → key_in state.records ≡ found → P (migrated_under state fate found).records
+    by : (found : Option Key) → the_key state.records ≡ found → P (migrated_key state fate found).records
     by None keyed = was
     by (Some key) keyed =
-        state_choice P (can_move key.version && not state.is_open) (closed_on (migrated_to state.records fate)) state
+        state_choice P (can_move key.version && not state.is_open) (closed_state (migrated_list state.records fate)) state
         (λ both. each key keyed (and_parts (can_move key.version) (not state.is_open) both).0) was
 
 pub kept_migrated : (state : State) (handed : List Handed) (fate : Migration) → IsKept state.records handed → IsKept (migrated state fate).records handed

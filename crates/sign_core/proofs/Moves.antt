@@ -12,7 +12,7 @@ use Rattle.sign_core.specs.Migration.{Migrates}
 use Rattle.sign_core.specs.Moves.{MovesLaw}
 use Rattle.sign_core.specs.OldFile.{SpellsMovable}
 use Rattle.sign_core.specs.SignerCalls.{world_of}
-use Rattle.sign_core.specs.World.{Handed, beginning, closed_on}
+use Rattle.sign_core.specs.World.{Handed, beginning, closed_state}
 use Rattle.sign_core.specs.Calls.{IsRun}
 use Rattle.sign_core.proofs.Adding.{version_of_key}
 use Rattle.sign_core.proofs.Follow.{key_first}
@@ -37,7 +37,7 @@ module _ {D E : Type 0} (d : disk.Ghosts D) (e : disk.Ghosts E) (time : KeepsTim
       record {
         records = records;
         stands = stands;
-        runs = subst (λ l. IsRun limit beginning (world_of (closed_on l) handed)) same led.runs;
+        runs = subst (λ l. IsRun limit beginning (world_of (closed_state l) handed)) same led.runs;
       }
 
   led_over : (records : List Record) (c : List ℕ) → SpellsMovable (d.state old).content records

@@ -10,7 +10,7 @@ use Rattle.state_file.specs.declared.record.Record.{Record}
 use Rattle.state_file.specs.declared.record.Record.TheVariants.{Key as KeyRecord, Extend as ExtendRecord, Bound as BoundRecord, Retire, Moved}
 use Rattle.state_file.specs.declared.record.Secret.{Secret}
 use Rattle.state_file.specs.Laws.{IsLastExtend, bottom_of}
-use Rattle.sign_core.specs.Records.{current, in_tree, next_at, number_in, reaches}
+use Rattle.sign_core.specs.Records.{current, in_tree, next_at, reached_number, reaches}
 use Rattle.sign_core.proofs.TreeSteps.{current_is}
 use Rattle.sign_core.proofs.Leaves.{number_other}
 use Rattle.sign_core.proofs.Append.{current_above, current_cut, current_kept, next_at_none, next_at_tree, next_kept, next_raised}
@@ -81,7 +81,7 @@ next_at_kept secret records key entry level other tree n first is reached apart 
     by (Some own) at =
         let away : tree ≢ own = λ same. trees_apart records key other level own tree first at is apart (sym same) in
         next_at_tree secret (records ++ entry ∷ []) other own (kept ∙ at)
-        ∙ next_kept secret records entry own (ap (number_in own) reached ∙ number_other own tree n away)
+        ∙ next_kept secret records entry own (ap (reached_number own) reached ∙ number_other own tree n away)
         ∙ sym (next_at_tree secret records other own at)
 
 -- ---- an Extend under a current tree

@@ -10,9 +10,9 @@ use Rattle.state_file.specs.declared.record.Record.{Record}
 use Rattle.state_file.specs.declared.record.Record.TheVariants.{Bound as BoundRecord}
 use Rattle.sign_core.specs.declared.fault.SignFault.{SignFault}
 use Rattle.sign_core.specs.declared.fault.SignFault.TheVariants.{OutOfMemory, StoreFailed}
-use Rattle.sign_core.specs.Records.{can_follow, key_in}
+use Rattle.sign_core.specs.Records.{can_follow, the_key}
 use Rattle.sign_core.specs.Headline.{IsRecorded}
-use Rattle.sign_core.specs.World.{Fate, Handed, Outcome, State, acked, appended, cut_new, cut_old, handed_with, no_memory, refused}
+use Rattle.sign_core.specs.World.{Fate, Handed, Outcome, State, acked, appended, cut_new, cut_old, newly_handed, no_memory, refused}
 use Rattle.sign_core.specs.Textbook.{AllHaveSizes, AreSound, HasSizes, is_sound_at, is_sound_record}
 use Rattle.sign_core.proofs.Bindings.{binding_stands, binding_stays}
 use Rattle.sign_core.proofs.Lists.{slice_get_new}
@@ -32,14 +32,14 @@ kept_empty = record {
 }
 
 -- where there is a key, the records are sound
-no_key : (records : List Record) (key : Key) → records ≡ [] → key_in records ≡ Some key → ⊥
+no_key : (records : List Record) (key : Key) → records ≡ [] → the_key records ≡ Some key → ⊥
 no_key [] key empty is = absurd (cc)
 no_key (first ∷ rest) key empty is = absurd (cc)
 
-pub sound_with : (records : List Record) (handed : List Handed) (key : Key) → IsKept records handed → key_in records ≡ Some key → AreSound records
+pub sound_with : (records : List Record) (handed : List Handed) (key : Key) → IsKept records handed → the_key records ≡ Some key → AreSound records
 sound_with records handed key kept is = elim kept.ground [ inl empty ↦ absurd (no_key records key empty is) | inr sound ↦ sound ]
 
-pub each_sound : (records : List Record) (key : Key) (k : ℕ) → AreSound records → key_in records ≡ Some key → is_sound_at key records k ≡ true
+pub each_sound : (records : List Record) (key : Key) (k : ℕ) → AreSound records → the_key records ≡ Some key → is_sound_at key records k ≡ true
 each_sound records key k sound is =
     let same : sound.key ≡ key = cc (sound.keyed, is) in
     subst (λ own. is_sound_at own records k ≡ true) same (sound.sound k)
@@ -51,7 +51,7 @@ get_past [] k past = refl
 get_past (x ∷ xs) zero past = absurd (omega (arith, past))
 get_past (x ∷ xs) (suc k) past = get_past xs k (omega (arith, past))
 
-each_grown : (records : List Record) (key : Key) (entry : Record) (k : ℕ) → AreSound records → key_in records ≡ Some key
+each_grown : (records : List Record) (key : Key) (entry : Record) (k : ℕ) → AreSound records → the_key records ≡ Some key
     → is_sound_record key records (length records) (Some entry) ≡ true → is_sound_at key (records ++ entry ∷ []) k ≡ true
 each_grown records key entry k sound is new =
     let all = records ++ entry ∷ [] in
@@ -62,7 +62,7 @@ each_grown records key entry k sound is new =
       | inr (inr above) ↦ ap (is_sound_record key all k) (get_past all k (omega (arith, above, length_push records entry)))
     ]
 
-pub sound_grown : (records : List Record) (key : Key) (entry : Record) → AreSound records → key_in records ≡ Some key
+pub sound_grown : (records : List Record) (key : Key) (entry : Record) → AreSound records → the_key records ≡ Some key
     → can_follow (Some key) records entry ≡ true → is_sound_record key records (length records) (Some entry) ≡ true
     → AreSound (records ++ entry ∷ [])
 sound_grown records key entry sound is can new = record {
@@ -95,7 +95,7 @@ recorded_stays records entry x is =
     place_within (y ∷ ys) (suc k) x at = let within = place_within ys k x at in omega (arith, within)
 
 -- one more record that can follow, is sound and has its sizes
-pub kept_grown : (records : List Record) (handed : List Handed) (key : Key) (entry : Record) → IsKept records handed → key_in records ≡ Some key
+pub kept_grown : (records : List Record) (handed : List Handed) (key : Key) (entry : Record) → IsKept records handed → the_key records ≡ Some key
     → can_follow (Some key) records entry ≡ true → is_sound_record key records (length records) (Some entry) ≡ true → HasSizes entry
     → IsKept (records ++ entry ∷ []) handed
 kept_grown records handed key entry kept is can new sized = record {
@@ -115,14 +115,14 @@ kept_handed records handed x kept is = record {
 
 -- the outcome's records, with what is handed out with its answer
 abbrev pub Keeps : (handed : List Handed) (name : List ℕ) (given : Option (List ℕ)) → Outcome (List ℕ) → Type 0
-Keeps handed name given outcome = IsKept outcome.state.records (handed ++ handed_with name given outcome.answer)
+Keeps handed name given outcome = IsKept outcome.state.records (handed ++ newly_handed name given outcome.answer)
 
-handed_none : (name : List ℕ) (given : Option (List ℕ)) (fault : SignFault) → handed_with name given (Err fault) ≡ []
+handed_none : (name : List ℕ) (given : Option (List ℕ)) (fault : SignFault) → newly_handed name given (Err fault) ≡ []
 handed_none name (Some message) fault = refl
 handed_none name None fault = refl
 
 kept_silent : (records : List Record) (handed : List Handed) (name : List ℕ) (given : Option (List ℕ)) (fault : SignFault) → IsKept records handed
-    → IsKept records (handed ++ handed_with name given (Err fault))
+    → IsKept records (handed ++ newly_handed name given (Err fault))
 kept_silent records handed name given fault kept =
     subst (IsKept records) (sym (ap (λ more. handed ++ more) (handed_none name given fault) ∙ append-nil handed)) kept
 

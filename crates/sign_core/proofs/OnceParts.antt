@@ -17,27 +17,27 @@ use Rattle.sign_core.specs.declared.key.AnyPublic.{AnyPublic}
 use Rattle.sign_core.specs.declared.fault.SignFault.TheVariants.{Changed, Damaged, Exhausted, Illegal, LedgerFull, OutOfMemory, Stopped, StoreFailed, LongName}
 use Rattle.sign_core.specs.declared.fault.SignFault.TheVariants.{RandomRepeated, RetireRange}
 use Rattle.sign_core.specs.declared.fault.SignFault.TheVariants.{Moved as MovedAway}
-use Rattle.sign_core.specs.Records.{are_same, binding_in, deepest, first_illegal, has_moved, key_in, leaves_of_current, next_at, wanted_count, is_long}
+use Rattle.sign_core.specs.Records.{are_same, binding_at, deepest, first_illegal, has_moved, the_key, leaves_of_current, next_at, wanted_count, is_long}
 use Rattle.sign_core.specs.Requests.{AreComplete, BeginsTree, IsSigned}
 use Rattle.sign_core.specs.Openings.{BeginsKey, Reopens}
 use Rattle.sign_core.specs.Openings.{CanStopOpening}
 use Rattle.sign_core.specs.Headline.{IsBoundTo}
 use Rattle.sign_core.specs.Once.{IsOnce}
 use Rattle.sign_core.specs.World.{Chance, Creation, Handed, Opening, Fate, Outcome, State, World, acked, after, answered, appended, cut_new, cut_old, no_memory}
-use Rattle.sign_core.specs.inner.Cases.{bound_anew, bound_sound}
+use Rattle.sign_core.specs.inner.Cases.{bound_level, bound_sound}
 use Rattle.sign_core.specs.World.{retired}
-use Rattle.sign_core.specs.inner.Cases.{retired_under}
-use Rattle.sign_core.specs.World.{handed_with, new_key, open_on, opened}
-use Rattle.sign_core.specs.inner.Cases.{bound_below}
+use Rattle.sign_core.specs.inner.Cases.{retired_key}
+use Rattle.sign_core.specs.World.{newly_handed, new_key, open_state, opened}
+use Rattle.sign_core.specs.inner.Cases.{bound_trees}
 use Rattle.sign_core.specs.World.{reading, refused, request, requested}
-use Rattle.sign_core.specs.inner.Cases.{opened_by, opened_on, published, repeated, repeated_sound, requested_of}
-use Rattle.sign_core.specs.World.{secret_from}
-use Rattle.sign_core.specs.inner.Cases.{requested_under}
-use Rattle.sign_core.specs.Textbook.{AreSound, damaged_in, digest_at, public_in, signature_at, tree_before}
+use Rattle.sign_core.specs.inner.Cases.{opened_illegal, opened_key, published, repeated, repeated_sound, requested_binding}
+use Rattle.sign_core.specs.World.{secret_of_fields}
+use Rattle.sign_core.specs.inner.Cases.{requested_key}
+use Rattle.sign_core.specs.Textbook.{AreSound, damaged_at, digest_at, any_public_of, signature_at, current_at}
 use Rattle.sign_core.proofs.Illegal.{none_from_legal}
 use Rattle.sign_core.proofs.Opened.{reopens}
 use Rattle.sign_core.proofs.Valid.{undamaged}
-use Rattle.sign_core.proofs.Ends.{Ends, IsDamaged, ended_anew, ended_request, not_damaged}
+use Rattle.sign_core.proofs.Ends.{Ends, IsDamaged, ended_level, ended_request, not_damaged}
 use Rattle.sign_core.proofs.Fresh.{IsDone, fine_bound_below, randomizer_drawn}
 use Rattle.sign_core.proofs.DrawnAgain.{drawn_again, drawn_most, signed_read}
 use Rattle.sign_core.proofs.Leaves.{deepest_is}
@@ -50,7 +50,7 @@ use Rattle.state_file.specs.Slot.{name_most}
 -- ---- sound records
 
 never_damaged : (Q : Outcome (List ℕ) → Type 0) (state : State) (handed : List Handed) (key : Key) → IsKept state.records handed
-    → key_in state.records ≡ Some key → IsDamaged Q state key
+    → the_key state.records ≡ Some key → IsDamaged Q state key
 never_damaged Q state handed key kept keyed level tree slot is =
     absurd (let none = undamaged state.records key level tree (sound_with state.records handed key kept keyed) keyed in cc (none, is))
 
@@ -59,35 +59,35 @@ never_damaged Q state handed key kept keyed level tree slot is =
 -- a request goes by the name's binding
 open_request : (limit : ℕ) (state : State) (key : Key) (name : List ℕ) (chance : Chance) (found : Option (ℕ × Bound)) → state.is_open ≡ true
     → has_moved state.records ≡ false
-    → key_in state.records ≡ Some key → binding_in state.records name ≡ found
-    → requested limit state name chance ≡ requested_of limit state key name chance found
+    → the_key state.records ≡ Some key → binding_at state.records name ≡ found
+    → requested limit state name chance ≡ requested_binding limit state key name chance found
 open_request limit state key name chance found open_now stays keyed is =
-    let own = requested_of limit state key name chance (binding_in state.records name) in
+    let own = requested_binding limit state key name chance (binding_at state.records name) in
     let rest : Bool → Outcome (List ℕ) = λ moved. if moved then refused state MovedAway else own in
-    ap (requested_under limit state name chance) keyed
+    ap (requested_key limit state name chance) keyed
     ∙ ap (λ test. if not test then refused state Stopped else rest (has_moved state.records)) open_now
-    ∙ ap rest stays ∙ ap (requested_of limit state key name chance) is
+    ∙ ap rest stays ∙ ap (requested_binding limit state key name chance) is
 
 -- a new name goes on if it isn't too long
 new_request : (limit : ℕ) (state : State) (key : Key) (name : List ℕ) (chance : Chance) (long : Bool) → state.is_open ≡ true
-    → has_moved state.records ≡ false → key_in state.records ≡ Some key → binding_in state.records name ≡ None → is_long key name ≡ long
-    → requested limit state name chance ≡ (if long then refused state LongName else bound_anew limit state key name chance (deepest key.secret state.records))
+    → has_moved state.records ≡ false → the_key state.records ≡ Some key → binding_at state.records name ≡ None → is_long key name ≡ long
+    → requested limit state name chance ≡ (if long then refused state LongName else bound_level limit state key name chance (deepest key.secret state.records))
 new_request limit state key name chance long open_now stays keyed unbound is =
     open_request limit state key name chance None open_now stays keyed unbound
-    ∙ ap (λ test. if test then refused state LongName else bound_anew limit state key name chance (deepest key.secret state.records)) is
+    ∙ ap (λ test. if test then refused state LongName else bound_level limit state key name chance (deepest key.secret state.records)) is
 
 pub long_request : (limit : ℕ) (state : State) (key : Key) (name : List ℕ) (chance : Chance) → state.is_open ≡ true → has_moved state.records ≡ false
-    → key_in state.records ≡ Some key → binding_in state.records name ≡ None → name_most key.version < length name
+    → the_key state.records ≡ Some key → binding_at state.records name ≡ None → name_most key.version < length name
     → requested limit state name chance ≡ refused state LongName
 long_request limit state key name chance open_now stays keyed unbound above =
     new_request limit state key name chance true open_now stays keyed unbound (lt-ltb (name_most key.version) (length name) above)
 
 moved_request : (limit : ℕ) (state : State) (key : Key) (name : List ℕ) (chance : Chance) → state.is_open ≡ true → has_moved state.records ≡ true
-    → key_in state.records ≡ Some key → requested limit state name chance ≡ refused state MovedAway
+    → the_key state.records ≡ Some key → requested limit state name chance ≡ refused state MovedAway
 moved_request limit state key name chance open_now moved keyed =
-    let own = requested_of limit state key name chance (binding_in state.records name) in
+    let own = requested_binding limit state key name chance (binding_at state.records name) in
     let rest : Bool → Outcome (List ℕ) = λ moved. if moved then refused state MovedAway else own in
-    ap (requested_under limit state name chance) keyed
+    ap (requested_key limit state name chance) keyed
     ∙ ap (λ test. if not test then refused state Stopped else rest (has_moved state.records)) open_now
     ∙ ap rest moved
 
@@ -98,14 +98,14 @@ false_from true never = absurd (never refl)
 false_from false never = refl
 
 pub answers_changed : (limit : ℕ) (state : State) (key : Key) (k : ℕ) (bound : Bound) (name message : List ℕ) (chance : Chance)
-    → state.is_open ≡ true → has_moved state.records ≡ false → key_in state.records ≡ Some key
-    → binding_in state.records name ≡ Some (k, bound) → chance.given ≡ Some message
+    → state.is_open ≡ true → has_moved state.records ≡ false → the_key state.records ≡ Some key
+    → binding_at state.records name ≡ Some (k, bound) → chance.given ≡ Some message
     → digest_at key state.records k bound.leaf bound.randomizer message ≢ bound.digest
     → requested limit state name chance ≡ reading (refused state Changed)
 answers_changed limit state key k bound name message chance open_now stays keyed named given other =
     let digest = digest_at key state.records k bound.leaf bound.randomizer message in
     let bottom = bottom_of key.secret in
-    let rest = repeated_sound state key k bound (damaged_in key bottom state.records (tree_before bottom state.records k)) in
+    let rest = repeated_sound state key k bound (damaged_at key bottom state.records (current_at bottom state.records k)) in
     let test : are_same digest bound.digest ≡ false = false_from _ (λ same. other ((bytes_decides digest bound.digest).0 same)) in
     open_request limit state key name chance (Some (k, bound)) open_now stays keyed named
     ∙ ap (repeated state key k bound chance) given
@@ -123,23 +123,23 @@ pub answers_repeated : (limit : ℕ) (state : State) (handed : List Handed) (key
 answers_repeated limit state handed key k bound name message chance kept open_now stays given is =
     let digest = digest_at key state.records k bound.leaf bound.randomizer message in
     let bottom = bottom_of key.secret in
-    let tree = tree_before bottom state.records k in
+    let tree = current_at bottom state.records k in
     let whole = undamaged state.records key bottom tree (sound_with state.records handed key kept is.keyed) is.keyed in
     let test : are_same digest bound.digest ≡ true = (bytes_decides digest bound.digest).1 is.digest in
     let rest : Option ℕ → Outcome (List ℕ) = λ damaged. if not chance.has_room then refused state OutOfMemory else repeated_sound state key k bound damaged in
     open_request limit state key name chance (Some (k, bound)) open_now stays is.keyed is.named
     ∙ ap (repeated state key k bound chance) given
-    ∙ ap (λ same. reading (if not same then refused state Changed else rest (damaged_in key bottom state.records tree))) test
+    ∙ ap (λ same. reading (if not same then refused state Changed else rest (damaged_at key bottom state.records tree))) test
     ∙ ap (λ damaged. reading (rest damaged)) whole
     ∙ ap reading (turned_choice chance.has_room (refused state OutOfMemory) (answered state (signature_at key state.records k bound)))
 
 -- ---- a name that isn't bound
 
 -- a new name is signed once all its records are made
-signed_by : (key : Key) (records : List Record) (level : ℕ) (name message : List ℕ) (chance : Chance) (outcome : Outcome (List ℕ))
+made_signature : (key : Key) (records : List Record) (level : ℕ) (name message : List ℕ) (chance : Chance) (outcome : Outcome (List ℕ))
     → level < levels_of key.secret → IsDone key name message chance (bottom_of key.secret - level) chance.trees records outcome
     → IsSigned key records level name message chance outcome
-signed_by key records level name message chance outcome inside done =
+made_signature key records level name message chance outcome inside done =
     let here : bottom_of key.secret - (bottom_of key.secret - level) ≡ level = omega (arith, inside) in
     let all = records ++ done.trees in
     record {
@@ -160,8 +160,8 @@ signed_by key records level name message chance outcome inside done =
 
 pub fresh_fine : (limit : ℕ) (state : State) (handed : List Handed) (key : Key) (level : ℕ) (name message : List ℕ) (chance : Chance)
     → IsKept state.records handed
-    → state.is_open ≡ true → has_moved state.records ≡ false → key_in state.records ≡ Some key
-    → binding_in state.records name ≡ None → length name ≤ name_most key.version → deepest key.secret state.records ≡ Some level
+    → state.is_open ≡ true → has_moved state.records ≡ false → the_key state.records ≡ Some key
+    → binding_at state.records name ≡ None → length name ≤ name_most key.version → deepest key.secret state.records ≡ Some level
     → length state.records + wanted_count key.secret level ≤ limit → chance.given ≡ Some message
     → AreComplete key.secret (bottom_of key.secret - level) chance
     → ((requested limit state name chance).answer ≡ Err RandomRepeated) ⊎ IsSigned key state.records level name message chance (requested limit state name chance)
@@ -170,24 +170,24 @@ fresh_fine limit state handed key level name message chance kept open_now stays 
     let bottom = bottom_of key.secret in
     let inside = (deepest_is key.secret records level is).0 in
     let sizes = key_has_sizes records key kept.sizes keyed in
-    let tree = tree_before level records (length records) in
+    let tree = current_at level records (length records) in
     let fits : nat_lt limit (length records + wanted_count key.secret level) ≡ false = le-ltb limit (length records + wanted_count key.secret level) short in
-    let sound : damaged_in key level records tree ≡ None = undamaged records key level tree (sound_with records handed key kept keyed) keyed in
+    let sound : damaged_at key level records tree ≡ None = undamaged records key level tree (sound_with records handed key kept keyed) keyed in
     let (drawn, is_drawn) = randomizer_drawn key.secret chance.bound.fields whole.bound.fields in
     let fine = fine_bound_below key name message drawn chance (bottom - level) chance.trees records given is_drawn whole.bound.acknowledged (omega arith)
     (λ more. trees_made key.secret sizes (omega (arith, more))) whole.enough whole.each in
     let room_then : Bool → Outcome (List ℕ) = λ room. if not room then refused state OutOfMemory else bound_sound state key name chance level
-    (damaged_in key level records tree) in
+    (damaged_at key level records tree) in
     let way = new_request limit state key name chance false open_now stays keyed unbound (le-ltb (name_most key.version) (length name) has_room)
-    ∙ ap (bound_anew limit state key name chance) is
+    ∙ ap (bound_level limit state key name chance) is
     ∙ ap (λ full. if full then refused state LedgerFull else room_then chance.has_room) fits
     ∙ ap room_then whole.room
     ∙ ap (bound_sound state key name chance level) sound in
     subst (λ outcome. (outcome.answer ≡ Err RandomRepeated) ⊎ IsSigned key records level name message chance outcome) (sym way)
-    (elim fine as (λ u. let came = bound_below key name chance (bottom - level) chance.trees records in
+    (elim fine as (λ u. let came = bound_trees key name chance (bottom - level) chance.trees records in
     (came.answer ≡ Err RandomRepeated) ⊎ IsSigned key records level name message chance came) [
       | inl again ↦ inl again
-      | inr done ↦ inr (signed_by key records level name message chance _ inside done)
+      | inr done ↦ inr (made_signature key records level name message chance _ inside done)
     ])
 
 -- 22 comes only where no leaf is free
@@ -201,21 +201,21 @@ not_exhausted = record {
 }
 
 anew_exhausted : (limit : ℕ) (state : State) (key : Key) (name : List ℕ) (chance : Chance) (level : Option ℕ)
-    → (bound_anew limit state key name chance level).answer ≡ Err Exhausted
+    → (bound_level limit state key name chance level).answer ≡ Err Exhausted
     → level ≡ None
 anew_exhausted limit state key name chance None is = refl
 anew_exhausted limit state key name chance (Some level) is =
-    absurd (ended_anew (λ outcome. outcome.answer ≢ Err Exhausted) not_exhausted limit state key name chance level (λ level tree slot damaged other. cc) is)
+    absurd (ended_level (λ outcome. outcome.answer ≢ Err Exhausted) not_exhausted limit state key name chance level (λ level tree slot damaged other. cc) is)
 
 pub exhausted_exactly : (limit : ℕ) (state : State) (key : Key) (name : List ℕ) (chance : Chance) → state.is_open ≡ true → has_moved state.records ≡ false
-    → key_in state.records ≡ Some key → binding_in state.records name ≡ None → length name ≤ name_most key.version
+    → the_key state.records ≡ Some key → binding_at state.records name ≡ None → length name ≤ name_most key.version
     → ((requested limit state name chance).answer ≡ Err Exhausted) ↔ (deepest key.secret state.records ≡ None)
 exhausted_exactly limit state key name chance open_now stays keyed unbound has_room =
-    let way : requested limit state name chance ≡ bound_anew limit state key name chance (deepest key.secret state.records) =
+    let way : requested limit state name chance ≡ bound_level limit state key name chance (deepest key.secret state.records) =
     new_request limit state key name chance false open_now stays keyed unbound (le-ltb (name_most key.version) (length name) has_room) in
     let answers = ap (λ outcome. outcome.answer) way in (
       λ is. anew_exhausted limit state key name chance (deepest key.secret state.records) (sym answers ∙ is),
-      λ none. answers ∙ ap (λ level. (bound_anew limit state key name chance level).answer) none,
+      λ none. answers ∙ ap (λ level. (bound_level limit state key name chance level).answer) none,
     )
 
 -- ---- any request
@@ -243,24 +243,24 @@ pub failed_closes : (limit : ℕ) (state : State) (name : List ℕ) (chance : Ch
 failed_closes limit state name chance =
     ended_request Closes ends_closed limit state name chance (λ key keyed level tree slot damaged is. absurd (cc)) (λ is. absurd (cc))
 
-pub closed_under : (limit : ℕ) (state : State) (name : List ℕ) (chance : Chance) (found : Option Key) → state.is_open ≡ false
-    → requested_under limit state name chance found ≡ refused state Stopped
-closed_under limit state name chance (Some key) closed = rw closed refl
-closed_under limit state name chance None closed = refl
+pub closed_key : (limit : ℕ) (state : State) (name : List ℕ) (chance : Chance) (found : Option Key) → state.is_open ≡ false
+    → requested_key limit state name chance found ≡ refused state Stopped
+closed_key limit state name chance (Some key) closed = rw closed refl
+closed_key limit state name chance None closed = refl
 
 pub handed_out : (limit : ℕ) (world : World) (name message signature : List ℕ) (chance : Chance) → chance.given ≡ Some message
     → (requested limit world.state name chance).answer ≡ Ok signature
     → Contains (after limit world (request name chance)).handed (record { name = name; message = message; signature = signature })
 handed_out limit world name message signature chance given answer =
     let x : Handed = record { name = name; message = message; signature = signature } in
-    let out : handed_with name chance.given (requested limit world.state name chance).answer ≡ x ∷ [] =
-    ap (λ g. handed_with name g (requested limit world.state name chance).answer) given ∙ ap (handed_with name (Some message)) answer in
+    let out : newly_handed name chance.given (requested limit world.state name chance).answer ≡ x ∷ [] =
+    ap (λ g. newly_handed name g (requested limit world.state name chance).answer) given ∙ ap (newly_handed name (Some message)) answer in
     subst (λ more. Contains (world.handed ++ more) x) (sym out) (Contains-push world.handed x)
 
 -- ---- creates and openings
 
 pub begins_key : (state : State) (spec : Spec) (secret : Secret) (chance : Creation) (public : AnyPublic) → state.records ≡ [] → chance.failed_load ≡ None
-    → secret_from spec chance.fields ≡ Some secret → chance.has_room ≡ true → chance.fate ≡ acked → public_in (new_key chance.version secret) ≡ Some public
+    → secret_of_fields spec chance.fields ≡ Some secret → chance.has_room ≡ true → chance.fate ≡ acked → any_public_of (new_key chance.version secret) ≡ Some public
     → BeginsKey state spec chance (new_key chance.version secret)
 begins_key state spec secret chance public empty loaded drawn room fate is =
     record { public = public; is_public = is; begins = rw (loaded, empty, drawn, room, fate, is) refl }
@@ -273,12 +273,12 @@ legal_published : (records : List Record) (public : Option AnyPublic) (slot : �
 legal_published records (Some public) slot is = cc
 legal_published records None slot is = cc
 
-legal_on : (records : List Record) (found : Option Key) (slot : ℕ) → (opened_on records found).answer ≢ Err (Illegal slot)
+legal_on : (records : List Record) (found : Option Key) (slot : ℕ) → (opened_key records found).answer ≢ Err (Illegal slot)
 legal_on records None slot is = cc
-legal_on records (Some key) slot is = legal_published records (public_in key) slot is
+legal_on records (Some key) slot is = legal_published records (any_public_of key) slot is
 
-legal_opened : (state : State) (chance : Opening) (slot : ℕ) → CanStopOpening chance → (opened_by state chance None).answer ≢ Err (Illegal slot)
-legal_opened state None slot can is = legal_on state.records (key_in state.records) slot is
+legal_opened : (state : State) (chance : Opening) (slot : ℕ) → CanStopOpening chance → (opened_illegal state chance None).answer ≢ Err (Illegal slot)
+legal_opened state None slot can is = legal_on state.records (the_key state.records) slot is
 legal_opened state (Some (place, fault)) slot can is = elim can [
   | inl a ↦ cc
   | inr (inl b) ↦ cc
@@ -289,10 +289,10 @@ legal_opened state (Some (place, fault)) slot can is = elim can [
 pub opens_legal : (state : State) (handed : List Handed) (chance : Opening) (slot : ℕ) → IsKept state.records handed → CanStopOpening chance
     → (opened state chance).answer ≢ Err (Illegal slot)
 opens_legal state handed chance slot kept can =
-    subst (λ illegal. (opened_by state chance illegal).answer ≢ Err (Illegal slot)) (sym (none_illegal_in state.records kept.ground))
+    subst (λ illegal. (opened_illegal state chance illegal).answer ≢ Err (Illegal slot)) (sym (none_illegal_in state.records kept.ground))
     (legal_opened state chance slot can)
 
-pub opens_again : (state : State) (handed : List Handed) (key : Key) → IsKept state.records handed → key_in state.records ≡ Some key → Reopens state
+pub opens_again : (state : State) (handed : List Handed) (key : Key) → IsKept state.records handed → the_key state.records ≡ Some key → Reopens state
 opens_again state handed key kept keyed =
     let sound = sound_with state.records handed key kept keyed in
     reopens state (record { legal = sound.legal; sizes = kept.sizes })
@@ -306,13 +306,13 @@ shuts_choice : (test : Bool) (x y : Outcome (Unit {0})) → Shuts x → Shuts y 
 shuts_choice true x y first second = first
 shuts_choice false x y first second = second
 
-shuts_append : (state : State) (entry : Record) (fate : Fate) → Shuts (appended state entry fate (λ records. answered (open_on records) tt))
+shuts_append : (state : State) (entry : Record) (fate : Fate) → Shuts (appended state entry fate (λ records. answered (open_state records) tt))
 shuts_append state entry acked is = absurd (cc)
 shuts_append state entry cut_old is = refl
 shuts_append state entry cut_new is = refl
 shuts_append state entry no_memory is = absurd (cc)
 
-pub retiring_shuts : (limit : ℕ) (state : State) (upto : ℕ) (fate : Fate) (found : Option Key) → Shuts (retired_under limit state upto fate found)
+pub retiring_shuts : (limit : ℕ) (state : State) (upto : ℕ) (fate : Fate) (found : Option Key) → Shuts (retired_key limit state upto fate found)
 retiring_shuts limit state upto fate None = λ is. absurd (cc)
 retiring_shuts limit state upto fate (Some key) =
     shuts_choice (not state.is_open) _ _ (λ is. absurd (cc))
@@ -322,25 +322,25 @@ retiring_shuts limit state upto fate (Some key) =
     (shuts_choice (nat_lt limit (length state.records + 1)) _ _ (λ is. absurd (cc)) (shuts_append state (Retire upto) fate)))))
 
 pub retires_beyond : (limit : ℕ) (state : State) (key : Key) (upto : ℕ) → state.is_open ≡ true → has_moved state.records ≡ false
-    → key_in state.records ≡ Some key → upto ≤ leaves_of_current key.secret state.records (bottom_of key.secret)
+    → the_key state.records ≡ Some key → upto ≤ leaves_of_current key.secret state.records (bottom_of key.secret)
     → next_at key.secret state.records (bottom_of key.secret) < upto → length state.records + 1 ≤ limit
-    → retired limit state upto acked ≡ answered (open_on (state.records ++ Retire upto ∷ [])) tt
+    → retired limit state upto acked ≡ answered (open_state (state.records ++ Retire upto ∷ [])) tt
 retires_beyond limit state key upto open_now stays keyed inside beyond fits =
     let bottom = bottom_of key.secret in
     let leaves = leaves_of_current key.secret state.records bottom in
     let next = next_at key.secret state.records bottom in
-    let done : Outcome (Unit {0}) = answered (open_on (state.records ++ Retire upto ∷ [])) tt in
+    let done : Outcome (Unit {0}) = answered (open_state (state.records ++ Retire upto ∷ [])) tt in
     let fourth : Bool → Outcome (Unit {0}) = λ full. if full then refused state LedgerFull else done in
     let third : Bool → Outcome (Unit {0}) = λ past. if past then answered state tt else fourth (nat_lt limit (length state.records + 1)) in
     let second : Bool → Outcome (Unit {0}) = λ outside. if outside then refused state RetireRange else third (nat_le upto next) in
     let first : Bool → Outcome (Unit {0}) = λ moved. if moved then refused state MovedAway else second (nat_lt leaves upto) in
-    ap (retired_under limit state upto acked) keyed
+    ap (retired_key limit state upto acked) keyed
     ∙ ap (λ test. if not test then refused state Stopped else first (has_moved state.records)) open_now
     ∙ ap first stays ∙ ap second (le-ltb leaves upto inside) ∙ ap third (lt-leb upto next beyond)
     ∙ ap fourth (le-ltb limit (length state.records + 1) fits)
 
 pub closed_retires : (limit : ℕ) (state : State) (upto : ℕ) (fate : Fate) (found : Option Key) → state.is_open ≡ false
-    → retired_under limit state upto fate found ≡ refused state Stopped
+    → retired_key limit state upto fate found ≡ refused state Stopped
 closed_retires limit state upto fate (Some key) closed = rw closed refl
 closed_retires limit state upto fate None closed = refl
 
@@ -372,7 +372,7 @@ once limit world kept = record {
     exhausted = λ key name chance. exhausted_exactly limit world.state key name chance;
     undamaged = λ name chance slot. answers_whole limit world.state world.handed name chance slot kept;
     stops = λ name chance. failed_closes limit world.state name chance;
-    closed = λ name chance. closed_under limit world.state name chance (key_in world.state.records);
+    closed = λ name chance. closed_key limit world.state name chance (the_key world.state.records);
   };
   retirings = record {
     retires = λ key upto. retires_beyond limit world.state key upto;
@@ -381,8 +381,8 @@ once limit world kept = record {
     no_further = λ key upto fate. retires_before limit world.state key upto fate;
     full = λ key upto fate. retires_full limit world.state key upto fate;
     starved = λ key upto. retires_starved limit world.state key upto;
-    stops = λ upto fate. retiring_shuts limit world.state upto fate (key_in world.state.records);
-    closed = λ upto fate. closed_retires limit world.state upto fate (key_in world.state.records);
+    stops = λ upto fate. retiring_shuts limit world.state upto fate (the_key world.state.records);
+    closed = λ upto fate. closed_retires limit world.state upto fate (the_key world.state.records);
   };
   openings = record {
     begins = λ spec secret chance can empty loaded drawn.

@@ -11,12 +11,12 @@ use Rattle.state_file.specs.declared.record.Record.TheVariants.{Key as KeyRecord
 use Rattle.state_file.specs.declared.record.Secret.{Secret}
 use Rattle.state_file.specs.declared.record.Secret.TheVariants.{Lms, Hss, Xmss}
 use Rattle.sign_core.specs.declared.key.AnyPublic.{AnyPublic}
-use Rattle.sign_core.specs.Records.{binding_in, key_in}
-use Rattle.sign_core.specs.Headline.{IsBoundTo, IsLast, IsOneLeaf, IsRecorded, IsValidUnder, WasHanded, public_in_world}
+use Rattle.sign_core.specs.Records.{binding_at, the_key}
+use Rattle.sign_core.specs.Headline.{IsBoundTo, IsLast, IsOneLeaf, IsRecorded, IsValidUnder, WasHanded, public_of_world}
 use Rattle.sign_core.specs.Textbook.{public_of_key}
 use Rattle.sign_core.specs.Headline.{LeafUse, MakesUses}
 use Rattle.sign_core.specs.World.{Handed, World}
-use Rattle.sign_core.specs.Textbook.{AreSound, public_in, signature_at}
+use Rattle.sign_core.specs.Textbook.{AreSound, any_public_of, signature_at}
 use Rattle.sign_core.proofs.Bindings.{binding_stands}
 use Rattle.sign_core.proofs.Uses.{IsTreeOf, IsUseOf, Signs, last_recorded, use_recorded}
 use Rattle.sign_core.proofs.Valid.{all_valid}
@@ -80,7 +80,7 @@ record IsUnder (records : List Record) (key : Key) (x : Handed) : Type 0 where
   is_bound : IsBoundTo records key x.name x.message k bound
   signature : x.signature ≡ signature_at key records k bound
 
-recorded_under : (records : List Record) (key : Key) (x : Handed) → key_in records ≡ Some key → IsRecorded records x → IsUnder records key x
+recorded_under : (records : List Record) (key : Key) (x : Handed) → the_key records ≡ Some key → IsRecorded records x → IsUnder records key x
 recorded_under records key x keyed is =
     let same : is.key ≡ key = cc (is.is_bound.keyed, keyed) in
     record {
@@ -90,16 +90,16 @@ recorded_under records key x keyed is =
       signature = subst (λ own. x.signature ≡ signature_at own records is.k is.bound) same is.signature;
     }
 
-public_under : (records : List Record) (key : Key) (public : AnyPublic) → key_in records ≡ Some key → public_of_key (key_in records) ≡ Some public
-    → public_in key ≡ Some public
+public_under : (records : List Record) (key : Key) (public : AnyPublic) → the_key records ≡ Some key → public_of_key (the_key records) ≡ Some public
+    → any_public_of key ≡ Some public
 public_under records key public keyed is = sym (ap public_of_key keyed) ∙ is
 
 -- Two signatures with what is known of both.
 record AreHanded (world : World) (x y : Handed) (uses others : List LeafUse) : Type 0 where
   key : Key
-  keyed : key_in world.state.records ≡ Some key
+  keyed : the_key world.state.records ≡ Some key
   public : AnyPublic
-  is_public : public_in key ≡ Some public
+  is_public : any_public_of key ≡ Some public
   sound : AreSound world.state.records
   own : sound.legal.key ≡ key
   first : IsUnder world.state.records key x
@@ -148,8 +148,8 @@ one_digest world x y uses others u v kept was too in_uses in_others one =
     let entry : of_u.entry ≡ of_v.entry = one_at records p q of_u.entry of_v.entry place of_u.stands of_v.stands in
     one_signed of_v.entry u.digest v.digest (subst (λ r. Signs r u.digest) entry of_u.signs) of_v.signs
 
-one_bound : (records : List Record) (name other : List ℕ) (j k : ℕ) (a b : Bound) → j ≡ k → binding_in records name ≡ Some (j, a)
-    → binding_in records other ≡ Some (k, b)
+one_bound : (records : List Record) (name other : List ℕ) (j k : ℕ) (a b : Bound) → j ≡ k → binding_at records name ≡ Some (j, a)
+    → binding_at records other ≡ Some (k, b)
     → name ≡ other
 one_bound records name other j k a b same first second =
     let (at, is, first_one) = binding_stands records name j a first in
@@ -179,12 +179,12 @@ one_signature records x y is_x is_y name =
     let first = recorded_under records is_x.key x is_x.is_bound.keyed is_x in
     let second = recorded_under records is_x.key y is_x.is_bound.keyed is_y in
     let found : ◌≡◌ {A = Option (ℕ × Bound)} (Some (first.k, first.bound)) (Some (second.k, second.bound)) =
-    sym first.is_bound.named ∙ ap (binding_in records) name ∙ second.is_bound.named in
+    sym first.is_bound.named ∙ ap (binding_at records) name ∙ second.is_bound.named in
     let pair : ◌≡◌ {A = ℕ × Bound} (first.k, first.bound) (second.k, second.bound) = cc in
     first.signature ∙ ap₂ (λ k b. signature_at is_x.key records k b) (ap (λ p. p.0) pair) (ap (λ p. p.1) pair) ∙ sym second.signature
 
 pub handed_valid : (world : World) (x : Handed) → IsKept world.state.records world.handed → Contains world.handed x
-    → (public : AnyPublic) × (public_in_world world ≡ Some public) × IsValidUnder public x.message x.signature
+    → (public : AnyPublic) × (public_of_world world ≡ Some public) × IsValidUnder public x.message x.signature
 handed_valid world x kept there =
     let records = world.state.records in
     let is = kept.recorded x there in

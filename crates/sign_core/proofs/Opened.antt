@@ -17,7 +17,7 @@ use Rattle.sign_core.specs.declared.fault.SignFault.{SignFault}
 use Rattle.sign_core.specs.declared.fault.SignFault.TheVariants.{Changed, Damaged, Exhausted, KeyThere, LedgerFull, MessageRead, OutOfMemory, RandomFailed, LongName}
 use Rattle.sign_core.specs.declared.fault.SignFault.TheVariants.{RandomRepeated, Stopped}
 use Rattle.sign_core.specs.declared.fault.SignFault.TheVariants.{Moved as MovedAway}
-use Rattle.sign_core.specs.Records.{are_same, binding_in, deepest, first_illegal, free_at, has_identifier, has_moved, has_randomizer, key_in, is_long, can_move}
+use Rattle.sign_core.specs.Records.{are_same, binding_at, deepest, first_illegal, free_at, has_identifier, has_moved, has_randomizer, the_key, is_long, can_move}
 use Rattle.sign_core.specs.Records.{leaves_of_current, next_at, wanted_count}
 use Rattle.sign_core.specs.Events.{AllEvents, AreDraws, AreFields, IsEvent, tree_sizes}
 use Rattle.sign_core.specs.Headline.{IsBoundTo, IsValidUnder}
@@ -26,14 +26,14 @@ use Rattle.sign_core.specs.Openings.{Reopens}
 use Rattle.sign_core.specs.Opened.{AreWellFormed, IsValidOver, OpenedLaw}
 use Rattle.sign_core.specs.World.{Chance, Creation, Draw, Event, Fate, Handed, Opening, Outcome, State, World, acked, after, appended}
 use Rattle.sign_core.specs.World.{create, cut_new, cut_old, drawing}
-use Rattle.sign_core.specs.inner.Cases.{begun, bound_anew, bound_sound, bound_with, created_after, extended, extended_by, extended_with}
-use Rattle.sign_core.specs.World.{first_draw, handed_with, no_memory, open_on}
-use Rattle.sign_core.specs.inner.Cases.{bound_below, opened_by, opened_on, published}
-use Rattle.sign_core.specs.World.{randomizer_from, refused, reopen, request, requested, retire}
-use Rattle.sign_core.specs.inner.Cases.{repeated, repeated_sound, requested_of, requested_under}
-use Rattle.sign_core.specs.World.{run, secret_from, stop, migrate}
-use Rattle.sign_core.specs.inner.Cases.{retired_under}
-use Rattle.sign_core.specs.Textbook.{Trees, damaged_in, digest_at, public_in, signature_at, tree_before, trees_of}
+use Rattle.sign_core.specs.inner.Cases.{begun, bound_level, bound_sound, bound_message, created_load, extended, extended_identifier, extended_seed}
+use Rattle.sign_core.specs.World.{first_draw, newly_handed, no_memory, open_state}
+use Rattle.sign_core.specs.inner.Cases.{bound_trees, opened_illegal, opened_key, published}
+use Rattle.sign_core.specs.World.{randomizer_of_fields, refused, reopen, request, requested, retire}
+use Rattle.sign_core.specs.inner.Cases.{repeated, repeated_sound, requested_binding, requested_key}
+use Rattle.sign_core.specs.World.{run, secret_of_fields, stop, migrate}
+use Rattle.sign_core.specs.inner.Cases.{retired_key}
+use Rattle.sign_core.specs.Textbook.{Trees, damaged_at, digest_at, any_public_of, signature_at, current_at, trees_of}
 use Rattle.sign_core.proofs.Damage.{names_damaged}
 use Rattle.sign_core.proofs.Events.{retire_can}
 use Rattle.sign_core.proofs.DrawnAgain.{signed_read}
@@ -41,7 +41,7 @@ use Rattle.sign_core.proofs.Follow.{key_first}
 use Rattle.sign_core.proofs.Illegal.{none_from_legal}
 use Rattle.sign_core.proofs.Leaves.{deepest_is}
 use Rattle.sign_core.proofs.Migrating.{is_carried, key_carried, key_in_version, legal_carried, migrated_has, moved_can, sizes_carried}
-use Rattle.sign_core.specs.World.{Migration, carried_over, left_alone, migrated, migrated_to, sealed}
+use Rattle.sign_core.specs.World.{Migration, carried_over, left_alone, migrated, migrated_list, sealed}
 use Rattle.state_file.specs.Carried.{with_moved}
 use Rattle.state_file.specs.declared.record.Version.TheVariants.{Two}
 use Rattle.std.proofs.lemmas.Option.{same_Some}
@@ -66,7 +66,7 @@ same_valid public message other own signature read is valid =
     let two : own ≡ signature = cc in
     subst (λ m. IsValidUnder public m signature) one (subst (IsValidUnder public message) two valid)
 
-module _ (key : Key) (public : AnyPublic) (is_public : public_in key ≡ Some public) where
+module _ (key : Key) (public : AnyPublic) (is_public : any_public_of key ≡ Some public) where
   -- The outcome leaves legal records, and what it answers is a valid signature of what was read.
   abbrev pub Fits : (given : Option (List ℕ)) → Outcome (List ℕ) → Type 0
   Fits given outcome = AreOf key outcome.state.records
@@ -84,60 +84,60 @@ module _ (key : Key) (public : AnyPublic) (is_public : public_in key ≡ Some pu
 
   -- ---- a new tree
 
-  fits_with : (given : Option (List ℕ)) (name : List ℕ) (below : ℕ) (records : List Record) (trees : Trees) (identifier : List ℕ) (fields : List (List ℕ))
+  fits_seed : (given : Option (List ℕ)) (name : List ℕ) (below : ℕ) (records : List Record) (trees : Trees) (identifier : List ℕ) (fields : List (List ℕ))
       (fate : Fate) (next : List Record → Outcome (List ℕ)) → IsStanding key name (suc below) records → trees_of key.secret ≡ Some trees
       → AreFields tree_sizes (identifier ∷ fields) → has_identifier records identifier ≡ false
       → ((all : List Record) → IsStanding key name below all → Fits given (next all))
       → (let level = bottom_of key.secret - below in
-      Fits given (extended_with (open_on records) trees level (next_at key.secret records (level - 1)) identifier fields fate next))
-  fits_with given name below records trees identifier [] fate next ready are drawn new later = fits_refused given (open_on records) RandomFailed ready.are
-  fits_with given name below records trees identifier (seed ∷ []) fate next ready are drawn new later =
-      fits_refused given (open_on records) RandomFailed ready.are
-  fits_with given name below records trees identifier (seed ∷ randomizer ∷ []) fate next ready are drawn new later =
+      Fits given (extended_seed (open_state records) trees level (next_at key.secret records (level - 1)) identifier fields fate next))
+  fits_seed given name below records trees identifier [] fate next ready are drawn new later = fits_refused given (open_state records) RandomFailed ready.are
+  fits_seed given name below records trees identifier (seed ∷ []) fate next ready are drawn new later =
+      fits_refused given (open_state records) RandomFailed ready.are
+  fits_seed given name below records trees identifier (seed ∷ randomizer ∷ []) fate next ready are drawn new later =
       let more = extend_stands key name below records trees identifier seed randomizer ready are drawn new in
-      fits_append given (open_on records) _ fate next ready.are more.are (later _ more)
-  fits_with given name below records trees identifier (seed ∷ randomizer ∷ extra ∷ rest) fate next ready are drawn new later =
-      fits_refused given (open_on records) RandomFailed ready.are
+      fits_append given (open_state records) _ fate next ready.are more.are (later _ more)
+  fits_seed given name below records trees identifier (seed ∷ randomizer ∷ extra ∷ rest) fate next ready are drawn new later =
+      fits_refused given (open_state records) RandomFailed ready.are
 
-  fits_by : (given : Option (List ℕ)) (name : List ℕ) (below : ℕ) (records : List Record) (trees : Trees) (fields : List (List ℕ)) (fate : Fate)
+  fits_identifier : (given : Option (List ℕ)) (name : List ℕ) (below : ℕ) (records : List Record) (trees : Trees) (fields : List (List ℕ)) (fate : Fate)
       (next : List Record → Outcome (List ℕ)) → IsStanding key name (suc below) records → trees_of key.secret ≡ Some trees → AreFields tree_sizes fields
       → ((all : List Record) → IsStanding key name below all → Fits given (next all))
       → (let level = bottom_of key.secret - below in
-      Fits given (extended_by (open_on records) trees level (next_at key.secret records (level - 1)) fields fate next))
-  fits_by given name below records trees [] fate next ready are drawn later = fits_refused given (open_on records) RandomFailed ready.are
-  fits_by given name below records trees (identifier ∷ fields) fate next ready are drawn later =
-      kept_choice (Fits given) (has_identifier records identifier) _ _ (λ there. fits_refused given (open_on records) RandomRepeated ready.are)
-      (λ new. fits_with given name below records trees identifier fields fate next ready are drawn new later)
+      Fits given (extended_identifier (open_state records) trees level (next_at key.secret records (level - 1)) fields fate next))
+  fits_identifier given name below records trees [] fate next ready are drawn later = fits_refused given (open_state records) RandomFailed ready.are
+  fits_identifier given name below records trees (identifier ∷ fields) fate next ready are drawn later =
+      kept_choice (Fits given) (has_identifier records identifier) _ _ (λ there. fits_refused given (open_state records) RandomRepeated ready.are)
+      (λ new. fits_seed given name below records trees identifier fields fate next ready are drawn new later)
 
   fits_extended : (given : Option (List ℕ)) (name : List ℕ) (below : ℕ) (records : List Record) (trees : Option Trees) (draw : Draw)
       (next : List Record → Outcome (List ℕ)) → IsStanding key name (suc below) records → trees_of key.secret ≡ trees → IsTreeDraw draw
       → ((all : List Record) → IsStanding key name below all → Fits given (next all))
-      → Fits given (extended (open_on records) key (bottom_of key.secret - below) trees draw next)
-  fits_extended given name below records None draw next ready are drawn later = fits_refused given (open_on records) RandomFailed ready.are
+      → Fits given (extended (open_state records) key (bottom_of key.secret - below) trees draw next)
+  fits_extended given name below records None draw next ready are drawn later = fits_refused given (open_state records) RandomFailed ready.are
   fits_extended given name below records (Some trees) draw next ready are drawn later =
-      fits_by given name below records trees draw.fields draw.fate next ready are drawn later
+      fits_identifier given name below records trees draw.fields draw.fate next ready are drawn later
 
   -- ---- a new binding
 
   fits_bound : (given : Option (List ℕ)) (name : List ℕ) (records : List Record) (randomizer : Option (List ℕ)) (fate : Fate) → IsStanding key name 0 records
       → ((drawn : List ℕ) → randomizer ≡ Some drawn → (length drawn ≡ 32) × (has_randomizer key.secret drawn ≡ true))
-      → Fits given (bound_with (open_on records) key name randomizer given fate)
-  fits_bound given name records None fate ready drawn = fits_refused given (open_on records) RandomFailed ready.are
-  fits_bound None name records (Some randomizer) fate ready drawn = fits_refused None (open_on records) MessageRead ready.are
+      → Fits given (bound_message (open_state records) key name randomizer given fate)
+  fits_bound given name records None fate ready drawn = fits_refused given (open_state records) RandomFailed ready.are
+  fits_bound None name records (Some randomizer) fate ready drawn = fits_refused None (open_state records) MessageRead ready.are
   fits_bound (Some message) name records (Some randomizer) fate ready drawn =
       let bound = new_bound key records name (next_at key.secret records (bottom_of key.secret)) randomizer message in
       let all = records ++ BoundRecord bound ∷ [] in
       let (size, fits) = drawn randomizer refl in
       let stands = bound_stands key name message randomizer records ready size fits in
       let valid = checked all key name message (length records) bound public stands.are.legal stands.are.sizes stands.is_bound stands.sound is_public in
-      fits_append (Some message) (open_on records) (BoundRecord bound) fate _ ready.are stands.are
+      fits_append (Some message) (open_state records) (BoundRecord bound) fate _ ready.are stands.are
       (stands.are, λ other signature read is. same_valid public message other (signature_at key all (length records) bound) signature read is valid)
 
   fits_bound_below : (name : List ℕ) (chance : Chance) (below : ℕ) (draws : List Draw) (records : List Record) → AllByRecursion IsTreeDraw draws
       → AreFields (32 ∷ []) chance.bound.fields → IsStanding key name below records
-      → Fits chance.given (bound_below key name chance below draws records)
+      → Fits chance.given (bound_trees key name chance below draws records)
   fits_bound_below name chance zero draws records trees bound ready =
-      fits_bound chance.given name records (randomizer_from key.secret chance.bound.fields) chance.bound.fate ready
+      fits_bound chance.given name records (randomizer_of_fields key.secret chance.bound.fields) chance.bound.fate ready
       (λ drawn is. randomizer_size key.secret chance.bound.fields drawn bound is)
   fits_bound_below name chance (suc below) draws records trees bound ready =
       fits_extended chance.given name below records (trees_of key.secret) (first_draw draws) _ ready refl (first_drawn draws trees)
@@ -150,32 +150,32 @@ module _ (key : Key) (public : AnyPublic) (is_public : public_in key ≡ Some pu
   fits_sound state name chance level None drawn are ready =
       fits_bound_below name chance (bottom_of key.secret - level) chance.trees state.records drawn.trees drawn.bound (ready refl)
 
-  fits_anew : (limit : ℕ) (state : State) (name : List ℕ) (chance : Chance) (level : Option ℕ) → AreDraws chance → AreOf key state.records
-      → has_moved state.records ≡ false → binding_in state.records name ≡ None → deepest key.secret state.records ≡ level
-      → Fits chance.given (bound_anew limit state key name chance level)
-  fits_anew limit state name chance None drawn are stays unbound is = fits_refused chance.given state Exhausted are
-  fits_anew limit state name chance (Some level) drawn are stays unbound is =
+  fits_level : (limit : ℕ) (state : State) (name : List ℕ) (chance : Chance) (level : Option ℕ) → AreDraws chance → AreOf key state.records
+      → has_moved state.records ≡ false → binding_at state.records name ≡ None → deepest key.secret state.records ≡ level
+      → Fits chance.given (bound_level limit state key name chance level)
+  fits_level limit state name chance None drawn are stays unbound is = fits_refused chance.given state Exhausted are
+  fits_level limit state name chance (Some level) drawn are stays unbound is =
       let (inside, free, others) = deepest_is key.secret state.records level is in
       let place : level ≡ bottom_of key.secret - (bottom_of key.secret - level) = omega (arith, inside) in
       let records = state.records in
       kept_choice (Fits chance.given) (nat_lt limit (length records + wanted_count key.secret level)) _ _
       (λ full. fits_refused chance.given state LedgerFull are)
       (λ room. kept_choice (Fits chance.given) (not chance.has_room) _ _ (λ none. fits_refused chance.given state OutOfMemory are)
-      (λ some. fits_sound state name chance level (damaged_in key level records (tree_before level records (length records))) drawn are
+      (λ some. fits_sound state name chance level (damaged_at key level records (current_at level records (length records))) drawn are
       (λ whole. record {
         are = are;
         stays = stays;
         unbound = unbound;
         inside = omega (arith, inside);
         free = subst (λ l. 0 < free_at key.secret records l) place free;
-        sound = subst (λ l. damaged_in key l records (tree_before l records (length records)) ≡ None) place whole;
+        sound = subst (λ l. damaged_at key l records (current_at l records (length records)) ≡ None) place whole;
       })))
 
   -- ---- a name that is bound
 
   fits_repeated_sound : (state : State) (name message : List ℕ) (k : ℕ) (bound : Bound) (damaged : Option ℕ) → AreOf key state.records
       → IsBoundTo state.records key name message k bound
-      → damaged_in key (bottom_of key.secret) state.records (tree_before (bottom_of key.secret) state.records k) ≡ damaged
+      → damaged_at key (bottom_of key.secret) state.records (current_at (bottom_of key.secret) state.records k) ≡ damaged
       → Fits (Some message) (repeated_sound state key k bound damaged)
   fits_repeated_sound state name message k bound (Some slot) are is whole = fits_refused (Some message) state (Damaged slot) are
   fits_repeated_sound state name message k bound None are is whole = (
@@ -185,7 +185,7 @@ module _ (key : Key) (public : AnyPublic) (is_public : public_in key ≡ Some pu
   )
 
   fits_repeated : (state : State) (name : List ℕ) (k : ℕ) (bound : Bound) (chance : Chance) (given : Option (List ℕ)) → AreOf key state.records
-      → binding_in state.records name ≡ Some (k, bound) → Fits given (repeated state key k bound chance given)
+      → binding_at state.records name ≡ Some (k, bound) → Fits given (repeated state key k bound chance given)
   fits_repeated state name k bound chance None are named = fits_refused None state MessageRead are
   fits_repeated state name k bound chance (Some message) are named =
       let digest = digest_at key state.records k bound.leaf bound.randomizer message in
@@ -197,44 +197,44 @@ module _ (key : Key) (public : AnyPublic) (is_public : public_in key ≡ Some pu
   -- ---- any request
 
   fits_of : (limit : ℕ) (state : State) (name : List ℕ) (chance : Chance) (found : Option (ℕ × Bound)) → AreDraws chance → AreOf key state.records
-      → has_moved state.records ≡ false → binding_in state.records name ≡ found → Fits chance.given (requested_of limit state key name chance found)
+      → has_moved state.records ≡ false → binding_at state.records name ≡ found → Fits chance.given (requested_binding limit state key name chance found)
   fits_of limit state name chance (Some (k, bound)) drawn are stays is = fits_repeated state name k bound chance chance.given are is
   fits_of limit state name chance None drawn are stays is =
       kept_choice (Fits chance.given) (is_long key name) _ _ (λ long. fits_refused chance.given state LongName are)
-      (λ short. fits_anew limit state name chance (deepest key.secret state.records) drawn are stays is refl)
+      (λ short. fits_level limit state name chance (deepest key.secret state.records) drawn are stays is refl)
 
-  fits_under : (limit : ℕ) (state : State) (name : List ℕ) (chance : Chance) → AreDraws chance → AreOf key state.records
-      → Fits chance.given (requested_under limit state name chance (Some key))
-  fits_under limit state name chance drawn are =
+  fits_key : (limit : ℕ) (state : State) (name : List ℕ) (chance : Chance) → AreDraws chance → AreOf key state.records
+      → Fits chance.given (requested_key limit state name chance (Some key))
+  fits_key limit state name chance drawn are =
       kept_choice (Fits chance.given) (not state.is_open) _ _ (λ closed. fits_refused chance.given state Stopped are)
       (λ open_now. kept_choice (Fits chance.given) (has_moved state.records) _ _ (λ moved. fits_refused chance.given state MovedAway are)
-      (λ stays. fits_of limit state name chance (binding_in state.records name) drawn are stays refl))
+      (λ stays. fits_of limit state name chance (binding_at state.records name) drawn are stays refl))
 
   pub fits_request : (limit : ℕ) (state : State) (name : List ℕ) (chance : Chance) → AreDraws chance → AreOf key state.records
       → Fits chance.given (requested limit state name chance)
   fits_request limit state name chance drawn are =
-      subst (λ found. Fits chance.given (requested_under limit state name chance found)) (sym are.keyed) (fits_under limit state name chance drawn are)
+      subst (λ found. Fits chance.given (requested_key limit state name chance found)) (sym are.keyed) (fits_key limit state name chance drawn are)
 
 -- ---- creates, openings, retirings
 
 -- where there is a record a create changes nothing
 created_there : (failed : Option SignFault) (state : State) (spec : Spec) (chance : Creation) → 0 < length state.records
-    → (created_after failed state spec chance).state ≡ state
+    → (created_load failed state spec chance).state ≡ state
 created_there (Some fault) state spec chance some = refl
 created_there None state spec chance some =
-    ap (λ test. (if test then refused state KeyThere else drawing (concat chance.fields) (begun state chance (secret_from spec chance.fields))).state)
+    ap (λ test. (if test then refused state KeyThere else drawing (concat chance.fields) (begun state chance (secret_of_fields spec chance.fields))).state)
     (le-leb 1 (length state.records) some)
 
 published_same : (records : List Record) (public : Option AnyPublic) → (published records public).state.records ≡ records
 published_same records (Some public) = refl
 published_same records None = refl
 
-opened_on_same : (records : List Record) (found : Option Key) → (opened_on records found).state.records ≡ records
+opened_on_same : (records : List Record) (found : Option Key) → (opened_key records found).state.records ≡ records
 opened_on_same records None = refl
-opened_on_same records (Some key) = published_same records (public_in key)
+opened_on_same records (Some key) = published_same records (any_public_of key)
 
-opened_same : (state : State) (chance : Opening) (illegal : Option ℕ) → (opened_by state chance illegal).state.records ≡ state.records
-opened_same state None None = opened_on_same state.records (key_in state.records)
+opened_same : (state : State) (chance : Opening) (illegal : Option ℕ) → (opened_illegal state chance illegal).state.records ≡ state.records
+opened_same state None None = opened_on_same state.records (the_key state.records)
 opened_same state None (Some k) = refl
 opened_same state (Some (slot, fault)) None = refl
 opened_same state (Some (slot, fault)) (Some k) = refl
@@ -247,7 +247,7 @@ reopens state sized =
     record {
       public = public;
       keyed = ap public_of_key are.keyed ∙ is;
-      opens = ap (opened_by state None) (none_from_legal records are.legal) ∙ ap (opened_on records) are.keyed ∙ ap (published records) is;
+      opens = ap (opened_illegal state None) (none_from_legal records are.legal) ∙ ap (opened_key records) are.keyed ∙ ap (published records) is;
     }
 
 abbrev Stays : {A : Type 0} → Key → Outcome A → Type 0
@@ -266,7 +266,7 @@ stays_append key state entry cut_new next are more later = more
 stays_append key state entry no_memory next are more later = are
 
 stays_retired : (key : Key) (limit : ℕ) (state : State) (upto : ℕ) (fate : Fate) → AreOf key state.records
-    → Stays key (retired_under limit state upto fate (Some key))
+    → Stays key (retired_key limit state upto fate (Some key))
 stays_retired key limit state upto fate are =
     let records = state.records in
     let bottom = bottom_of key.secret in
@@ -284,7 +284,7 @@ stays_retired key limit state upto fate are =
 -- What every event keeps: the records are legal and of a key with this public one, and what was handed out is valid.
 record IsRight (public : AnyPublic) (world : World) : Type 0 where
   key : Key
-  is_public : public_in key ≡ Some public
+  is_public : any_public_of key ≡ Some public
   are : AreOf key world.state.records
   valid : (x : Handed) → Contains world.handed x → IsValidUnder public x.message x.signature
 
@@ -292,7 +292,7 @@ handed_right : (public : AnyPublic) (handed : List Handed) (name : List ℕ) (gi
     → ((message signature : List ℕ) → given ≡ Some message → answer ≡ Ok signature
     → IsValidUnder public message signature)
     → ((x : Handed) → Contains handed x → IsValidUnder public x.message x.signature)
-    → (x : Handed) → Contains (handed ++ handed_with name given answer) x → IsValidUnder public x.message x.signature
+    → (x : Handed) → Contains (handed ++ newly_handed name given answer) x → IsValidUnder public x.message x.signature
 handed_right public handed name (Some message) (Ok signature) fits old x there = elim (Contains-push_cases handed _ x there) [
   | inl before ↦ old x before
   | inr it ↦ subst (λ (y : Handed). IsValidUnder public y.message y.signature) it (fits message signature refl refl)
@@ -304,13 +304,13 @@ handed_right public handed name None (Err fault) fits old x there = old x (subst
 -- the records after a migration, and their key
 record IsMoved (public : AnyPublic) (records : List Record) : Type 0 where
   key : Key
-  is_public : public_in key ≡ Some public
+  is_public : any_public_of key ≡ Some public
   are : AreOf key records
 
-moved_to : (public : AnyPublic) (key : Key) (records : List Record) (fate : Migration) → public_in key ≡ Some public → AreOf key records
-    → can_move key.version ≡ true → IsMoved public (migrated_to records fate)
-moved_to public key records left_alone is are moves = record { key = key; is_public = is; are = are }
-moved_to public key records sealed is are moves = elim (cases_Bool (has_moved records)) as (λ u. IsMoved public (with_moved records)) [
+moved_version : (public : AnyPublic) (key : Key) (records : List Record) (fate : Migration) → any_public_of key ≡ Some public → AreOf key records
+    → can_move key.version ≡ true → IsMoved public (migrated_list records fate)
+moved_version public key records left_alone is are moves = record { key = key; is_public = is; are = are }
+moved_version public key records sealed is are moves = elim (cases_Bool (has_moved records)) as (λ u. IsMoved public (with_moved records)) [
   | inl moved ↦
       subst (IsMoved public) (sym (ap (λ test. if test then records else records ++ MovedRecord ∷ []) moved))
       (record { key = key; is_public = is; are = are })
@@ -318,7 +318,7 @@ moved_to public key records sealed is are moves = elim (cases_Bool (has_moved re
       subst (IsMoved public) (sym (ap (λ test. if test then records else records ++ MovedRecord ∷ []) stays))
       (record { key = key; is_public = is; are = of_grown key records MovedRecord are (moved_can key records stays moves) tt })
 ]
-moved_to public key records carried_over is are moves =
+moved_version public key records carried_over is are moves =
     let over = is_carried records key are.legal are.keyed in
     record {
       key = key_in_version Two key;
@@ -352,7 +352,7 @@ right_after public limit world (request name chance) can right =
       valid = handed_right public world.handed name chance.given _ fits right.valid;
     }
 right_after public limit world (retire upto fate) can right =
-    let are = subst (λ found. Stays right.key (retired_under limit world.state upto fate found)) (sym right.are.keyed)
+    let are = subst (λ found. Stays right.key (retired_key limit world.state upto fate found)) (sym right.are.keyed)
     (stays_retired right.key limit world.state upto fate right.are) in
     record { key = right.key; is_public = right.is_public; are = are; valid = right.valid }
 right_after public limit world (migrate fate) can right =
@@ -360,7 +360,7 @@ right_after public limit world (migrate fate) can right =
     migrated_has (IsMoved public) world.state fate (record { key = right.key; is_public = right.is_public; are = right.are })
     (λ key keyed moves.
     let same : right.key ≡ key = same_Some right.key key (sym right.are.keyed ∙ keyed) in
-    moved_to public key world.state.records fate (subst (λ k. public_in k ≡ Some public) same right.is_public)
+    moved_version public key world.state.records fate (subst (λ k. any_public_of k ≡ Some public) same right.is_public)
     (subst (λ k. AreOf k world.state.records) same right.are) moves) in
     record { key = moved.key; is_public = moved.is_public; are = moved.are; valid = right.valid }
 right_after public limit world stop can right =

@@ -18,18 +18,18 @@ use Rattle.sign_core.specs.declared.fault.SignFault.{SignFault}
 use Rattle.sign_core.specs.declared.fault.SignFault.TheVariants.{RandomRepeated, MessageRead, Moved, RetireRange, LongName, NoKey, Illegal, DeviceFailed, NoMemoryToOpen}
 use Rattle.sign_core.specs.declared.fault.SignFault.TheVariants.{Changed, Exhausted, RandomFailed, StoreFailed, Stopped, Damaged, OutOfMemory, LedgerFull}
 use Rattle.sign_core.specs.declared.fault.SignFault.TheVariants.{Unreadable, KeyThere}
-use Rattle.sign_core.specs.Records.{can_follow, first_illegal, illegal_from, key_in}
+use Rattle.sign_core.specs.Records.{can_follow, first_illegal, next_illegal, the_key}
 use Rattle.sign_core.specs.Textbook.{public_of_key}
 use Rattle.state_file.specs.declared.refused.Refused.{Refused}
 use Rattle.sign_core.specs.inner.Signer.{Holds, IsTakenUp, LoadsRecord, TakesUpLoaded}
 use Rattle.sign_core.specs.Signer.{IsAnswered, Opens, View}
 use Rattle.sign_core.specs.Signer.{IsTied, LeavesOld, LoadsAll, RefusesToOpen, StopsOpening, is_device_failed, unreadable_slot}
-use Rattle.sign_core.specs.Signer.{GoesTo, slots_below}
+use Rattle.sign_core.specs.Signer.{GoesTo, first_slots}
 use Rattle.sign_core.specs.inner.Ledger.{LacksRoom}
 use Rattle.sign_core.specs.Ledger.{RunsOutOfMemory, Table}
-use Rattle.sign_core.specs.World.{Outcome, answered, closed_on, open_on, opened, refused}
-use Rattle.sign_core.specs.inner.Cases.{opened_by, opened_on, published}
-use Rattle.sign_core.specs.Textbook.{HasSizes, SecretHasSizes, public_in}
+use Rattle.sign_core.specs.World.{Outcome, answered, closed_state, open_state, opened, refused}
+use Rattle.sign_core.specs.inner.Cases.{opened_illegal, opened_key, published}
+use Rattle.sign_core.specs.Textbook.{HasSizes, SecretHasSizes, any_public_of}
 use Rattle.sign_core.proofs.Adding.{LeavesItsList, length_one_more, some_records}
 use Rattle.sign_core.proofs.Follow.{key_stays}
 use Rattle.sign_core.proofs.Illegal.{first_illegal_appended, first_illegal_after, illegal_after, legal_from_none}
@@ -62,14 +62,14 @@ pub record HasLoaded {S : Type 0} (g : store.Ghosts S) (old now : S) (records : 
   pub begins : Begins g old records k
   pub legal : first_illegal records ≡ None
   pub running : 0 < k → g.stopped old ≡ false
-  pub asked : g.loads now ≡ slots_below loads ++ g.loads old
+  pub asked : g.loads now ≡ first_slots loads ++ g.loads old
   pub gave : g.given now ≡ g.given old ++ records
 
 -- What was taken up: these records, with their key's sizes.
 pub record IsLoadedTo {S : Type 0} (g : store.Ghosts S) (old now : S) (table : Table) (k loads : ℕ) : Type 0 where
   pub loaded : HasLoaded g old now table.records k loads
   pub some : 0 < k
-  pub keyed : key_in table.records ≡ Some table.key
+  pub keyed : the_key table.records ≡ Some table.key
   pub sizes : SecretHasSizes table.key.secret
 
 pub none_loaded : {S : Type 0} (g : store.Ghosts S) (old : S)
@@ -95,11 +95,11 @@ none_loaded g old only = record {
 }
 
 -- the loads and records with one more
-asked_more : {S : Type 0} (g : store.Ghosts S) (old now next : S) (k : ℕ) → g.loads now ≡ slots_below k ++ g.loads old
-    → g.loads next ≡ k ∷ g.loads now → g.loads next ≡ slots_below (k + 1) ++ g.loads old
+asked_more : {S : Type 0} (g : store.Ghosts S) (old now next : S) (k : ℕ) → g.loads now ≡ first_slots k ++ g.loads old
+    → g.loads next ≡ k ∷ g.loads now → g.loads next ≡ first_slots (k + 1) ++ g.loads old
 asked_more g old now next k before more =
     let here : suc k ≡ k + 1 = omega arith in
-    more ∙ ap (λ l. k ∷ l) before ∙ ap (λ n. slots_below n ++ g.loads old) here
+    more ∙ ap (λ l. k ∷ l) before ∙ ap (λ n. first_slots n ++ g.loads old) here
 
 gave_more : {S : Type 0} (g : store.Ghosts S) (old now next : S) (records : List Record) (entry : Record) → g.given now ≡ g.given old ++ records
     → g.given next ≡ g.given now ++ entry ∷ [] → g.given next ≡ g.given old ++ (records ++ entry ∷ [])
@@ -180,15 +180,15 @@ whole_same g old records k begins honest = ap (λ l. l ++ drop k (g.list old)) (
 
 -- the first fault comes before any record that isn't legal
 stops : (all : List Record) (k : ℕ) (fault : SignFault) (illegal : Option ℕ) → ((j : ℕ) → illegal ≡ Some j → k ≤ j)
-    → opened_by (closed_on all) (Some (k, fault)) illegal ≡ refused (closed_on all) fault
+    → opened_illegal (closed_state all) (Some (k, fault)) illegal ≡ refused (closed_state all) fault
 stops all k fault None later = refl
 stops all k fault (Some j) later =
     let after = later j refl in
     let not : nat_lt j k ≡ false = grind (arith, nat_tests) in
-    ap (λ (b : Bool). refused {A = AnyPublic} (closed_on all) (if b then Illegal j else fault)) not
+    ap (λ (b : Bool). refused {A = AnyPublic} (closed_state all) (if b then Illegal j else fault)) not
 
 stopped_step : {S : Type 0} (g : store.Ghosts S) (old now : S) (records : List Record) (k : ℕ) (fault : SignFault) → HasLoaded g old now records k k
-    → opened (closed_on (whole g old records k)) (Some (k, fault)) ≡ refused (closed_on (whole g old records k)) fault
+    → opened (closed_state (whole g old records k)) (Some (k, fault)) ≡ refused (closed_state (whole g old records k)) fault
 stopped_step g old now records k fault has =
     stops (whole g old records k) k fault (first_illegal (whole g old records k))
     (λ j is. omega (arith, has.begins.long, illegal_after records (drop k (g.list old)) j has.legal is))
@@ -200,7 +200,7 @@ pub stopped_at : {S : Type 0} (g : store.Ghosts S) (old now next : S) (records :
     → Counts {A = AnyPublic} is_device_failed (g.failures old) (g.failures next) (Err fault)
     → RefusesToOpen {A = AnyPublic} (whole g old records k) (Err fault) (g.refusals old) (g.refusals next)
     → g.unreadable next ≡ unreadable_slot fault ++ g.unreadable old → g.honest next ≡ g.honest old → g.most next ≡ g.most old
-    → (g.stopped old ≡ true → next ≡ old) → g.loads next ≡ slots_below loads ++ g.loads old → g.given next ≡ g.given now
+    → (g.stopped old ≡ true → next ≡ old) → g.loads next ≡ first_slots loads ++ g.loads old → g.given next ≡ g.given now
     → GoesTo {A = AnyPublic} (g.most old) (Some (k, fault)) (whole g old records k) (g.refusals old) (g.refusals next) loads k (Err fault)
     → LoadsAll g old next (IsTakenUp (Err fault))
 stopped_at g old now next records k loads fault has load stopped list moments failures refusals unreadable honest most stays asked gave order = record {
@@ -208,7 +208,7 @@ stopped_at g old now next records k loads fault has load stopped list moments fa
   long = whole_long g old records k has.begins;
   same = whole_same g old records k has.begins;
   chance = Some (k, fault);
-  outcome = refused (closed_on (whole g old records k)) fault;
+  outcome = refused (closed_state (whole g old records k)) fault;
   step = stopped_step g old now records k fault has;
   answer = refl;
   load = load;
@@ -284,17 +284,17 @@ unloaded g old now next records k (Illegal slot) has loads = absurd loads.loads
 
 -- a record that was loaded, and can't follow
 illegal_step : (records more : List Record) (entry : Record) (k : ℕ) → length records ≡ k → first_illegal records ≡ None
-    → can_follow (key_in records) records entry ≡ false
-    → opened (closed_on ((records ++ entry ∷ []) ++ more)) None ≡ refused (closed_on ((records ++ entry ∷ []) ++ more)) (Illegal k)
+    → can_follow (the_key records) records entry ≡ false
+    → opened (closed_state ((records ++ entry ∷ []) ++ more)) None ≡ refused (closed_state ((records ++ entry ∷ []) ++ more)) (Illegal k)
 illegal_step records more entry k long legal not =
     let all = (records ++ entry ∷ []) ++ more in
     let here : first_illegal (records ++ entry ∷ []) ≡ Some k =
     first_illegal_appended records entry ∙ (λ i. option_or (legal i) (cond (not i) None (Some (long i)))) in
-    ap (opened_by (closed_on all) None) (first_illegal_after (records ++ entry ∷ []) more
-    ∙ ap (λ o. option_or o (illegal_from all (length (records ++ entry ∷ [])) more)) here)
+    ap (opened_illegal (closed_state all) None) (first_illegal_after (records ++ entry ∷ []) more
+    ∙ ap (λ o. option_or o (next_illegal all (length (records ++ entry ∷ [])) more)) here)
 
 pub illegal_at : {S : Type 0} (g : store.Ghosts S) (old now next : S) (records : List Record) (k : ℕ) (entry : Record) → HasLoaded g old now records k k
-    → LoadsRecord g now next k (Ok (Some entry)) → can_follow (key_in records) records entry ≡ false → LoadsAll g old next (IsTakenUp (Err (Illegal k)))
+    → LoadsRecord g now next k (Ok (Some entry)) → can_follow (the_key records) records entry ≡ false → LoadsAll g old next (IsTakenUp (Err (Illegal k)))
 illegal_at g old now next records k entry has loads not =
     let begins = begins_more g old now next records k entry has.kept has.begins loads in
     let kept = kept_some g old now next k entry has.kept loads in record {
@@ -302,7 +302,7 @@ illegal_at g old now next records k entry has loads not =
       long = whole_long g old (records ++ entry ∷ []) (k + 1) begins;
       same = whole_same g old (records ++ entry ∷ []) (k + 1) begins;
       chance = None;
-      outcome = refused (closed_on (whole g old (records ++ entry ∷ []) (k + 1))) (Illegal k);
+      outcome = refused (closed_state (whole g old (records ++ entry ∷ []) (k + 1))) (Illegal k);
       step = illegal_step records (drop (k + 1) (g.list old)) entry k has.begins.long has.legal not;
       answer = refl;
       load = sym has.kept.stopped ∙ loads.loads.0;
@@ -324,8 +324,8 @@ illegal_at g old now next records k entry has loads not =
 
 -- ---- records that are taken up
 
-key_follows : (table : Table) (entry : Record) (b : Bool) → key_in table.records ≡ Some table.key → can_follow (Some table.key) table.records entry ≡ b
-    → can_follow (key_in table.records) table.records entry ≡ b
+key_follows : (table : Table) (entry : Record) (b : Bool) → the_key table.records ≡ Some table.key → can_follow (Some table.key) table.records entry ≡ b
+    → can_follow (the_key table.records) table.records entry ≡ b
 key_follows table entry b keyed is = ap (λ key. can_follow key table.records entry) keyed ∙ is
 
 record_there : (records more : List Record) (entry : Record) (k : ℕ) → length records ≡ k → slice_get ((records ++ entry ∷ []) ++ more) k ≡ Some entry
@@ -334,14 +334,14 @@ record_there [] more entry (suc k) long = absurd (omega (arith, long))
 record_there (first ∷ rest) more entry zero long = absurd (omega (arith, long))
 record_there (first ∷ rest) more entry (suc k) long = record_there rest more entry k (omega (arith, long))
 
-legal_with : (records : List Record) (entry : Record) → first_illegal records ≡ None → can_follow (key_in records) records entry ≡ true
+legal_with : (records : List Record) (entry : Record) → first_illegal records ≡ None → can_follow (the_key records) records entry ≡ true
     → first_illegal (records ++ entry ∷ []) ≡ None
 legal_with records entry legal follows =
     first_illegal_appended records entry ∙ (λ i. option_or (legal i) (cond (follows i) None (Some (length records))))
 
 -- a record that could follow, without memory for it
 unroomed : {S : Type 0} (g : store.Ghosts S) (old now next : S) (table : Table) (k : ℕ) (entry : Record) → IsLoadedTo g old now table k k
-    → LoadsRecord g now next k (Ok (Some entry)) → can_follow (key_in table.records) table.records entry ≡ true → LacksRoom entry table
+    → LoadsRecord g now next k (Ok (Some entry)) → can_follow (the_key table.records) table.records entry ≡ true → LacksRoom entry table
     → LoadsAll g old next (IsTakenUp (Err NoMemoryToOpen))
 unroomed g old now next table k entry is loads follows lacking =
     let more = drop (k + 1) (g.list old) in
@@ -361,7 +361,7 @@ unroomed g old now next table k entry is loads follows lacking =
       long = whole_long g old records (k + 1) begins;
       same = whole_same g old records (k + 1) begins;
       chance = Some (k, NoMemoryToOpen);
-      outcome = refused (closed_on (whole g old records (k + 1))) NoMemoryToOpen;
+      outcome = refused (closed_state (whole g old records (k + 1))) NoMemoryToOpen;
       step = stops (records ++ more) k NoMemoryToOpen (first_illegal (records ++ more))
           (λ j at. omega (arith, begins.long, illegal_after records more j legal at));
       answer = refl;
@@ -423,7 +423,7 @@ taken g old now next table after k entry is loads takes =
         gave = gave_more g old now next table.records entry is.loaded.gave loads.gave;
       });
       some = omega arith;
-      keyed = ap key_in takes.2 ∙ key_stays table.records (entry ∷ []) (some_records table.records table.key is.keyed) ∙ is.keyed ∙ ap Some (sym takes.1);
+      keyed = ap the_key takes.2 ∙ key_stays table.records (entry ∷ []) (some_records table.records table.key is.keyed) ∙ is.keyed ∙ ap Some (sym takes.1);
       sizes = subst (λ key. SecretHasSizes key.secret) (sym takes.1) is.sizes;
     }
 
@@ -442,16 +442,16 @@ key_taken g old next table key only loads sizes same records =
         gave = loads.gave;
       });
       some = omega arith;
-      keyed = ap key_in records ∙ ap Some (sym same);
+      keyed = ap the_key records ∙ ap Some (sym same);
       sizes = subst (λ k. SecretHasSizes k.secret) (sym same) sizes.0;
     }
 
 -- ---- the end
 
-published_step : (records : List Record) (key : Key) (public : AnyPublic) → first_illegal records ≡ None → key_in records ≡ Some key
-    → public_in key ≡ Some public → opened (closed_on records) None ≡ answered (open_on records) public
+published_step : (records : List Record) (key : Key) (public : AnyPublic) → first_illegal records ≡ None → the_key records ≡ Some key
+    → any_public_of key ≡ Some public → opened (closed_state records) None ≡ answered (open_state records) public
 published_step records key public legal keyed is =
-    ap (opened_by (closed_on records) None) legal ∙ ap (opened_on records) keyed ∙ ap (published records) is
+    ap (opened_illegal (closed_state records) None) legal ∙ ap (opened_key records) keyed ∙ ap (published records) is
 
 pub all_taken : {S : Type 0} (g : store.Ghosts S) (old now : S) (table : Table) (k loads : ℕ) → IsLoadedTo g old now table k loads → length (g.list old) ≤ k
     → (loads ≡ k + 1) ⊎ ((loads ≡ k) × (k ≡ g.most old)) → LoadsAll g old now (IsTakenUp (Ok table))
@@ -463,7 +463,7 @@ all_taken g old now table k loads is end last =
       long = omega (arith, begins.long, begins.inside, end);
       same = λ honest. begins.same honest ∙ take_all k (g.list old) end;
       chance = None;
-      outcome = answered (open_on table.records) public;
+      outcome = answered (open_state table.records) public;
       step = published_step table.records table.key public is.loaded.legal is.keyed made;
       answer = (public, refl, ap public_of_key is.keyed ∙ made, refl);
       load = is.loaded.running is.some;
@@ -514,7 +514,7 @@ end_found g old now next table k is loads = (
 
 -- ---- record 0
 
-not_first : (entry : Record) → is_key entry ≡ false → can_follow (key_in []) [] entry ≡ false
+not_first : (entry : Record) → is_key entry ≡ false → can_follow (the_key []) [] entry ≡ false
 not_first (KeyRecord key) not = absurd (true≢false not)
 not_first (ExtendRecord extend) not = refl
 not_first (BoundRecord bound) not = refl
@@ -542,7 +542,7 @@ none_there g old next only loads =
       long = ap length empty;
       same = λ honest. empty;
       chance = None;
-      outcome = refused (closed_on []) NoKey;
+      outcome = refused (closed_state []) NoKey;
       step = refl;
       answer = refl;
       load = loads.loads.0;

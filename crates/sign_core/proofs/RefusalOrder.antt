@@ -20,18 +20,18 @@ use Rattle.sign_core.specs.declared.key.AnyPublic.{AnyPublic}
 use Rattle.sign_core.specs.declared.fault.SignFault.{SignFault}
 use Rattle.sign_core.specs.declared.fault.SignFault.TheVariants.{Changed, Damaged, Exhausted, Illegal, KeyThere, LedgerFull, MessageRead, Moved, NoKey, LongName}
 use Rattle.sign_core.specs.declared.fault.SignFault.TheVariants.{OutOfMemory, RandomFailed, RandomRepeated, RetireRange, Stopped, StoreFailed}
-use Rattle.sign_core.specs.Records.{are_same, binding_in, deepest, first_illegal, has_identifier, has_moved, key_in, leaves_of_current, next_at, is_long}
+use Rattle.sign_core.specs.Records.{are_same, binding_at, deepest, first_illegal, has_identifier, has_moved, the_key, leaves_of_current, next_at, is_long}
 use Rattle.sign_core.specs.Records.{wanted_count}
-use Rattle.sign_core.specs.Textbook.{AllHaveSizes, Trees, damaged_in, digest_at, lms_secret, public_in, signature_at, tree_before, trees_of}
+use Rattle.sign_core.specs.Textbook.{AllHaveSizes, Trees, damaged_at, digest_at, lms_secret, any_public_of, signature_at, current_at, trees_of}
 use Rattle.sign_core.specs.Events.{AreDrawsOf, AreFields, key_sizes, randomizer_sizes, tree_sizes}
 use Rattle.sign_core.specs.World.{Chance, Creation, Draw, Fate, Opening, Outcome, State, acked, answered, appended, drawing}
-use Rattle.sign_core.specs.inner.Cases.{begun, bound_anew, bound_sound, bound_with}
+use Rattle.sign_core.specs.inner.Cases.{begun, bound_level, bound_sound, bound_message}
 use Rattle.sign_core.specs.World.{cut_new, cut_old, extend_record, first_draw}
-use Rattle.sign_core.specs.inner.Cases.{created_after, extended, extended_by, extended_with, bound_below}
-use Rattle.sign_core.specs.World.{no_memory, open_on, randomizer_from, refused}
-use Rattle.sign_core.specs.inner.Cases.{opened_by, opened_on, published, repeated, repeated_sound}
-use Rattle.sign_core.specs.World.{requested, retired, secret_from, new_key}
-use Rattle.sign_core.specs.inner.Cases.{requested_of, requested_under, retired_under}
+use Rattle.sign_core.specs.inner.Cases.{created_load, extended, extended_identifier, extended_seed, bound_trees}
+use Rattle.sign_core.specs.World.{no_memory, open_state, randomizer_of_fields, refused}
+use Rattle.sign_core.specs.inner.Cases.{opened_illegal, opened_key, published, repeated, repeated_sound}
+use Rattle.sign_core.specs.World.{requested, retired, secret_of_fields, new_key}
+use Rattle.sign_core.specs.inner.Cases.{requested_binding, requested_key, retired_key}
 use Rattle.sign_core.specs.RefusalOrder.{AfterAppend, BeginsWith, IsIllegalFirst, IsUnsound, Of, RefusalLaw, RefuseAlike, RefusesAt}
 use Rattle.sign_core.specs.RefusalOrder.{RefusesCreate, RefusesName, RefusesNew, RefusesOpening, RefusesRecord, RefusesRepeat, RefusesRequest}
 use Rattle.sign_core.specs.RefusalOrder.{RefusesRetire, RefusesTree, RefusesWanted, Unless, WhereOpen}
@@ -124,7 +124,7 @@ by_repeat state key k bound chance None is = is_there MessageRead is refl
 by_repeat state key k bound chance (Some message) is =
     let bottom = bottom_of key.secret in
     let made = digest_at key state.records k bound.leaf bound.randomizer message in
-    let damaged = damaged_in key bottom state.records (tree_before bottom state.records k) in
+    let damaged = damaged_at key bottom state.records (current_at bottom state.records k) in
     let sound = repeated_sound state key k bound damaged in
     is_absent MessageRead (λ none. some_not_none message (sym is ∙ none))
     (by_test Changed (not (are_same made bound.digest)) state (if not chance.has_room then refused state OutOfMemory else sound)
@@ -171,7 +171,7 @@ by_fields : (state : State) (trees : Trees) (level leaf : ℕ) (identifier : Lis
     (Rest : Result (List ℕ) SignFault → Type 0) (next : List Record → Outcome (List ℕ)) → AreFields tree_sizes (identifier ∷ fields)
     → ((entry : Record) → identifier_of entry ≡ Some identifier → Rest (next (state.records ++ entry ∷ [])).answer)
     → Unless (Of RandomFailed (length (identifier ∷ fields) < 3)) (AfterAppend fate Rest)
-    (extended_with state trees level leaf identifier fields fate next).answer
+    (extended_seed state trees level leaf identifier fields fate next).answer
 by_fields state trees level leaf identifier [] fate Rest next are more = is_there RandomFailed (omega arith) refl
 by_fields state trees level leaf identifier (seed ∷ []) fate Rest next are more = is_there RandomFailed (omega arith) refl
 by_fields state trees level leaf identifier (seed ∷ randomizer ∷ []) fate Rest next are more =
@@ -184,11 +184,11 @@ by_known : (state : State) (trees : Trees) (level leaf : ℕ) (fields : List (Li
     (Rest : Result (List ℕ) SignFault → Type 0) (next : List Record → Outcome (List ℕ)) → AreFields tree_sizes fields → Knows state.records IsKnown
     → ((entry : Record) (identifier : List ℕ) → BeginsWith fields identifier → identifier_of entry ≡ Some identifier
     → Rest (next (state.records ++ entry ∷ [])).answer)
-    → RefusesTree IsKnown (record { fields = fields; fate = fate }) Rest (extended_by state trees level leaf fields fate next).answer
+    → RefusesTree IsKnown (record { fields = fields; fate = fate }) Rest (extended_identifier state trees level leaf fields fate next).answer
 by_known state trees level leaf [] fate IsKnown Rest next are knows more = is_there RandomFailed (omega arith) refl
 by_known state trees level leaf (identifier ∷ fields) fate IsKnown Rest next are knows more =
     is_absent RandomFailed (λ few. absurd (omega (arith, few)))
-    (by_test RandomRepeated (has_identifier state.records identifier) state (extended_with state trees level leaf identifier fields fate next)
+    (by_test RandomRepeated (has_identifier state.records identifier) state (extended_seed state trees level leaf identifier fields fate next)
     (λ known. (identifier, (fields, refl), knows.forth identifier known))
     (λ cause.
     let (other, (others, is), known) = cause in
@@ -215,20 +215,20 @@ by_tree state key (Some trees) level draw IsKnown Rest next these is are knows m
 
 -- a binding, once its C is drawn
 by_given : (state : State) (key : Key) (name randomizer : List ℕ) (given : Option (List ℕ)) (fate : Fate)
-    → Unless (Of MessageRead (given ≡ None)) (AfterAppend fate IsOk) (bound_with state key name (Some randomizer) given fate).answer
+    → Unless (Of MessageRead (given ≡ None)) (AfterAppend fate IsOk) (bound_message state key name (Some randomizer) given fate).answer
 by_given state key name randomizer None fate = is_there MessageRead refl refl
 by_given state key name randomizer (Some message) fate =
     let leaf = next_at key.secret state.records (bottom_of key.secret) in
     let bound = new_bound key state.records name leaf randomizer message in
     is_absent MessageRead (some_not_none message)
     (by_append state (BoundRecord bound) fate
-    (λ records. answered (open_on records) (signature_at key records (length state.records) bound)) refl)
+    (λ records. answered (open_state records) (signature_at key records (length state.records) bound)) refl)
 
 by_randomizer : (state : State) (key : Key) (name : List ℕ) (secret : Secret) (fields : List (List ℕ)) (given : Option (List ℕ)) (fate : Fate)
     → AreFields (randomizer_sizes secret) fields
     → Unless (Of RandomFailed (length fields < length (randomizer_sizes secret)))
     (Unless (Of MessageRead (given ≡ None)) (AfterAppend fate IsOk))
-    (bound_with state key name (randomizer_from secret fields) given fate).answer
+    (bound_message state key name (randomizer_of_fields secret fields) given fate).answer
 by_randomizer state key name (Lms secret) [] given fate are = is_there RandomFailed (omega arith) refl
 by_randomizer state key name (Lms secret) (c ∷ []) given fate are =
     is_absent RandomFailed (λ few. omega (arith, few)) (by_given state key name c given fate)
@@ -243,15 +243,15 @@ by_randomizer state key name (Xmss secret) (c ∷ rest) given fate are = absurd 
 
 by_wanted : (key : Key) (name : List ℕ) (chance : Chance) (below : ℕ) → below ≤ bottom_of key.secret → AreDrawsOf key.secret chance
     → (draws : List Draw) (records : List Record) (IsKnown : List ℕ → Type 0) → AllByRecursion IsTreeDraw draws → Knows records IsKnown
-    → RefusesWanted key chance below draws IsKnown (bound_below key name chance below draws records).answer
+    → RefusesWanted key chance below draws IsKnown (bound_trees key name chance below draws records).answer
 by_wanted key name chance zero low possible draws records IsKnown are knows =
-    by_randomizer (open_on records) key name key.secret chance.bound.fields chance.given chance.bound.fate possible.bound
+    by_randomizer (open_state records) key name key.secret chance.bound.fields chance.given chance.bound.fate possible.bound
 by_wanted key name chance (suc below) low possible draws records IsKnown are knows =
     let fields = (first_draw draws).fields in
     let IsKnownNext = λ (i : List ℕ). IsKnown i ⊎ BeginsWith fields i in
     let (these, is) = trees_there key.secret (omega (arith, low)) in
-    by_tree (open_on records) key (trees_of key.secret) (bottom_of key.secret - below) (first_draw draws) IsKnown
-    (RefusesWanted key chance below (drop 1 draws) IsKnownNext) (bound_below key name chance below (drop 1 draws)) these is
+    by_tree (open_state records) key (trees_of key.secret) (bottom_of key.secret - below) (first_draw draws) IsKnown
+    (RefusesWanted key chance below (drop 1 draws) IsKnownNext) (bound_trees key name chance below (drop 1 draws)) these is
     (first_drawn draws are) knows
     (λ entry identifier first own.
     by_wanted key name chance below (omega (arith, low)) possible (drop 1 draws) (records ++ entry ∷ []) IsKnownNext (later_drawn draws are)
@@ -260,11 +260,11 @@ by_wanted key name chance (suc below) low possible draws records IsKnown are kno
 -- ---- a request
 
 module _ (limit : ℕ) (state : State) (key : Key) (name : List ℕ) (chance : Chance) (possible : AreDrawsOf key.secret chance) where
-  by_level : (level : ℕ) → RefusesAt limit state key chance level (bound_anew limit state key name chance (Some level)).answer
+  by_level : (level : ℕ) → RefusesAt limit state key chance level (bound_level limit state key name chance (Some level)).answer
   by_level level =
       let records = state.records in
       let all = length records + wanted_count key.secret level in
-      let damaged = damaged_in key level records (tree_before level records (length records)) in
+      let damaged = damaged_at key level records (current_at level records (length records)) in
       let sound = bound_sound state key name chance level in
       by_test LedgerFull (nat_lt limit all) state (if not chance.has_room then refused state OutOfMemory else sound damaged)
       (ltb-true limit all) (lt-ltb limit all)
@@ -274,24 +274,24 @@ module _ (limit : ℕ) (state : State) (key : Key) (name : List ℕ) (chance : C
       (λ identifier. has_identifier records identifier ≡ true) possible.trees (record { forth = λ i is. is; back = λ i is. is }))))
 
   by_new : (level : Option ℕ) → deepest key.secret state.records ≡ level
-      → RefusesNew limit state key chance (bound_anew limit state key name chance level).answer
+      → RefusesNew limit state key chance (bound_level limit state key name chance level).answer
   by_new None free = is_there Exhausted (none_free key.secret state.records free) refl
   by_new (Some level) free =
       let (within, some, below) = deepest_is key.secret state.records level free in
       let rest : (l : ℕ) × (deepest key.secret state.records ≡ Some l)
-      × RefusesAt limit state key chance l (bound_anew limit state key name chance (Some level)).answer = (level, free, by_level level) in
+      × RefusesAt limit state key chance l (bound_level limit state key name chance (Some level)).answer = (level, free, by_level level) in
       is_absent Exhausted (λ none. omega (arith, some, none level within)) rest
 
-  by_name : (found : Option (ℕ × Bound)) → RefusesName limit state key name chance found (requested_of limit state key name chance found).answer
+  by_name : (found : Option (ℕ × Bound)) → RefusesName limit state key name chance found (requested_binding limit state key name chance found).answer
   by_name (Some (k, bound)) = by_repeat state key k bound chance chance.given refl
-  by_name None = by_test LongName (is_long key name) state (bound_anew limit state key name chance (deepest key.secret state.records))
+  by_name None = by_test LongName (is_long key name) state (bound_level limit state key name chance (deepest key.secret state.records))
       (ltb-true (name_most key.version) (length name)) (lt-ltb (name_most key.version) (length name)) (λ short. by_new (deepest key.secret state.records) refl)
 
-  by_request : key_in state.records ≡ Some key → RefusesRequest limit state key name chance (requested limit state name chance).answer
+  by_request : the_key state.records ≡ Some key → RefusesRequest limit state key name chance (requested limit state name chance).answer
   by_request keyed =
-      let found = binding_in state.records name in
-      subst (λ k. RefusesRequest limit state key name chance (requested_under limit state name chance k).answer) (sym keyed)
-      (by_open state (requested_of limit state key name chance found) (by_name found))
+      let found = binding_at state.records name in
+      subst (λ k. RefusesRequest limit state key name chance (requested_key limit state name chance k).answer) (sym keyed)
+      (by_open state (requested_binding limit state key name chance found) (by_name found))
 
 -- ---- a retiring
 
@@ -301,18 +301,18 @@ nothing = tt
 by_record : (limit : ℕ) (state : State) (next upto : ℕ) (fate : Fate) (test : Bool) → nat_le upto next ≡ test
     → RefusesRecord limit state next upto fate (if test then answered state nothing
     else (if nat_lt limit (length state.records + 1) then refused state LedgerFull
-    else appended state (Retire upto) fate (λ records. answered (open_on records) nothing))).answer
+    else appended state (Retire upto) fate (λ records. answered (open_state records) nothing))).answer
 by_record limit state next upto fate true is = inl (leb-true upto next is, refl)
 by_record limit state next upto fate false is =
     let all = length state.records + 1 in
     inr (
       leb-false upto next is,
-      by_test LedgerFull (nat_lt limit all) state (appended state (Retire upto) fate (λ records. answered (open_on records) nothing))
+      by_test LedgerFull (nat_lt limit all) state (appended state (Retire upto) fate (λ records. answered (open_state records) nothing))
           (ltb-true limit all) (lt-ltb limit all)
-          (λ fits. by_append state (Retire upto) fate (λ records. answered (open_on records) nothing) refl),
+          (λ fits. by_append state (Retire upto) fate (λ records. answered (open_state records) nothing) refl),
     )
 
-by_retire : (limit : ℕ) (state : State) (key : Key) (upto : ℕ) (fate : Fate) → key_in state.records ≡ Some key
+by_retire : (limit : ℕ) (state : State) (key : Key) (upto : ℕ) (fate : Fate) → the_key state.records ≡ Some key
     → RefusesRetire limit state key upto fate (retired limit state upto fate).answer
 by_retire limit state key upto fate keyed =
     let bottom = bottom_of key.secret in
@@ -320,15 +320,15 @@ by_retire limit state key upto fate keyed =
     let next = next_at key.secret state.records bottom in
     let goes = if nat_le upto next then answered state nothing else
     (if nat_lt limit (length state.records + 1) then refused state LedgerFull
-    else appended state (Retire upto) fate (λ records. answered (open_on records) nothing)) in
-    subst (λ k. RefusesRetire limit state key upto fate (retired_under limit state upto fate k).answer) (sym keyed)
+    else appended state (Retire upto) fate (λ records. answered (open_state records) nothing)) in
+    subst (λ k. RefusesRetire limit state key upto fate (retired_key limit state upto fate k).answer) (sym keyed)
     (by_open state (if nat_lt leaves upto then refused state RetireRange else goes)
     (by_test RetireRange (nat_lt leaves upto) state goes (ltb-true leaves upto) (lt-ltb leaves upto)
     (λ inside. by_record limit state next upto fate (nat_le upto next) refl)))
 
 -- ---- a create
 
-few_drawn : (spec : Spec) (fields : List (List ℕ)) → AreFields (key_sizes spec) fields → secret_from spec fields ≡ None
+few_drawn : (spec : Spec) (fields : List (List ℕ)) → AreFields (key_sizes spec) fields → secret_of_fields spec fields ≡ None
     → length fields < length (key_sizes spec)
 few_drawn (LmsSpec pair) [] are is = omega arith
 few_drawn (LmsSpec pair) (a ∷ []) are is = omega arith
@@ -344,7 +344,7 @@ few_drawn (XmssSpec tree) (a ∷ b ∷ []) are is = omega arith
 few_drawn (XmssSpec tree) (a ∷ b ∷ c ∷ []) are is = absurd (cc (is))
 few_drawn (XmssSpec tree) (a ∷ b ∷ c ∷ d ∷ rest) are is = absurd (are.2.2.2)
 
-all_drawn : (spec : Spec) (fields : List (List ℕ)) (secret : Secret) → secret_from spec fields ≡ Some secret
+all_drawn : (spec : Spec) (fields : List (List ℕ)) (secret : Secret) → secret_of_fields spec fields ≡ Some secret
     → length fields < length (key_sizes spec) → ⊥
 all_drawn (LmsSpec pair) [] secret is few = absurd (cc (is))
 all_drawn (LmsSpec pair) (a ∷ []) secret is few = absurd (cc (is))
@@ -367,37 +367,37 @@ module _ (state : State) (spec : Spec) (chance : Creation) (can : IsSpec spec) (
   Begins = Unless (Of RandomFailed (length chance.fields < length (key_sizes spec)))
       (Unless (Of OutOfMemory (chance.has_room ≡ false)) (AfterAppend chance.fate IsOk))
 
-  by_secret : (found : Option Secret) → secret_from spec chance.fields ≡ found → Begins (begun state chance found).answer
+  by_secret : (found : Option Secret) → secret_of_fields spec chance.fields ≡ found → Begins (begun state chance found).answer
   by_secret None is = is_there RandomFailed (few_drawn spec chance.fields are is) refl
   by_secret (Some secret) is =
       let key = new_key chance.version secret in
       let (public, has) = public_made secret key.root (secret_sizes spec chance.fields secret can are is) in
-      let next = λ (all : List Record). published all (public_in key) in
+      let next = λ (all : List Record). published all (any_public_of key) in
       is_absent RandomFailed (all_drawn spec chance.fields secret is)
       (by_room chance.has_room state (appended state (KeyRecord key) chance.fate next)
       (by_append state (KeyRecord key) chance.fate next
       (ap (λ other. is_ok (published (state.records ++ KeyRecord key ∷ []) other).answer) has)))
 
-  by_load : (failed : Option SignFault) → chance.failed_load ≡ failed → RefusesCreate state spec chance (created_after failed state spec chance).answer
+  by_load : (failed : Option SignFault) → chance.failed_load ≡ failed → RefusesCreate state spec chance (created_load failed state spec chance).answer
   by_load (Some fault) is = refuses fault is refl
   by_load None is =
       let some = length state.records in
-      let begins = begun state chance (secret_from spec chance.fields) in
+      let begins = begun state chance (secret_of_fields spec chance.fields) in
       goes_on (λ fault load. some_not_none fault (sym load ∙ is))
       (by_test KeyThere (nat_le 1 some) state (drawing (concat chance.fields) begins) (λ test. omega (arith, leb-true 1 some test))
-      (λ there. le-leb 1 some (omega (arith, there))) (λ none. by_secret (secret_from spec chance.fields) refl))
+      (λ there. le-leb 1 some (omega (arith, there))) (λ none. by_secret (secret_of_fields spec chance.fields) refl))
 
 -- ---- an opening
 
 by_records : (records : List Record) → first_illegal records ≡ None → AllHaveSizes records
-    → Unless (Of NoKey (records ≡ [])) IsOk (opened_on records (key_in records)).answer
+    → Unless (Of NoKey (records ≡ [])) IsOk (opened_key records (the_key records)).answer
 by_records [] legal sizes = is_there NoKey refl refl
 by_records (entry ∷ rest) legal sizes =
     let all = legal_from_none (entry ∷ rest) (omega arith) legal in
-    let keyed : key_in (entry ∷ rest) ≡ Some all.key = ap (λ first. key_in (first ∷ rest)) (same_Some entry (KeyRecord all.key) all.first) in
+    let keyed : the_key (entry ∷ rest) ≡ Some all.key = ap (λ first. the_key (first ∷ rest)) (same_Some entry (KeyRecord all.key) all.first) in
     let (public, has) = public_made all.key.secret all.key.root (key_has_sizes (entry ∷ rest) all.key sizes keyed) in
     is_absent NoKey (λ none. absurd (cc (none)))
-    (ap (λ found. is_ok (opened_on (entry ∷ rest) found).answer) keyed ∙ ap (λ found. is_ok (published (entry ∷ rest) found).answer) has)
+    (ap (λ found. is_ok (opened_key (entry ∷ rest) found).answer) keyed ∙ ap (λ found. is_ok (published (entry ∷ rest) found).answer) has)
 
 module _ (state : State) where
   by_slot : (slot k : ℕ) (fault : SignFault) (test : Bool) → nat_lt k slot ≡ test → first_illegal state.records ≡ Some k
@@ -416,7 +416,7 @@ module _ (state : State) where
       (refuses fault (slot, refl) refl)
 
   by_chance : (chance : Opening) (illegal : Option ℕ) → first_illegal state.records ≡ illegal → AllHaveSizes state.records
-      → RefusesOpening state chance (opened_by state chance illegal).answer
+      → RefusesOpening state chance (opened_illegal state chance illegal).answer
   by_chance None None is sizes =
       goes_on (λ fault cause. some_not_none cause.0 (sym cause.1 ∙ is))
       (goes_on (λ fault cause. some_not_none (cause.0, fault) (sym cause.1)) (by_records state.records is sizes))
@@ -478,7 +478,7 @@ module _ (limit : ℕ) (state : State) (key : Key) (chance : Chance) (one other 
   alike_at : (level : ℕ) → RefusesAt limit state key chance level one → RefusesAt limit state key chance level other → RefuseAlike one other
   alike_at level first second =
       let records = state.records in
-      let damaged = damaged_in key level records (tree_before level records (length records)) in
+      let damaged = damaged_at key level records (current_at level records (length records)) in
       alike_of (λ a b. alike_of (λ c d. alike_unless (one_unsound damaged)
       (alike_wanted key chance (bottom_of key.secret - level) chance.trees (λ identifier. has_identifier records identifier ≡ true) one other) c d) a b)
       first second
@@ -493,7 +493,7 @@ module _ (limit : ℕ) (state : State) (key : Key) (chance : Chance) (one other 
       → RefuseAlike one other
   alike_repeat k bound first second =
       let bottom = bottom_of key.secret in
-      let damaged = damaged_in key bottom state.records (tree_before bottom state.records k) in
+      let damaged = damaged_at key bottom state.records (current_at bottom state.records k) in
       alike_of (λ a b. alike_of (λ c d. alike_of (λ e f. alike_unless (one_unsound damaged) alike_ok e f) c d) a b) first second
 
   alike_name : (name : List ℕ) (found : Option (ℕ × Bound)) → RefusesName limit state key name chance found one
@@ -525,7 +525,7 @@ refusal_law = record {
   create = λ state spec chance can are. by_load state spec chance can are chance.failed_load refl;
   opening = λ state chance sizes. by_chance state chance (first_illegal state.records) refl sizes;
   one_request = λ limit state key name chance one other first second.
-      alike_open state (λ a b. alike_name limit state key chance one other name (binding_in state.records name) a b) first second;
+      alike_open state (λ a b. alike_name limit state key chance one other name (binding_at state.records name) a b) first second;
   one_retire = λ limit state key upto fate one other first second.
       alike_open state (λ a b. alike_of (λ c d. alike_record limit state (next_at key.secret state.records (bottom_of key.secret)) upto fate one other c d) a b) first second;
   one_create = λ state spec chance one other first second.

@@ -9,7 +9,7 @@ use Rattle.sign_core.specs.declared.fault.SignFault.TheVariants.{NoMemoryToOpen,
 use Rattle.sign_core.specs.declared.source.Source as source
 use Rattle.sign_core.specs.Signer.{KeepsAll, KeepsAtRefusal, LacksTree, View, is_before_caches, is_before_draws, is_before_repeat, is_fault, is_out_of_memory}
 use Rattle.sign_core.specs.inner.Signing.{Does}
-use Rattle.sign_core.specs.Signing.{answered_with}
+use Rattle.sign_core.specs.Signing.{answered_value}
 use Rattle.sign_core.specs.World.{Outcome}
 
 -- A 29 that the store counts isn't for a new tree's cache.
@@ -71,9 +71,9 @@ pub before_repeat : {A : Type 0} (answer : Result A SignFault) → is_fault is_b
 before_repeat (Ok value) early = early
 before_repeat (Err e) early = is_bound_early e early
 
--- `answered_with` keeps the kind of a fault
+-- `answered_value` keeps the kind of a fault
 pub same_kind : {A B : Type 0} (is_kind : SignFault → Bool) (answer : Result A SignFault) (value : B)
-    → is_fault is_kind (answered_with answer value) ≡ is_fault is_kind answer
+    → is_fault is_kind (answered_value answer value) ≡ is_fault is_kind answer
 same_kind is_kind (Ok a) value = refl
 same_kind is_kind (Err e) value = refl
 

@@ -15,10 +15,10 @@ use Rattle.sign_core.specs.Requests.{bytes_drawn}
 use Rattle.sign_core.specs.Records.{has_identifier, next_at}
 use Rattle.sign_core.specs.Textbook.{Trees, lms_secret, trees_of}
 use Rattle.sign_core.specs.World.{Chance, Draw, Fate, Outcome, acked, appended, cut_new, cut_old, drawing}
-use Rattle.sign_core.specs.inner.Cases.{bound_with}
+use Rattle.sign_core.specs.inner.Cases.{bound_message}
 use Rattle.sign_core.specs.World.{extend_record, first_draw, no_memory}
-use Rattle.sign_core.specs.inner.Cases.{extended, extended_by, extended_with, bound_below}
-use Rattle.sign_core.specs.World.{open_on, randomizer_from, refused}
+use Rattle.sign_core.specs.inner.Cases.{extended, extended_identifier, extended_seed, bound_trees}
+use Rattle.sign_core.specs.World.{open_state, randomizer_of_fields, refused}
 use Rattle.sign_core.proofs.BoundBelow.{fields_drawn, fields_drawn_before}
 use Rattle.sign_core.proofs.OnceKept.{kept_choice}
 
@@ -40,9 +40,9 @@ Refuses before below chance outcome =
 -- ---- the binding
 
 drawn_bound : (records : List Record) (key : Key) (name : List ℕ) (randomizer given : Option (List ℕ)) (fate : Fate)
-    → IsRefusal (bound_with (open_on records) key name randomizer given fate)
-    → ((bound_with (open_on records) key name randomizer given fate).acknowledged ≡ records)
-    × ((bound_with (open_on records) key name randomizer given fate).drawn ≡ [])
+    → IsRefusal (bound_message (open_state records) key name randomizer given fate)
+    → ((bound_message (open_state records) key name randomizer given fate).acknowledged ≡ records)
+    × ((bound_message (open_state records) key name randomizer given fate).drawn ≡ [])
 drawn_bound records key name None given fate refusal = (refl, refl)
 drawn_bound records key name (Some randomizer) None fate refusal = (refl, refl)
 drawn_bound records key name (Some randomizer) (Some message) acked refusal = absurd (cc (refusal.1))
@@ -51,10 +51,10 @@ drawn_bound records key name (Some randomizer) (Some message) cut_new refusal = 
 drawn_bound records key name (Some randomizer) (Some message) no_memory refusal = (refl, refl)
 
 bound_refuses : (key : Key) (name : List ℕ) (chance : Chance) (draws : List Draw) (records : List Record)
-    → Refuses records 0 (chance_with chance draws) (bound_below key name chance 0 draws records)
+    → Refuses records 0 (chance_with chance draws) (bound_trees key name chance 0 draws records)
 bound_refuses key name chance draws records refusal other =
     let fields = chance.bound.fields in
-    let (all, none) = drawn_bound records key name (randomizer_from key.secret fields) chance.given chance.bound.fate
+    let (all, none) = drawn_bound records key name (randomizer_of_fields key.secret fields) chance.given chance.bound.fate
     refusal in
     record {
       begun = 0;
@@ -122,7 +122,7 @@ module _ (below : ℕ) (records : List Record) (chance : Chance) (draw : Draw) (
       (later : (all : List Record) → Refuses all below (chance_with chance draws) (next all)) where
     append_refuses : (entry : Record) (fate : Fate) (identifier seed randomizer : List ℕ)
         → draw.fields ≡ identifier ∷ seed ∷ randomizer ∷ []
-        → RefusesHere (drawing identifier (drawing (seed ++ randomizer) (appended (open_on records) entry fate next)))
+        → RefusesHere (drawing identifier (drawing (seed ++ randomizer) (appended (open_state records) entry fate next)))
     append_refuses entry acked identifier seed randomizer are = λ refusal other.
         begun_more entry identifier seed randomizer (next (records ++ entry ∷ [])) are
         (later (records ++ entry ∷ []) refusal other)
@@ -135,7 +135,7 @@ module _ (below : ℕ) (records : List Record) (chance : Chance) (draw : Draw) (
 
     with_refuses : (trees : Trees) (level leaf : ℕ) (identifier : List ℕ) (fields : List (List ℕ))
         → draw.fields ≡ identifier ∷ fields → RefusesHere (drawing identifier
-        (extended_with (open_on records) trees level leaf identifier fields draw.fate next))
+        (extended_seed (open_state records) trees level leaf identifier fields draw.fate next))
     with_refuses trees level leaf identifier [] are = λ refusal other. begun_none _ refl (some_drawn identifier [] are)
     with_refuses trees level leaf identifier (seed ∷ []) are =
         λ refusal other. begun_none _ refl (some_drawn identifier (seed ∷ []) are)
@@ -147,17 +147,17 @@ module _ (below : ℕ) (records : List Record) (chance : Chance) (draw : Draw) (
         λ refusal other. begun_none _ refl (some_drawn identifier (seed ∷ randomizer ∷ more ∷ rest) are)
 
     by_refuses : (trees : Trees) (level leaf : ℕ) (fields : List (List ℕ)) → draw.fields ≡ fields
-        → RefusesHere (extended_by (open_on records) trees level leaf fields draw.fate next)
+        → RefusesHere (extended_identifier (open_state records) trees level leaf fields draw.fate next)
     by_refuses trees level leaf [] are =
         λ refusal other. begun_none _ refl (sym (ap (λ fields. concat fields ++ []) are))
     by_refuses trees level leaf (identifier ∷ fields) are =
         kept_choice (λ outcome. RefusesHere (drawing identifier outcome)) (has_identifier records identifier)
-        (refused (open_on records) RandomRepeated)
-        (extended_with (open_on records) trees level leaf identifier fields draw.fate next)
+        (refused (open_state records) RandomRepeated)
+        (extended_seed (open_state records) trees level leaf identifier fields draw.fate next)
         (λ there refusal other. absurd (other refl)) (λ new. with_refuses trees level leaf identifier fields are)
 
     extended_refuses : (key : Key) (level : ℕ) (found : Option Trees) → (found ≡ None → ⊥)
-        → RefusesHere (extended (open_on records) key level found draw next)
+        → RefusesHere (extended (open_state records) key level found draw next)
     extended_refuses key level None never = absurd (never refl)
     extended_refuses key level (Some trees) never =
         by_refuses trees level (next_at key.secret records (level - 1)) draw.fields refl
@@ -166,7 +166,7 @@ module _ (below : ℕ) (records : List Record) (chance : Chance) (draw : Draw) (
 undrawn_refuses : (below : ℕ) (records : List Record) (chance : Chance) (key : Key) (level : ℕ) (found : Option Trees)
     (next : List Record → Outcome (List ℕ))
     → Refuses records (suc below) (chance_with chance [])
-    (extended (open_on records) key level found (first_draw []) next)
+    (extended (open_state records) key level found (first_draw []) next)
 undrawn_refuses below records chance key level None next refusal other =
     record { begun = 0; longer = omega arith; are_drawn = inl (omega arith, refl) }
 undrawn_refuses below records chance key level (Some trees) next refusal other =
@@ -182,19 +182,19 @@ has_trees (Xmss secret) some none = absurd (omega (arith, some))
 
 bound_below_refuses : (key : Key) (name : List ℕ) (chance : Chance) (below : ℕ) (draws : List Draw)
     (records : List Record) → (0 < below → trees_of key.secret ≡ None → ⊥)
-    → Refuses records below (chance_with chance draws) (bound_below key name chance below draws records)
+    → Refuses records below (chance_with chance draws) (bound_trees key name chance below draws records)
 bound_below_refuses key name chance zero draws records has = bound_refuses key name chance draws records
 bound_below_refuses key name chance (suc below) [] records has =
     undrawn_refuses below records chance key (bottom_of key.secret - below) (trees_of key.secret)
-    (bound_below key name chance below [])
+    (bound_trees key name chance below [])
 bound_below_refuses key name chance (suc below) (draw ∷ draws) records has =
-    extended_refuses below records chance draw draws (bound_below key name chance below draws)
+    extended_refuses below records chance draw draws (bound_trees key name chance below draws)
     (λ all. bound_below_refuses key name chance below draws all (λ some. has (omega arith)))
     key (bottom_of key.secret - below) (trees_of key.secret) (has (omega arith))
 
 pub draws_wanted : (key : Key) (name : List ℕ) (chance : Chance) (level : ℕ) (records : List Record)
     → Refuses records (bottom_of key.secret - level) chance
-    (bound_below key name chance (bottom_of key.secret - level) chance.trees records)
+    (bound_trees key name chance (bottom_of key.secret - level) chance.trees records)
 draws_wanted key name chance level records =
     bound_below_refuses key name chance (bottom_of key.secret - level) chance.trees records
     (λ some. has_trees key.secret (omega (arith, some)))

@@ -22,15 +22,15 @@ use Rattle.sign_core.specs.declared.fault.SignFault.TheVariants.{Changed, Damage
 use Rattle.sign_core.specs.declared.ledger.Binding.{Binding}
 use Rattle.hss.specs.declared.secret.Level.{Level}
 use Rattle.sign_core.specs.inner.Links.{AreMade, IsTreeAt, signings_of, signing_of_bound}
-use Rattle.sign_core.specs.Records.{are_same, binding_in, key_in}
+use Rattle.sign_core.specs.Records.{are_same, binding_at, the_key}
 use Rattle.sign_core.specs.Caches.{Cached, LacksCache}
 use Rattle.sign_core.specs.Signer.{View, is_before_repeat, is_fault, signature_size, state_of}
 use Rattle.sign_core.specs.inner.Signing.{IsBindingOf, Repeats, repeat_chance}
-use Rattle.sign_core.specs.Signing.{IsXmssKey, answered_with}
+use Rattle.sign_core.specs.Signing.{IsXmssKey, answered_value}
 use Rattle.sign_core.specs.Ledger.{kept_of}
 use Rattle.sign_core.specs.World.{Outcome, State, refused}
-use Rattle.sign_core.specs.inner.Cases.{repeated_sound, requested_of}
-use Rattle.sign_core.specs.Textbook.{Trees, damaged_in, digest_at, secret_at, signature_at, signing_with, signings_above, tree_before, trees_of}
+use Rattle.sign_core.specs.inner.Cases.{repeated_sound, requested_binding}
+use Rattle.sign_core.specs.Textbook.{Trees, damaged_at, digest_at, secret_at, signature_at, leaf_signing, chain_signings, current_at, trees_of}
 use Rattle.sign_core.proofs.Bindings.{binding_stands}
 use Rattle.sign_core.proofs.Refusals.{never_such}
 use Rattle.sign_core.proofs.ChainParts.{bound_tree, key_chain, xmss_damaged, xmss_leaf_inside, xmss_signed}
@@ -41,7 +41,7 @@ use Rattle.sign_core.proofs.ChainParts.{bound_tree, key_chain, xmss_damaged, xms
 pub record IsFound (key : Key) (records : List Record) (name : List ℕ) (binding : Binding) : Type 0 where
   pub place : ℕ
   pub bound : Bound
-  pub found : binding_in records name ≡ Some (place, bound)
+  pub found : binding_at records name ≡ Some (place, bound)
   pub stands : slice_get records place ≡ Some (BoundRecord bound)
   pub is : kept_of key.secret records (place, bound) ≡ binding
 
@@ -52,7 +52,7 @@ found_in secret records binding (Some (place, bound)) is = (place, bound, refl, 
 
 pub is_found : (key : Key) (records : List Record) (name : List ℕ) (binding : Binding) → IsBindingOf records binding key name → IsFound key records name binding
 is_found key records name binding is =
-    let (place, bound, found, kept) = found_in key.secret records binding (binding_in records name) is in
+    let (place, bound, found, kept) = found_in key.secret records binding (binding_at records name) is in
     record { place = place; bound = bound; found = found; stands = (binding_stands records name place bound found).0; is = kept }
 
 -- ---- the ends of a repeat
@@ -69,7 +69,7 @@ module _ {S R M : Type 0} (m : message.Ghosts M) (view : View S R) (before after
   unread fails = record {
     has_room = true;
     given = None;
-    step = λ limit. ap (λ f. (requested_of limit (state_of view) key name (repeat_chance true None) f).answer) found.found;
+    step = λ limit. ap (λ f. (requested_binding limit (state_of view) key name (repeat_chance true None) f).answer) found.found;
     message = fails;
     room = λ k bound at lacking. absurd (true≢false lacking);
   }
@@ -80,11 +80,11 @@ module _ {S R M : Type 0} (m : message.Ghosts M) (view : View S R) (before after
 
   step_judged : (limit : ℕ) (has_room : Bool) (text digest : List ℕ) (same : Bool) (damaged : Option ℕ) → IsDigest text digest
       → are_same digest binding.digest ≡ same
-      → damaged_in key (bottom_of key.secret) view.records (tree_before (bottom_of key.secret) view.records found.place) ≡ damaged
-      → (requested_of limit (state_of view) key name (repeat_chance has_room (Some text)) (binding_in view.records name)).answer
+      → damaged_at key (bottom_of key.secret) view.records (current_at (bottom_of key.secret) view.records found.place) ≡ damaged
+      → (requested_binding limit (state_of view) key name (repeat_chance has_room (Some text)) (binding_at view.records name)).answer
       ≡ (judged (state_of view) key found.place found.bound same has_room damaged).answer
   step_judged limit has_room text digest same damaged is compared chain =
-      ap (λ f. (requested_of limit (state_of view) key name (repeat_chance has_room (Some text)) f).answer) found.found
+      ap (λ f. (requested_binding limit (state_of view) key name (repeat_chance has_room (Some text)) f).answer) found.found
       ∙ ap₂ (λ b d. (judged (state_of view) key found.place found.bound b has_room d).answer)
       (ap₂ are_same is (ap (λ (kept : Binding). kept.digest) found.is) ∙ compared) chain
 
@@ -135,7 +135,7 @@ module _ {S R M : Type 0} (m : message.Ghosts M) (view : View S R) (before after
 
   pub damaged : {cached : Cached} (text digest : List ℕ) (slot : ℕ) → ReadWhole m.transition m.remaining text before after → IsDigest text digest
       → not (are_same digest binding.digest) ≡ false
-      → damaged_in key (bottom_of key.secret) view.records (tree_before (bottom_of key.secret) view.records found.place) ≡ Some slot
+      → damaged_at key (bottom_of key.secret) view.records (current_at (bottom_of key.secret) view.records found.place) ≡ Some slot
       → Repeats m (state_of view) cached before after capacity (Err (Damaged slot)) key name
   damaged text digest slot whole is same chain = record {
     has_room = true;
@@ -147,7 +147,7 @@ module _ {S R M : Type 0} (m : message.Ghosts M) (view : View S R) (before after
 
   pub signed : {cached : Cached} (text digest bytes : List ℕ) → ReadWhole m.transition m.remaining text before after → IsDigest text digest
       → not (are_same digest binding.digest) ≡ false
-      → damaged_in key (bottom_of key.secret) view.records (tree_before (bottom_of key.secret) view.records found.place) ≡ None
+      → damaged_at key (bottom_of key.secret) view.records (current_at (bottom_of key.secret) view.records found.place) ≡ None
       → bytes ≡ signature_at key view.records found.place found.bound
       → Repeats m (state_of view) cached before after capacity (Ok bytes) key name
   signed text digest bytes whole is same chain made = record {
@@ -174,8 +174,8 @@ same_size own key capacity is = subst (λ (k : Key). capacity < signature_size k
 -- ---- what answers a place as a fault
 
 -- a refusal is the answer, whatever the value
-pub refused_with : {A B : Type 0} (answer : Result A SignFault) (value : B) (fault : SignFault) → answer ≡ Err fault → Err fault ≡ answered_with answer value
-refused_with answer value fault is = ap (λ a. answered_with a value) (sym is)
+pub given_back : {A B : Type 0} (answer : Result A SignFault) (value : B) (fault : SignFault) → answer ≡ Err fault → Err fault ≡ answered_value answer value
+given_back answer value fault is = ap (λ a. answered_value a value) (sym is)
 
 -- the fault is `Damaged` of a place with P
 pub fault_of : {A : Type 0} (linked : Result A ℕ) (mapped : Result A SignFault) (fault : SignFault) (P : ℕ → Type 0)
@@ -202,7 +202,7 @@ linked_ok (Err k) mapped x P cases was is = absurd (subst (λ r. IsErrAnd r (λ 
 -- ---- XMSS
 
 -- the leaf is one of the tree's
-pub bound_xmss_leaf : (key : Key) (records : List Record) (name : List ℕ) (binding : Binding) (secret : XmssSecret) → IsLegal records → key_in records ≡ Some key
+pub bound_xmss_leaf : (key : Key) (records : List Record) (name : List ℕ) (binding : Binding) (secret : XmssSecret) → IsLegal records → the_key records ≡ Some key
     → IsXmssKey secret key → IsBindingOf records binding key name → binding.leaf < 2 ^ xmss_height_of secret.tree
 bound_xmss_leaf key records name binding secret legal keyed of_key kept =
     let found = is_found key records name binding kept in
@@ -210,20 +210,20 @@ bound_xmss_leaf key records name binding secret legal keyed of_key kept =
     (xmss_leaf_inside records key secret found.place found.bound legal keyed of_key found.stands)
 
 -- the key's chain, by all records
-xmss_chain : (records : List Record) (key : Key) (secret : XmssSecret) (k : ℕ) (P : Option ℕ → Type 0) → key_in records ≡ Some key → IsXmssKey secret key
-    → ((rest : List Record) → P (damaged_in key 0 (KeyRecord key ∷ rest) 0))
-    → P (damaged_in key (bottom_of key.secret) records (tree_before (bottom_of key.secret) records k))
+xmss_chain : (records : List Record) (key : Key) (secret : XmssSecret) (k : ℕ) (P : Option ℕ → Type 0) → the_key records ≡ Some key → IsXmssKey secret key
+    → ((rest : List Record) → P (damaged_at key 0 (KeyRecord key ∷ rest) 0))
+    → P (damaged_at key (bottom_of key.secret) records (current_at (bottom_of key.secret) records k))
 xmss_chain records key secret k P keyed of_key each =
     subst P (sym (xmss_damaged records key secret k of_key)) (key_chain records key P keyed each)
 
 -- the same for the tree of a binding
 pub xmss_bound_chain : (records : List Record) (key : Key) (secret : XmssSecret) (name : List ℕ) (binding : Binding) (P : Option ℕ → Type 0)
-    → key_in records ≡ Some key → IsXmssKey secret key → IsBindingOf records binding key name
-    → ((rest : List Record) → P (damaged_in key 0 (KeyRecord key ∷ rest) 0))
-    → P (damaged_in key (bottom_of key.secret) records binding.tree)
+    → the_key records ≡ Some key → IsXmssKey secret key → IsBindingOf records binding key name
+    → ((rest : List Record) → P (damaged_at key 0 (KeyRecord key ∷ rest) 0))
+    → P (damaged_at key (bottom_of key.secret) records binding.tree)
 xmss_bound_chain records key secret name binding P keyed of_key kept each =
     let found = is_found key records name binding kept in
-    subst (λ (b : Binding). P (damaged_in key (bottom_of key.secret) records b.tree)) found.is
+    subst (λ (b : Binding). P (damaged_at key (bottom_of key.secret) records b.tree)) found.is
     (xmss_chain records key secret found.place P keyed of_key each)
 
 -- the signature of a binding
@@ -236,7 +236,7 @@ xmss_bound_signed records key secret k bound binding bytes of_key is made =
 -- ---- LMS and HSS
 
 -- the tree of a binding stands at the bottom, and the leaf is one of its leaves
-pub bound_chain : (key : Key) (trees : Trees) (records : List Record) (name : List ℕ) (binding : Binding) → IsLegal records → key_in records ≡ Some key
+pub bound_chain : (key : Key) (trees : Trees) (records : List Record) (name : List ℕ) (binding : Binding) → IsLegal records → the_key records ≡ Some key
     → trees_of key.secret ≡ Some trees → IsBindingOf records binding key name
     → IsTreeAt records (bottom_of key.secret) binding.tree × (binding.leaf < 2 ^ height_of (secret_at trees records binding.tree).pair.tree)
 bound_chain key trees records name binding legal keyed these kept =
@@ -253,16 +253,16 @@ links_signs above last rest signs = map-append signing_of above (last ∷ []) �
 -- links that sign as a binding's chain does
 pub links_bound : (trees : Trees) (records : List Record) (level : ℕ) (secret : Secret) (k : ℕ) (bound : Bound) (binding : Binding) (signings : List Signing)
     → level ≡ bottom_of secret → kept_of secret records (k, bound) ≡ binding
-    → signings ≡ signings_above trees level records binding.tree
-    ++ signing_with (secret_at trees records binding.tree) binding.leaf binding.randomizer binding.digest ∷ []
-    → signings ≡ signings_above trees (bottom_of secret) records (tree_before (bottom_of secret) records k)
-    ++ signing_of_bound trees records (tree_before (bottom_of secret) records k) bound ∷ []
+    → signings ≡ chain_signings trees level records binding.tree
+    ++ leaf_signing (secret_at trees records binding.tree) binding.leaf binding.randomizer binding.digest ∷ []
+    → signings ≡ chain_signings trees (bottom_of secret) records (current_at (bottom_of secret) records k)
+    ++ signing_of_bound trees records (current_at (bottom_of secret) records k) bound ∷ []
 links_bound trees records level secret k bound binding signings level_is is signs =
     signs
-    ∙ ap (λ n. signings_above trees n records binding.tree
-    ++ signing_with (secret_at trees records binding.tree) binding.leaf binding.randomizer binding.digest ∷ []) level_is
-    ∙ ap (λ (b : Binding). signings_above trees (bottom_of secret) records b.tree
-    ++ signing_with (secret_at trees records b.tree) b.leaf b.randomizer b.digest ∷ []) (sym is)
+    ∙ ap (λ n. chain_signings trees n records binding.tree
+    ++ leaf_signing (secret_at trees records binding.tree) binding.leaf binding.randomizer binding.digest ∷ []) level_is
+    ∙ ap (λ (b : Binding). chain_signings trees (bottom_of secret) records b.tree
+    ++ leaf_signing (secret_at trees records b.tree) b.leaf b.randomizer b.digest ∷ []) (sym is)
 
 pub none_made : AreMade []
 none_made i link at = absurd (cc)
@@ -283,11 +283,11 @@ module _ (own key : Key) (ledger records : List Record) (name : List ℕ) (bindi
       ∙ ap₂ (λ (k : Key) l. digest_at k l found.place binding.leaf binding.randomizer text) (sym own_is) (sym same_records) ∙ sym is
 
   -- the chain of the tree that is kept is that of the one before the binding
-  pub found_chain : damaged_in own (bottom_of own.secret) ledger binding.tree
-      ≡ damaged_in key (bottom_of key.secret) records (tree_before (bottom_of key.secret) records found.place)
+  pub found_chain : damaged_at own (bottom_of own.secret) ledger binding.tree
+      ≡ damaged_at key (bottom_of key.secret) records (current_at (bottom_of key.secret) records found.place)
   found_chain =
-      ap₂ (λ (k : Key) l. damaged_in k (bottom_of k.secret) l binding.tree) own_is same_records
-      ∙ ap (damaged_in key (bottom_of key.secret) records) (sym (ap (λ (kept : Binding). kept.tree) found.is))
+      ap₂ (λ (k : Key) l. damaged_at k (bottom_of k.secret) l binding.tree) own_is same_records
+      ∙ ap (damaged_at key (bottom_of key.secret) records) (sym (ap (λ (kept : Binding). kept.tree) found.is))
 
   -- It is its signature, too.
   pub found_signature : signature_at own ledger found.place found.bound ≡ signature_at key records found.place found.bound

@@ -11,7 +11,7 @@ use Rattle.state_file.specs.declared.record.Record.TheVariants.{Key as KeyRecord
 use Rattle.state_file.specs.Laws.{IsLegal}
 use Rattle.sign_core.specs.declared.ledger.LedgerFault.{LedgerFault}
 use Rattle.sign_core.specs.declared.ledger.LedgerFault.TheVariants.{Empty, Illegal, OutOfMemory}
-use Rattle.sign_core.specs.Records.{can_follow, first_illegal, illegal_from, key_in}
+use Rattle.sign_core.specs.Records.{can_follow, first_illegal, next_illegal, the_key}
 use Rattle.sign_core.specs.Ledger.{IsRefused, Table}
 use Rattle.sign_core.specs.inner.Ledger.{TakesUp}
 use Rattle.sign_core.proofs.Follow.{key_stays}
@@ -26,17 +26,17 @@ use Rattle.sign_core.proofs.Lists.{take_with_next}
 pub first_illegal_longer : (records more : List Record) (k : ℕ) → first_illegal records ≡ Some k → first_illegal (records ++ more) ≡ Some k
 first_illegal_longer records more k is =
     illegal_append (records ++ more) 0 records more
-    ∙ ap (λ o. option_or o (illegal_from (records ++ more) (0 + length records) more)) (illegal_front records more 0 records (omega arith) ∙ is)
+    ∙ ap (λ o. option_or o (next_illegal (records ++ more) (0 + length records) more)) (illegal_front records more 0 records (omega arith) ∙ is)
 
 -- a record that can't follow legal ones is the first illegal one of every list that goes on with it
 pub first_illegal_there : (all : List Record) (m : ℕ) (entry : Record) → slice_get all m ≡ Some entry → IsLegal (take m all)
-    → can_follow (key_in (take m all)) (take m all) entry ≡ false → first_illegal all ≡ Some (length (take m all))
+    → can_follow (the_key (take m all)) (take m all) entry ≡ false → first_illegal all ≡ Some (length (take m all))
 first_illegal_there all m entry stands legal not =
     subst (λ l. first_illegal l ≡ Some (length (take m all))) (take-append-drop (suc m) all)
     (first_illegal_longer (take (suc m) all) (drop (suc m) all) (length (take m all))
     (ap first_illegal (take_with_next all m entry stands)
     ∙ first_illegal_appended (take m all) entry
-    ∙ ap (λ o. option_or o (cond (can_follow (key_in (take m all)) (take m all) entry) None (Some (length (take m all))))) (none_from_legal (take m all) legal)
+    ∙ ap (λ o. option_or o (cond (can_follow (the_key (take m all)) (take m all) entry) None (Some (length (take m all))))) (none_from_legal (take m all) legal)
     ∙ ap (λ b. cond b None (Some (length (take m all)))) not))
 
 -- ---- a ledger of a beginning
@@ -44,16 +44,16 @@ first_illegal_there all m entry stands legal not =
 -- the table has the first n records of a list
 pub record Holds (all : List Record) (n : ℕ) (table : Table) : Type 0 where
   pub taken : table.records ≡ take n all
-  pub keyed : key_in table.records ≡ Some table.key
+  pub keyed : the_key table.records ≡ Some table.key
   pub legal : IsLegal table.records
 
 pub holds_first : (all : List Record) (first : Record) (rest : List Record) (table : Table) → all ≡ first ∷ rest → table.records ≡ first ∷ []
-    → key_in (first ∷ []) ≡ Some table.key → Holds all 1 table
+    → the_key (first ∷ []) ≡ Some table.key → Holds all 1 table
 holds_first all first rest table begins alone keyed =
     let same : first ≡ KeyRecord table.key = same_Some first (KeyRecord table.key) (key_stands (first ∷ []) table.key keyed) in
     record {
       taken = alone ∙ sym (ap (take 1) begins);
-      keyed = ap key_in alone ∙ keyed;
+      keyed = ap the_key alone ∙ keyed;
       legal = subst IsLegal (sym (alone ∙ ap (λ e. e ∷ []) same)) (legal_alone table.key);
     }
 
@@ -67,7 +67,7 @@ holds_more all n old new entry done so_far stands (follows, grown) =
     let some : 0 < length old.records = slice_get_within old.records 0 (KeyRecord old.key) (key_stands old.records old.key so_far.keyed) in
     record {
       taken = grown.records ∙ ap (λ l. l ++ entry ∷ []) so_far.taken ∙ sym (take_with_next all n entry stands) ∙ ap (λ m. take m all) (sym (add-one n));
-      keyed = ap key_in grown.records ∙ key_stays old.records (entry ∷ []) some ∙ so_far.keyed ∙ ap Some (sym grown.key);
+      keyed = ap the_key grown.records ∙ key_stays old.records (entry ∷ []) some ∙ so_far.keyed ∙ ap Some (sym grown.key);
       legal = subst IsLegal (sym grown.records) (legal_with all n old entry so_far follows);
     }
 
@@ -78,8 +78,8 @@ pub holds_refused : (all : List Record) (n : ℕ) (old new : Table) (entry : Rec
     → slice_get all n ≡ Some entry → TakesUp old new entry (Err fault) → IsRefused all fault
 holds_refused all n old new entry Empty so_far some stands none = absurd none
 holds_refused all n old new entry (Illegal k) so_far some stands (not, is, stays) =
-    let fails : can_follow (key_in (take n all)) (take n all) entry ≡ false =
-    subst (λ l. can_follow (key_in l) l entry ≡ false) so_far.taken (ap (λ o. can_follow o old.records entry) so_far.keyed ∙ not) in
+    let fails : can_follow (the_key (take n all)) (take n all) entry ≡ false =
+    subst (λ l. can_follow (the_key l) l entry ≡ false) so_far.taken (ap (λ o. can_follow o old.records entry) so_far.keyed ∙ not) in
     first_illegal_there all n entry stands (subst IsLegal so_far.taken so_far.legal) fails ∙ ap (λ l. Some (length l)) (sym so_far.taken) ∙ ap Some (sym is)
 holds_refused all n old new entry OutOfMemory so_far some stands (follows, lacking, stays) =
     let within : n < length all = slice_get_within all n entry stands in

@@ -20,19 +20,19 @@ use Rattle.state_file.specs.declared.record.Secret.{Secret}
 use Rattle.sign_core.specs.declared.fault.SignFault.TheVariants.{Changed, Damaged, Exhausted, LedgerFull, MessageRead, OutOfMemory, RandomFailed, LongName}
 use Rattle.sign_core.specs.declared.fault.SignFault.TheVariants.{RandomRepeated, Stopped}
 use Rattle.sign_core.specs.declared.fault.SignFault.TheVariants.{Moved as MovedAway}
-use Rattle.sign_core.specs.Records.{are_same, binding_in, can_follow, current, deepest, free_at, has_identifier, has_moved, has_randomizer, is_long}
-use Rattle.sign_core.specs.Records.{is_free, key_in, next_at, next_in}
+use Rattle.sign_core.specs.Records.{are_same, binding_at, can_follow, current, deepest, free_at, has_identifier, has_moved, has_randomizer, is_long}
+use Rattle.sign_core.specs.Records.{is_free, the_key, next_at, next_leaf}
 use Rattle.sign_core.proofs.Found.{IsTreeDraw, new_bound, next_of}
 use Rattle.sign_core.specs.Records.{wanted_count}
 use Rattle.sign_core.specs.Events.{AreDraws, AreFields, tree_sizes}
 use Rattle.sign_core.specs.Headline.{IsBoundTo, IsRecorded}
 use Rattle.sign_core.specs.World.{Chance, Draw, Fate, Handed, Outcome, State, extend_record}
-use Rattle.sign_core.specs.inner.Cases.{bound_anew, bound_sound, bound_with, extended}
+use Rattle.sign_core.specs.inner.Cases.{bound_level, bound_sound, bound_message, extended}
 use Rattle.sign_core.specs.World.{first_draw}
-use Rattle.sign_core.specs.inner.Cases.{extended_by, extended_with, bound_below}
-use Rattle.sign_core.specs.World.{open_on, randomizer_from, requested}
-use Rattle.sign_core.specs.inner.Cases.{repeated, repeated_sound, requested_of, requested_under}
-use Rattle.sign_core.specs.Textbook.{HasSizes, Trees, damaged_in, digest_at, is_sound_extend, lms_secret, secret_at, signature_at, tree_before, trees_of}
+use Rattle.sign_core.specs.inner.Cases.{extended_identifier, extended_seed, bound_trees}
+use Rattle.sign_core.specs.World.{open_state, randomizer_of_fields, requested}
+use Rattle.sign_core.specs.inner.Cases.{repeated, repeated_sound, requested_binding, requested_key}
+use Rattle.sign_core.specs.Textbook.{HasSizes, Trees, damaged_at, digest_at, is_sound_extend, lms_secret, secret_at, signature_at, current_at, trees_of}
 use Rattle.sign_core.proofs.Append.{current_new, next_new, some_leaves}
 use Rattle.sign_core.proofs.Bindings.{binding_new, binding_other}
 use Rattle.sign_core.proofs.Leaves.{deepest_is}
@@ -62,7 +62,7 @@ free_current secret records level free =
     some_is (current level records) (free_test (is_some (current level records)) (leaves_at secret level) (next_at secret records level) free).0
 
 pub free_anew : (secret : Secret) (records : List Record) (level tree : ℕ) → level < levels_of secret → current level records ≡ Some tree
-    → next_in secret records tree ≡ 0
+    → next_leaf secret records tree ≡ 0
     → 0 < free_at secret records level
 free_anew secret records level tree inside is none =
     let some = some_leaves secret level inside in
@@ -73,9 +73,9 @@ free_anew secret records level tree inside is none =
 -- `below` levels still need a new tree, and the level above them has a free leaf.
 pub record IsReady (key : Key) (name : List ℕ) (below : ℕ) (records : List Record) (handed : List Handed) : Type 0 where
   pub kept : IsKept records handed
-  pub keyed : key_in records ≡ Some key
+  pub keyed : the_key records ≡ Some key
   pub stays : has_moved records ≡ false
-  pub unbound : binding_in records name ≡ None
+  pub unbound : binding_at records name ≡ None
   pub inside : below < levels_of key.secret
   pub free : 0 < free_at key.secret records (bottom_of key.secret - below)
 
@@ -83,7 +83,7 @@ pub record IsReady (key : Key) (name : List ℕ) (below : ℕ) (records : List R
 
 unfoldable pub extend_of : Trees → List Record → (level : ℕ) → LmsSecret → (randomizer : List ℕ) → (leaf : ℕ) → Extend
 extend_of trees records level secret randomizer leaf =
-    let parent = secret_at trees records (tree_before (level - 1) records (length records)) in
+    let parent = secret_at trees records (current_at (level - 1) records (length records)) in
     let public = public_of secret in
     record {
       level = level;
@@ -112,7 +112,7 @@ pub extend_sound : (trees : Trees) (records : List Record) (level leaf : ℕ) (i
 unfolding extend_of
 extend_sound trees records level leaf identifier seed randomizer =
     let public = public_of (lms_secret (slice_index_or trees.pairs level trees.top.pair) identifier seed) in
-    let parent = secret_at trees records (tree_before (level - 1) records (length records)) in
+    let parent = secret_at trees records (current_at (level - 1) records (length records)) in
     and_from _ _ (same_bytes public.root) (same_bytes (message_digest_of parent.identifier leaf randomizer (public_bytes public)))
 
 pub extend_sizes : (trees : Trees) (records : List Record) (level leaf : ℕ) (secret : LmsSecret) (randomizer : List ℕ) → length secret.identifier ≡ 16
@@ -154,58 +154,58 @@ extend_ready key name below records handed trees identifier seed randomizer read
           (next_new key.secret records entry (some_keyed records key ready.keyed));
     }
 
-kept_with : (key : Key) (name : List ℕ) (given : Option (List ℕ)) (below : ℕ) (records : List Record) (handed : List Handed) (trees : Trees)
+kept_seed : (key : Key) (name : List ℕ) (given : Option (List ℕ)) (below : ℕ) (records : List Record) (handed : List Handed) (trees : Trees)
     (identifier : List ℕ)
     (fields : List (List ℕ)) (fate : Fate) (next : List Record → Outcome (List ℕ)) → IsReady key name (suc below) records handed
     → trees_of key.secret ≡ Some trees
     → AreFields tree_sizes (identifier ∷ fields) → has_identifier records identifier ≡ false
     → ((all : List Record) → IsReady key name below all handed → Keeps handed name given (next all))
     → (let level = bottom_of key.secret - below in
-    Keeps handed name given (extended_with (open_on records) trees level (next_at key.secret records (level - 1)) identifier fields fate next))
-kept_with key name given below records handed trees identifier [] fate next ready are drawn new later = kept_refused
-    (open_on records) handed name given RandomFailed ready.kept
-kept_with key name given below records handed trees identifier (seed ∷ []) fate next ready are drawn new later =
-    kept_refused (open_on records) handed name given RandomFailed ready.kept
-kept_with key name given below records handed trees identifier (seed ∷ randomizer ∷ []) fate next ready are drawn new later =
+    Keeps handed name given (extended_seed (open_state records) trees level (next_at key.secret records (level - 1)) identifier fields fate next))
+kept_seed key name given below records handed trees identifier [] fate next ready are drawn new later = kept_refused
+    (open_state records) handed name given RandomFailed ready.kept
+kept_seed key name given below records handed trees identifier (seed ∷ []) fate next ready are drawn new later =
+    kept_refused (open_state records) handed name given RandomFailed ready.kept
+kept_seed key name given below records handed trees identifier (seed ∷ randomizer ∷ []) fate next ready are drawn new later =
     let more = extend_ready key name below records handed trees identifier seed randomizer ready are drawn new in
-    kept_append (open_on records) handed name given _ fate next ready.kept more.kept (later _ more)
-kept_with key name given below records handed trees identifier (seed ∷ randomizer ∷ extra ∷ rest) fate next ready are drawn new later =
-    kept_refused (open_on records) handed name given RandomFailed ready.kept
+    kept_append (open_state records) handed name given _ fate next ready.kept more.kept (later _ more)
+kept_seed key name given below records handed trees identifier (seed ∷ randomizer ∷ extra ∷ rest) fate next ready are drawn new later =
+    kept_refused (open_state records) handed name given RandomFailed ready.kept
 
-kept_by : (key : Key) (name : List ℕ) (given : Option (List ℕ)) (below : ℕ) (records : List Record) (handed : List Handed) (trees : Trees)
+kept_identifier : (key : Key) (name : List ℕ) (given : Option (List ℕ)) (below : ℕ) (records : List Record) (handed : List Handed) (trees : Trees)
     (fields : List (List ℕ)) (fate : Fate) (next : List Record → Outcome (List ℕ)) → IsReady key name (suc below) records handed
     → trees_of key.secret ≡ Some trees
     → AreFields tree_sizes fields → ((all : List Record) → IsReady key name below all handed → Keeps handed name given (next all))
     → (let level = bottom_of key.secret - below in
-    Keeps handed name given (extended_by (open_on records) trees level (next_at key.secret records (level - 1)) fields fate next))
-kept_by key name given below records handed trees [] fate next ready are drawn later = kept_refused (open_on records) handed name given RandomFailed ready.kept
-kept_by key name given below records handed trees (identifier ∷ fields) fate next ready are drawn later =
+    Keeps handed name given (extended_identifier (open_state records) trees level (next_at key.secret records (level - 1)) fields fate next))
+kept_identifier key name given below records handed trees [] fate next ready are drawn later = kept_refused (open_state records) handed name given RandomFailed ready.kept
+kept_identifier key name given below records handed trees (identifier ∷ fields) fate next ready are drawn later =
     kept_choice (Keeps handed name given) (has_identifier records identifier) _ _
-    (λ there. kept_refused (open_on records) handed name given RandomRepeated ready.kept)
-    (λ new. kept_with key name given below records handed trees identifier fields fate next ready are drawn new later)
+    (λ there. kept_refused (open_state records) handed name given RandomRepeated ready.kept)
+    (λ new. kept_seed key name given below records handed trees identifier fields fate next ready are drawn new later)
 
 kept_extended : (key : Key) (name : List ℕ) (given : Option (List ℕ)) (below : ℕ) (records : List Record) (handed : List Handed) (trees : Option Trees)
     (draw : Draw) (next : List Record → Outcome (List ℕ)) → IsReady key name (suc below) records handed → trees_of key.secret ≡ trees
     → IsTreeDraw draw → ((all : List Record) → IsReady key name below all handed → Keeps handed name given (next all))
-    → Keeps handed name given (extended (open_on records) key (bottom_of key.secret - below) trees draw next)
+    → Keeps handed name given (extended (open_state records) key (bottom_of key.secret - below) trees draw next)
 kept_extended key name given below records handed None draw next ready are drawn later = kept_refused
-    (open_on records) handed name given RandomFailed ready.kept
+    (open_state records) handed name given RandomFailed ready.kept
 kept_extended key name given below records handed (Some trees) draw next ready are drawn later =
-    kept_by key name given below records handed trees draw.fields draw.fate next ready are drawn later
+    kept_identifier key name given below records handed trees draw.fields draw.fate next ready are drawn later
 
 -- ---- a new binding
 
 pub bound_can : (key : Key) (records : List Record) (bound : Bound) → has_moved records ≡ false
     → is_free key.secret records (bottom_of key.secret) bound.leaf ≡ true
-    → binding_in records bound.name ≡ None → has_randomizer key.secret bound.randomizer ≡ true → can_follow (Some key) records (BoundRecord bound) ≡ true
+    → binding_at records bound.name ≡ None → has_randomizer key.secret bound.randomizer ≡ true → can_follow (Some key) records (BoundRecord bound) ≡ true
 bound_can key records bound stays free unbound drawn =
     and_from _ _ (not_from_false _ stays) (and_from _ _ (and_from _ _ free (not_from_false _ (ap is_some unbound))) drawn)
 
 kept_bound : (key : Key) (name : List ℕ) (given : Option (List ℕ)) (records : List Record) (handed : List Handed) (randomizer : Option (List ℕ)) (fate : Fate)
     → IsReady key name 0 records handed → ((drawn : List ℕ) → randomizer ≡ Some drawn → (length drawn ≡ 32) × (has_randomizer key.secret drawn ≡ true))
-    → Keeps handed name given (bound_with (open_on records) key name randomizer given fate)
-kept_bound key name given records handed None fate ready drawn = kept_refused (open_on records) handed name given RandomFailed ready.kept
-kept_bound key name None records handed (Some randomizer) fate ready drawn = kept_refused (open_on records) handed name None MessageRead ready.kept
+    → Keeps handed name given (bound_message (open_state records) key name randomizer given fate)
+kept_bound key name given records handed None fate ready drawn = kept_refused (open_state records) handed name given RandomFailed ready.kept
+kept_bound key name None records handed (Some randomizer) fate ready drawn = kept_refused (open_state records) handed name None MessageRead ready.kept
 kept_bound key name (Some message) records handed (Some randomizer) fate ready drawn =
     let bottom = bottom_of key.secret in
     let leaf = next_at key.secret records bottom in
@@ -232,7 +232,7 @@ kept_bound key name (Some message) records handed (Some randomizer) fate ready d
       };
       signature = refl;
     } in
-    kept_append (open_on records) handed name (Some message) entry fate _ ready.kept more (kept_handed all handed x more is)
+    kept_append (open_state records) handed name (Some message) entry fate _ ready.kept more (kept_handed all handed x more is)
 
 -- ---- all new records
 
@@ -247,9 +247,9 @@ later_drawn (draw ∷ draws) all = all.1
 kept_bound_below : (key : Key) (name : List ℕ) (chance : Chance) (handed : List Handed) (below : ℕ) (draws : List Draw) (records : List Record)
     → AllByRecursion IsTreeDraw draws
     → AreFields (32 ∷ []) chance.bound.fields → IsReady key name below records handed
-    → Keeps handed name chance.given (bound_below key name chance below draws records)
+    → Keeps handed name chance.given (bound_trees key name chance below draws records)
 kept_bound_below key name chance handed zero draws records trees bound ready =
-    kept_bound key name chance.given records handed (randomizer_from key.secret chance.bound.fields) chance.bound.fate ready
+    kept_bound key name chance.given records handed (randomizer_of_fields key.secret chance.bound.fields) chance.bound.fate ready
     (λ drawn is. randomizer_size key.secret chance.bound.fields drawn bound is)
 kept_bound_below key name chance handed (suc below) draws records trees bound ready =
     kept_extended key name chance.given below records handed (trees_of key.secret) (first_draw draws) _ ready refl (first_drawn draws trees)
@@ -261,12 +261,12 @@ kept_sound state handed key name chance level (Some slot) drawn ready = kept_ref
 kept_sound state handed key name chance level None drawn ready =
     kept_bound_below key name chance handed (bottom_of key.secret - level) chance.trees state.records drawn.trees drawn.bound ready
 
-kept_anew : (limit : ℕ) (state : State) (handed : List Handed) (key : Key) (name : List ℕ) (chance : Chance) (level : Option ℕ) → AreDraws chance
+kept_level : (limit : ℕ) (state : State) (handed : List Handed) (key : Key) (name : List ℕ) (chance : Chance) (level : Option ℕ) → AreDraws chance
     → IsKept state.records handed
-    → key_in state.records ≡ Some key → has_moved state.records ≡ false → binding_in state.records name ≡ None → deepest key.secret state.records ≡ level
-    → Keeps handed name chance.given (bound_anew limit state key name chance level)
-kept_anew limit state handed key name chance None drawn kept keyed stays unbound is = kept_refused state handed name chance.given Exhausted kept
-kept_anew limit state handed key name chance (Some level) drawn kept keyed stays unbound is =
+    → the_key state.records ≡ Some key → has_moved state.records ≡ false → binding_at state.records name ≡ None → deepest key.secret state.records ≡ level
+    → Keeps handed name chance.given (bound_level limit state key name chance level)
+kept_level limit state handed key name chance None drawn kept keyed stays unbound is = kept_refused state handed name chance.given Exhausted kept
+kept_level limit state handed key name chance (Some level) drawn kept keyed stays unbound is =
     let (inside, free, others) = deepest_is key.secret state.records level is in
     let place : level ≡ bottom_of key.secret - (bottom_of key.secret - level) = omega (arith, inside) in
     let ready : IsReady key name (bottom_of key.secret - level) state.records handed = record {
@@ -281,7 +281,7 @@ kept_anew limit state handed key name chance (Some level) drawn kept keyed stays
     (λ full. kept_refused state handed name chance.given LedgerFull kept)
     (λ fits. kept_choice (Keeps handed name chance.given) (not chance.has_room) _ _ (λ none. kept_refused state handed name chance.given OutOfMemory kept)
     (λ room. kept_sound state handed key name chance level
-    (damaged_in key level state.records (tree_before level state.records (length state.records))) drawn ready))
+    (damaged_at key level state.records (current_at level state.records (length state.records))) drawn ready))
 
 -- ---- a name that is bound
 
@@ -298,7 +298,7 @@ kept_repeated_sound state handed key name message k bound None kept is =
 
 kept_repeated : (state : State) (handed : List Handed) (key : Key) (name : List ℕ) (k : ℕ) (bound : Bound) (chance : Chance) (given : Option (List ℕ))
     → IsKept state.records handed
-    → key_in state.records ≡ Some key → binding_in state.records name ≡ Some (k, bound) → Keeps handed name given (repeated state key k bound chance given)
+    → the_key state.records ≡ Some key → binding_at state.records name ≡ Some (k, bound) → Keeps handed name given (repeated state key k bound chance given)
 kept_repeated state handed key name k bound chance None kept keyed named = kept_refused state handed name None MessageRead kept
 kept_repeated state handed key name k bound chance (Some message) kept keyed named =
     let digest = digest_at key state.records k bound.leaf bound.randomizer message in
@@ -312,24 +312,24 @@ kept_repeated state handed key name k bound chance (Some message) kept keyed nam
 
 kept_of : (limit : ℕ) (state : State) (handed : List Handed) (key : Key) (name : List ℕ) (chance : Chance) (found : Option (ℕ × Bound)) → AreDraws chance
     → IsKept state.records handed
-    → key_in state.records ≡ Some key → has_moved state.records ≡ false → binding_in state.records name ≡ found
-    → Keeps handed name chance.given (requested_of limit state key name chance found)
+    → the_key state.records ≡ Some key → has_moved state.records ≡ false → binding_at state.records name ≡ found
+    → Keeps handed name chance.given (requested_binding limit state key name chance found)
 kept_of limit state handed key name chance (Some (k, bound)) drawn kept keyed stays is = kept_repeated state handed key name k bound chance chance.given
     kept keyed is
 kept_of limit state handed key name chance None drawn kept keyed stays is =
     kept_choice (Keeps handed name chance.given) (is_long key name) _ _ (λ long. kept_refused state handed name chance.given LongName kept)
-    (λ short. kept_anew limit state handed key name chance (deepest key.secret state.records) drawn kept keyed stays is refl)
+    (λ short. kept_level limit state handed key name chance (deepest key.secret state.records) drawn kept keyed stays is refl)
 
-kept_under : (limit : ℕ) (state : State) (handed : List Handed) (name : List ℕ) (chance : Chance) (found : Option Key) → AreDraws chance
+kept_key : (limit : ℕ) (state : State) (handed : List Handed) (name : List ℕ) (chance : Chance) (found : Option Key) → AreDraws chance
     → IsKept state.records handed
-    → key_in state.records ≡ found → Keeps handed name chance.given (requested_under limit state name chance found)
-kept_under limit state handed name chance None drawn kept keyed = kept_refused state handed name chance.given Stopped kept
-kept_under limit state handed name chance (Some key) drawn kept keyed =
+    → the_key state.records ≡ found → Keeps handed name chance.given (requested_key limit state name chance found)
+kept_key limit state handed name chance None drawn kept keyed = kept_refused state handed name chance.given Stopped kept
+kept_key limit state handed name chance (Some key) drawn kept keyed =
     kept_choice (Keeps handed name chance.given) (not state.is_open) _ _ (λ closed. kept_refused state handed name chance.given Stopped kept)
     (λ open_now. kept_choice (Keeps handed name chance.given) (has_moved state.records) _ _
     (λ moved. kept_refused state handed name chance.given MovedAway kept)
-    (λ stays. kept_of limit state handed key name chance (binding_in state.records name) drawn kept keyed stays refl))
+    (λ stays. kept_of limit state handed key name chance (binding_at state.records name) drawn kept keyed stays refl))
 
 pub kept_request : (limit : ℕ) (state : State) (handed : List Handed) (name : List ℕ) (chance : Chance) → AreDraws chance → IsKept state.records handed
     → Keeps handed name chance.given (requested limit state name chance)
-kept_request limit state handed name chance drawn kept = kept_under limit state handed name chance (key_in state.records) drawn kept refl
+kept_request limit state handed name chance drawn kept = kept_key limit state handed name chance (the_key state.records) drawn kept refl

@@ -15,12 +15,12 @@ use Rattle.sign_core.specs.declared.fault.SignFault.{SignFault}
 use Rattle.sign_core.specs.declared.fault.SignFault.TheVariants.{RandomRepeated, MessageRead, Moved, RetireRange, LongName, NoKey, Illegal, DeviceFailed, NoMemoryToOpen}
 use Rattle.sign_core.specs.declared.fault.SignFault.TheVariants.{Changed, Exhausted, RandomFailed, StoreFailed, Stopped, Damaged, OutOfMemory, LedgerFull}
 use Rattle.sign_core.specs.declared.fault.SignFault.TheVariants.{Unreadable, KeyThere}
-use Rattle.sign_core.specs.Records.{has_moved, key_in, leaves_of_current, next_at}
+use Rattle.sign_core.specs.Records.{has_moved, the_key, leaves_of_current, next_at}
 use Rattle.sign_core.specs.Cuts.{IsBeginning}
 use Rattle.sign_core.specs.inner.Signer.{Hinders, added}
 use Rattle.sign_core.specs.Signer.{IsSigner, IsTied, Retires, View, is_out_of_memory, is_store_failed, state_of}
 use Rattle.sign_core.specs.World.{Fate, Outcome, State, acked, answered, refused, retired}
-use Rattle.sign_core.specs.inner.Cases.{retired_under}
+use Rattle.sign_core.specs.inner.Cases.{retired_key}
 use Rattle.sign_core.proofs.Adding.{LeavesItsList}
 
 -- a retiring, by what refuses it
@@ -33,33 +33,33 @@ judged state upto fate closed moved range done full =
     else (if full then refused state LedgerFull
     else added state (Retire upto) fate))))
 
-retired_judged : (limit : ℕ) (state : State) (upto : ℕ) (fate : Fate) (key : Key) → key_in state.records ≡ Some key
+retired_judged : (limit : ℕ) (state : State) (upto : ℕ) (fate : Fate) (key : Key) → the_key state.records ≡ Some key
     → retired limit state upto fate ≡ judged state upto fate (not state.is_open) (has_moved state.records) (nat_lt (leaves_of_current key.secret state.records
     (bottom_of key.secret)) upto) (nat_le upto (next_at key.secret state.records (bottom_of key.secret))) (nat_lt limit (length state.records + 1))
-retired_judged limit state upto fate key keyed = ap (retired_under limit state upto fate) keyed
+retired_judged limit state upto fate key keyed = ap (retired_key limit state upto fate) keyed
 
 along : {a a' b b' c c' d d' e e' : Bool} (state : State) (upto : ℕ) (fate : Fate) → a ≡ a' → b ≡ b' → c ≡ c' → d ≡ d' → e ≡ e'
     → judged state upto fate a b c d e ≡ judged state upto fate a' b' c' d' e'
 along state upto fate h k l m n = λ i. judged state upto fate (h i) (k i) (l i) (m i) (n i)
 
-pub closed_step : (limit : ℕ) (state : State) (upto : ℕ) (fate : Fate) (key : Key) → key_in state.records ≡ Some key → state.is_open ≡ false
+pub closed_step : (limit : ℕ) (state : State) (upto : ℕ) (fate : Fate) (key : Key) → the_key state.records ≡ Some key → state.is_open ≡ false
     → retired limit state upto fate ≡ refused state Stopped
 closed_step limit state upto fate key keyed shut = retired_judged limit state upto fate key keyed ∙ along state upto fate (ap not shut) refl refl refl refl
 
-pub moved_step : (limit : ℕ) (state : State) (upto : ℕ) (fate : Fate) (key : Key) → key_in state.records ≡ Some key → state.is_open ≡ true
+pub moved_step : (limit : ℕ) (state : State) (upto : ℕ) (fate : Fate) (key : Key) → the_key state.records ≡ Some key → state.is_open ≡ true
     → has_moved state.records ≡ true
     → retired limit state upto fate ≡ refused state Moved
 moved_step limit state upto fate key keyed opened moved = retired_judged limit state upto fate key keyed
     ∙ along state upto fate (ap not opened) moved refl refl refl
 
-pub range_step : (limit : ℕ) (state : State) (upto : ℕ) (fate : Fate) (key : Key) → key_in state.records ≡ Some key → state.is_open ≡ true
+pub range_step : (limit : ℕ) (state : State) (upto : ℕ) (fate : Fate) (key : Key) → the_key state.records ≡ Some key → state.is_open ≡ true
     → has_moved state.records ≡ false
     → leaves_of_current key.secret state.records (bottom_of key.secret) < upto → retired limit state upto fate ≡ refused state RetireRange
 range_step limit state upto fate key keyed opened stays past =
     let range : nat_lt (leaves_of_current key.secret state.records (bottom_of key.secret)) upto ≡ true = grind (arith, nat_tests) in
     retired_judged limit state upto fate key keyed ∙ along state upto fate (ap not opened) stays range refl refl
 
-pub done_step : (limit : ℕ) (state : State) (upto : ℕ) (fate : Fate) (key : Key) → key_in state.records ≡ Some key → state.is_open ≡ true
+pub done_step : (limit : ℕ) (state : State) (upto : ℕ) (fate : Fate) (key : Key) → the_key state.records ≡ Some key → state.is_open ≡ true
     → has_moved state.records ≡ false
     → upto ≤ leaves_of_current key.secret state.records (bottom_of key.secret) → upto ≤ next_at key.secret state.records (bottom_of key.secret)
     → retired limit state upto fate ≡ answered state tt
@@ -115,7 +115,7 @@ left_retires g v upto answer signer only step failures refusals = record {
 
 pub hindered_retires : {S R : Type 0} (g : store.Ghosts S) (v : View S R) (upto : ℕ) (key : Key) (fault : SignFault) → IsSigner g v
     → LeavesItsList g v.store
-    → key_in v.records ≡ Some key → Hinders v.is_open (has_moved v.records) fault → Retires g v v upto (Err fault)
+    → the_key v.records ≡ Some key → Hinders v.is_open (has_moved v.records) fault → Retires g v v upto (Err fault)
 hindered_retires g v upto key Stopped signer only keyed why =
     left_retires g v upto (Err Stopped) signer only (λ fate. closed_step (g.most v.store) (state_of v) upto fate key keyed why) (λ n. refl) (λ n. refl)
 hindered_retires g v upto key Moved signer only keyed why =

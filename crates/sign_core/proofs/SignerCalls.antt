@@ -27,21 +27,21 @@ use Rattle.sign_core.specs.declared.source.Source as source
 use Rattle.sign_core.specs.Calls.{IsLastingCall}
 use Rattle.sign_core.specs.Events.{IsEvent}
 use Rattle.sign_core.specs.Cuts.{IsBeginning, reached}
-use Rattle.sign_core.specs.Records.{first_illegal, key_in}
+use Rattle.sign_core.specs.Records.{first_illegal, the_key}
 use Rattle.sign_core.specs.Signer.{Creates, IsAnswered, IsRead, IsSigner, LoadFails, Opens, Retires, Signs, StopsOpening, View, is_before_draws, is_fault, is_of_append}
-use Rattle.sign_core.specs.Signer.{state_of, store_after}
+use Rattle.sign_core.specs.Signer.{state_of, store_of_result}
 use Rattle.sign_core.specs.SignerCalls.{AreClosed, HandsOut, IsAfter, IsEventOf, IsOpenSigner, IsRefusedCall, IsRefusedOpening, IsRunning, OpensIn, OpensInWorld, RetiresInWorld, SignerLaw, SignsInWorld, world_of}
-use Rattle.sign_core.specs.Textbook.{public_in}
-use Rattle.sign_core.specs.World.{Chance, Creation, Event, Fate, Handed, Opening, Outcome, State, World, acked, after, appended, closed_on, create, created}
+use Rattle.sign_core.specs.Textbook.{any_public_of}
+use Rattle.sign_core.specs.World.{Chance, Creation, Event, Fate, Handed, Opening, Outcome, State, World, acked, after, appended, closed_state, create, created}
 use Rattle.sign_core.specs.inner.Cases.{begun}
-use Rattle.sign_core.specs.World.{cut_new, cut_old, handed_with, new_key, no_memory, opened, refused}
-use Rattle.sign_core.specs.inner.Cases.{created_after, opened_by, opened_on, published}
-use Rattle.sign_core.specs.World.{reopen, request, requested, retire, retired, secret_from}
+use Rattle.sign_core.specs.World.{cut_new, cut_old, newly_handed, new_key, no_memory, opened, refused}
+use Rattle.sign_core.specs.inner.Cases.{created_load, opened_illegal, opened_key, published}
+use Rattle.sign_core.specs.World.{reopen, request, requested, retire, retired, secret_of_fields}
 use Rattle.sign_core.proofs.Acknowledged.{open_acknowledged}
 use Rattle.sign_core.proofs.Adding.{LeavesItsList}
 use Rattle.sign_core.proofs.Calls.{draws_of, opened_reaches}
 use Rattle.sign_core.proofs.DrawnAgain.{signed_read}
-use Rattle.sign_core.proofs.OnceParts.{closed_retires, closed_under}
+use Rattle.sign_core.proofs.OnceParts.{closed_retires, closed_key}
 use Rattle.state_file.specs.declared.record.Version.{Version}
 
 state_is : {S R : Type 0} (new : View S R) (state : State) → state.records ≡ new.records → state.is_open ≡ new.is_open → state ≡ state_of new
@@ -70,11 +70,11 @@ text_read m false given before later some is read = absurd (cc)
 hands_out : {M : Type 0} (m : message.Ghosts M) (name : List ℕ) (given : Option (List ℕ)) (is_read : Bool) (before later : M)
     (answer : Result (List ℕ) SignFault) (handed : List Handed)
     → ((signature : List ℕ) → answer ≡ Ok signature → IsSome given × (is_read ≡ true)) → IsRead m is_read given before later
-    → HandsOut m name before later answer handed (handed ++ handed_with name given answer)
+    → HandsOut m name before later answer handed (handed ++ newly_handed name given answer)
 hands_out m name given is_read before later (Ok signature) handed reads read =
     let (some, is) = reads signature refl in
     let (text, same, whole) = text_read m is_read given before later some is read in
-    (text, whole, ap (λ g. handed ++ handed_with name g (Ok signature)) same)
+    (text, whole, ap (λ g. handed ++ newly_handed name g (Ok signature)) same)
 hands_out m name None is_read before later (Err fault) handed reads read = append-nil handed
 hands_out m name (Some text) is_read before later (Err fault) handed reads read = append-nil handed
 
@@ -109,7 +109,7 @@ signs_in g r m old new name before later capacity answer handed signer is_name s
       leaves = is_after new (after limit world event) mine signs.answers.outcome signs.answers.step refl
           (open_acknowledged limit world event) signs.answers.ends.records signs.answers.ends.is_open;
       hands = subst (λ a. HandsOut m name before later a handed
-          (handed ++ handed_with name signs.answers.chance.given mine.answer)) answers out;
+          (handed ++ newly_handed name signs.answers.chance.given mine.answer)) answers out;
     }
 
 retires_in : {S R : Type 0} (g : store.Ghosts S) (old new : View S R) (upto : ℕ) (answer : Result (Unit {0}) SignFault) (handed : List Handed)
@@ -132,7 +132,7 @@ retires_in g old new upto answer handed signer retires =
 -- ---- calls of a closed signer
 
 nothing_handed : (handed : List Handed) (name : List ℕ) (given : Option (List ℕ)) (fault : SignFault)
-    → handed ++ handed_with name given (Err fault) ≡ handed
+    → handed ++ newly_handed name given (Err fault) ≡ handed
 nothing_handed handed name None fault = append-nil handed
 nothing_handed handed name (Some text) fault = append-nil handed
 
@@ -140,14 +140,14 @@ nothing_handed handed name (Some text) fault = append-nil handed
 request_stays : (limit : ℕ) (world : World) (name : List ℕ) (chance : Chance) → world.state.is_open ≡ false
     → after limit world (request name chance) ≡ world
 request_stays limit world name chance closed =
-    ap (λ (o : Outcome (List ℕ)). record { state = o.state; handed = world.handed ++ handed_with name chance.given o.answer })
-    (closed_under limit world.state name chance (key_in world.state.records) closed)
+    ap (λ (o : Outcome (List ℕ)). record { state = o.state; handed = world.handed ++ newly_handed name chance.given o.answer })
+    (closed_key limit world.state name chance (the_key world.state.records) closed)
     ∙ ap (λ handed. record { state = world.state; handed = handed }) (nothing_handed world.handed name chance.given Stopped)
 
 retire_stays : (limit : ℕ) (world : World) (upto : ℕ) (fate : Fate) → world.state.is_open ≡ false → after limit world (retire upto fate) ≡ world
 retire_stays limit world upto fate closed =
     ap (λ (o : Outcome (Unit {0})). record { state = o.state; handed = world.handed })
-    (closed_retires limit world.state upto fate (key_in world.state.records) closed)
+    (closed_retires limit world.state upto fate (the_key world.state.records) closed)
 
 refuses_in : {S R M : Type 0} (g : store.Ghosts S) (r : source.Ghosts R) (m : message.Ghosts M) (old new : View S R) (name : List ℕ) (before later : M)
     (capacity : ℕ) (answer : Result (List ℕ) SignFault) (world : World) → AreClosed old world → IsName name
@@ -156,7 +156,7 @@ refuses_in : {S R M : Type 0} (g : store.Ghosts S) (r : source.Ghosts R) (m : me
 refuses_in g r m old new name before later capacity answer world closed is_name signs =
     let limit = g.most old.store in
     let is : refused (state_of old) Stopped ≡ signs.answers.outcome =
-    sym (closed_under limit (state_of old) name signs.answers.chance (key_in old.records) closed.is_closed)
+    sym (closed_key limit (state_of old) name signs.answers.chance (the_key old.records) closed.is_closed)
     ∙ signs.answers.step in
     let answer_is : answer ≡ Err Stopped =
     sym (ap (λ (o : Outcome (List ℕ)). o.answer) is ∙ signs.answers.ends.answer_is) in
@@ -177,7 +177,7 @@ refuses_to_retire : {S R : Type 0} (g : store.Ghosts S) (old new : View S R) (up
 refuses_to_retire g old new upto answer world closed retires =
     let limit = g.most old.store in
     let is : refused (state_of old) Stopped ≡ retires.outcome =
-    sym (closed_retires limit (state_of old) upto retires.fate (key_in old.records) closed.is_closed) ∙ retires.step in
+    sym (closed_retires limit (state_of old) upto retires.fate (the_key old.records) closed.is_closed) ∙ retires.step in
     let answer_is : answer ≡ Err Stopped = sym (ap (λ (o : Outcome (Unit {0})). o.answer) is ∙ retires.ends.answer_is) in
     let records : new.records ≡ old.records = retires.ends.records ∙ sym (ap (λ (o : Outcome (Unit {0})). o.acknowledged) is) in
     let same : new ≡ old = retires.stays records (ap (is_fault is_of_append) answer_is) in
@@ -197,7 +197,7 @@ abbrev OpenBy : {A : Type 0} → Outcome A → Type 0
 OpenBy outcome = ((a : _) → outcome.answer ≡ Ok a → outcome.state.is_open ≡ true)
     × ((fault : SignFault) → outcome.answer ≡ Err fault → outcome.state.is_open ≡ false)
 
-open_refused : {A : Type 0} (records : List Record) (fault : SignFault) → OpenBy {A = A} (refused (closed_on records) fault)
+open_refused : {A : Type 0} (records : List Record) (fault : SignFault) → OpenBy {A = A} (refused (closed_state records) fault)
 open_refused records fault = (λ a is. absurd (cc), λ other is. refl)
 
 open_published : (records : List Record) (public : Option AnyPublic) → OpenBy (published records public)
@@ -209,49 +209,49 @@ open_choice true x y first second = first
 open_choice false x y first second = second
 
 open_append : {A : Type 0} (records : List Record) (entry : Record) (fate : Fate) (next : List Record → Outcome A) → ((all : List Record) → OpenBy (next all))
-    → OpenBy (appended (closed_on records) entry fate next)
+    → OpenBy (appended (closed_state records) entry fate next)
 open_append records entry acked next later = later (records ++ entry ∷ [])
 open_append records entry cut_old next later = (λ a is. absurd (cc), λ other is. refl)
 open_append records entry cut_new next later = (λ a is. absurd (cc), λ other is. refl)
 open_append records entry no_memory next later = open_refused records OutOfMemory
 
-open_begun : (records : List Record) (chance : Creation) (secret : Option Secret) → OpenBy (begun (closed_on records) chance secret)
+open_begun : (records : List Record) (chance : Creation) (secret : Option Secret) → OpenBy (begun (closed_state records) chance secret)
 open_begun records chance None = open_refused records RandomFailed
 open_begun records chance (Some secret) = open_choice (not chance.has_room) _ _ (open_refused records OutOfMemory)
-    (open_append records (KeyRecord (new_key chance.version secret)) chance.fate _ (λ all. open_published all (public_in (new_key chance.version secret))))
+    (open_append records (KeyRecord (new_key chance.version secret)) chance.fate _ (λ all. open_published all (any_public_of (new_key chance.version secret))))
 
-open_created : (failed : Option SignFault) (records : List Record) (spec : Spec) (chance : Creation) → OpenBy (created_after failed (closed_on records) spec chance)
+open_created : (failed : Option SignFault) (records : List Record) (spec : Spec) (chance : Creation) → OpenBy (created_load failed (closed_state records) spec chance)
 open_created (Some fault) records spec chance = open_refused records fault
 open_created None records spec chance = open_choice (nat_le 1 (length records)) _ _ (open_refused records KeyThere)
-    (open_begun records chance (secret_from spec chance.fields))
+    (open_begun records chance (secret_of_fields spec chance.fields))
 
-open_on_key : (records : List Record) (found : Option Key) → OpenBy (opened_on records found)
+open_on_key : (records : List Record) (found : Option Key) → OpenBy (opened_key records found)
 open_on_key records None = open_refused records NoKey
-open_on_key records (Some key) = open_published records (public_in key)
+open_on_key records (Some key) = open_published records (any_public_of key)
 
-open_opened : (records : List Record) (chance : Opening) (illegal : Option ℕ) → OpenBy (opened_by (closed_on records) chance illegal)
-open_opened records None None = open_on_key records (key_in records)
+open_opened : (records : List Record) (chance : Opening) (illegal : Option ℕ) → OpenBy (opened_illegal (closed_state records) chance illegal)
+open_opened records None None = open_on_key records (the_key records)
 open_opened records None (Some k) = open_refused records (Illegal k)
 open_opened records (Some (slot, fault)) None = open_refused records fault
 open_opened records (Some (slot, fault)) (Some k) = open_refused records (if nat_lt k slot then Illegal k else fault)
 
-opened_keeps : (records : List Record) (chance : Opening) (illegal : Option ℕ) → (opened_by (closed_on records) chance illegal).state.records ≡ records
-opened_keeps records None None = key_keeps (key_in records)
+opened_keeps : (records : List Record) (chance : Opening) (illegal : Option ℕ) → (opened_illegal (closed_state records) chance illegal).state.records ≡ records
+opened_keeps records None None = key_keeps (the_key records)
   where
     published_keeps : (public : Option AnyPublic) → (published records public).state.records ≡ records
     published_keeps (Some public) = refl
     published_keeps None = refl
 
-    key_keeps : (found : Option Key) → (opened_on records found).state.records ≡ records
+    key_keeps : (found : Option Key) → (opened_key records found).state.records ≡ records
     key_keeps None = refl
-    key_keeps (Some key) = published_keeps (public_in key)
+    key_keeps (Some key) = published_keeps (any_public_of key)
 opened_keeps records None (Some k) = refl
 opened_keeps records (Some (slot, fault)) None = refl
 opened_keeps records (Some (slot, fault)) (Some k) = refl
 
 opens_in : {S R : Type 0} (g : store.Ghosts S) (result : Result (View S R) (Refused (S × R) SignFault)) (left : World) (mine outcome : Outcome AnyPublic)
     → mine ≡ outcome → left.state ≡ mine.state → OpenBy mine → (left.state.is_open ≡ true → mine.acknowledged ≡ left.state.records)
-    → left.state.records ≡ g.list (store_after result) → IsAnswered result outcome → OpensIn g result left
+    → left.state.records ≡ g.list (store_of_result result) → IsAnswered result outcome → OpensIn g result left
 opens_in g (Ok signer) left mine outcome same state opens all listed (public, answer, keyed, records, is_open) =
     let open_is : outcome.state.is_open ≡ true = subst (λ (o : Outcome AnyPublic). o.state.is_open ≡ true) same
     (opens.0 public (ap (λ (o : Outcome AnyPublic). o.answer) same ∙ answer)) in
@@ -267,10 +267,10 @@ creates_in : {S R : Type 0} (g : store.Ghosts S) (r : source.Ghosts R) (version 
 creates_in g r version spec kept_in random result handed is can creates =
     let limit = g.most kept_in in
     let list = g.list kept_in in
-    let world = world_of (closed_on list) handed in
+    let world = world_of (closed_state list) handed in
     let event = create spec creates.chance in
-    let mine = created (closed_on list) spec creates.chance in
-    let leaves = subst (λ (o : Outcome AnyPublic). LeavesOnly g.moment g.left_since kept_in (store_after result) (IsBeginning (length list) (reached o)))
+    let mine = created (closed_state list) spec creates.chance in
+    let leaves = subst (λ (o : Outcome AnyPublic). LeavesOnly g.moment g.left_since kept_in (store_of_result result) (IsBeginning (length list) (reached o)))
     (sym creates.step) (creates.store.moments is.honest is.running) in
     record {
       is = record {
@@ -293,12 +293,12 @@ opens_again g kept_in random result handed is opens =
     let limit = g.most kept_in in
     let list = g.list kept_in in
     let loads = opens.loads in
-    let world = world_of (closed_on list) handed in
+    let world = world_of (closed_state list) handed in
     let event = reopen loads.chance in
-    let mine = opened (closed_on list) loads.chance in
-    let same : mine ≡ loads.outcome = ap (λ l. opened (closed_on l) loads.chance) (sym (loads.same is.honest)) ∙ loads.step in
-    let whole = opened_reaches (closed_on list) loads.chance (first_illegal list) in
-    let leaves = weaker g.moment g.left_since kept_in (store_after result) (λ left. left ≡ list) (IsBeginning (length list) (reached mine))
+    let mine = opened (closed_state list) loads.chance in
+    let same : mine ≡ loads.outcome = ap (λ l. opened (closed_state l) loads.chance) (sym (loads.same is.honest)) ∙ loads.step in
+    let whole = opened_reaches (closed_state list) loads.chance (first_illegal list) in
+    let leaves = weaker g.moment g.left_since kept_in (store_of_result result) (λ left. left ≡ list) (IsBeginning (length list) (reached mine))
     (λ left old. record { count = length list; enough = omega arith; beginning = old ∙ sym (ap (take (length list)) whole ∙ take_all (length list) list (omega arith)) })
     (loads.moments is.honest is.running) in
     record {
@@ -364,7 +364,7 @@ stopped_opening (Some (slot, OutOfMemory)) list stopped honest is stops = absurd
 stopped_opening (Some (slot, KeyThere)) list stopped honest is stops = absurd stops
 
 -- an opening that is stopped at record 0
-opened_none : (state : State) (illegal : Option ℕ) → opened_by state (Some (0, Stopped)) illegal ≡ refused state Stopped
+opened_none : (state : State) (illegal : Option ℕ) → opened_illegal state (Some (0, Stopped)) illegal ≡ refused state Stopped
 opened_none state None = refl
 opened_none state (Some k) =
     ap (λ (b : Bool). refused {A = AnyPublic} state (if b then Illegal k else Stopped)) (le-ltb k 0 (omega arith))
@@ -377,11 +377,11 @@ answered_stopped (Err given) outcome is answer = let same = sym answer ∙ is in
 
 refused_opening : {S R : Type 0} (g : store.Ghosts S) (world : World) (event : Event) (kept_in : S)
     (result : Result (View S R) (Refused (S × R) SignFault)) (outcome : Outcome AnyPublic) → IsEvent event → outcome.answer ≡ Err Stopped
-    → IsAnswered result outcome → store_after result ≡ kept_in → after (g.most kept_in) world event ≡ world
+    → IsAnswered result outcome → store_of_result result ≡ kept_in → after (g.most kept_in) world event ≡ world
     → IsRefusedOpening g world event kept_in result
 refused_opening g world event kept_in result outcome can is answer same stays =
     let (given, result_is, fault) = answered_stopped result outcome is answer in
-    let store : given.given.0 ≡ kept_in = sym (ap store_after result_is) ∙ same in
+    let store : given.given.0 ≡ kept_in = sym (ap store_of_result result_is) ∙ same in
     record {
       refused = given;
       result_is = result_is;
@@ -397,10 +397,10 @@ refuses_to_create : {S R : Type 0} (g : store.Ghosts S) (r : source.Ghosts R) (v
 refuses_to_create g r version spec kept_in random result world stopped can creates =
     let chance = creates.chance in
     let failed = stopped_load chance.failed_load (g.list kept_in) (g.stopped kept_in) (g.honest kept_in) stopped creates.load in
-    let at = λ (state : State). ap (λ f. created_after f state spec chance) failed in
+    let at = λ (state : State). ap (λ f. created_load f state spec chance) failed in
     refused_opening g world (create spec chance) kept_in result creates.outcome
     (can, creates.possible)
-    (sym (ap (λ (o : Outcome AnyPublic). o.answer) creates.step) ∙ ap (λ (o : Outcome AnyPublic). o.answer) (at (closed_on (g.list kept_in))))
+    (sym (ap (λ (o : Outcome AnyPublic). o.answer) creates.step) ∙ ap (λ (o : Outcome AnyPublic). o.answer) (at (closed_state (g.list kept_in))))
     creates.answer (creates.stays stopped)
     (ap (λ (o : Outcome AnyPublic). record { state = o.state; handed = world.handed }) (at world.state))
 
@@ -413,7 +413,7 @@ refuses_to_open g kept_in random result world stopped opens =
     let at = λ (state : State). ap (opened state) first ∙ opened_none state (first_illegal state.records) in
     refused_opening g world (reopen chance) kept_in result loads.outcome
     tt
-    (sym (ap (λ (o : Outcome AnyPublic). o.answer) loads.step) ∙ ap (λ (o : Outcome AnyPublic). o.answer) (at (closed_on loads.records)))
+    (sym (ap (λ (o : Outcome AnyPublic). o.answer) loads.step) ∙ ap (λ (o : Outcome AnyPublic). o.answer) (at (closed_state loads.records)))
     loads.answer (loads.stays stopped)
     (ap (λ (o : Outcome AnyPublic). record { state = o.state; handed = world.handed }) (at world.state))
 

@@ -21,12 +21,12 @@ use Rattle.sign_core.specs.declared.fault.SignFault.TheVariants.{Unreadable, Key
 use Rattle.sign_core.specs.declared.source.Source as source
 use Rattle.sign_core.specs.declared.ledger.Binding.{Binding}
 use Rattle.sign_core.specs.Source.{Provides}
-use Rattle.sign_core.specs.Records.{are_same, binding_in, deepest, has_moved, key_in, wanted_count, is_long}
+use Rattle.sign_core.specs.Records.{are_same, binding_at, deepest, has_moved, the_key, wanted_count, is_long}
 use Rattle.sign_core.specs.Cuts.{IsBeginning}
 use Rattle.sign_core.specs.inner.Request.{HasPrepared, Prepares}
 use Rattle.sign_core.specs.Caches.{Cached}
 use Rattle.sign_core.specs.inner.Signer.{Hinders}
-use Rattle.sign_core.specs.Signer.{IsRead, IsSigner, IsTied, KeepsAll, KeepsForRepeat, KeepsStore, LacksMemory, LacksTree, RefusesMemory, wanted_by, Signs, View, is_out_of_memory}
+use Rattle.sign_core.specs.Signer.{IsRead, IsSigner, IsTied, KeepsAll, KeepsForRepeat, KeepsStore, LacksMemory, LacksTree, RefusesMemory, wanted_records, Signs, View, is_out_of_memory}
 use Rattle.sign_core.specs.Signer.{is_before_caches, is_before_repeat, is_fault, is_random_failed, is_store_failed, signature_size, state_of}
 use Rattle.sign_core.specs.inner.Signing.{CanBind, BindsBelow, Does, IsBindingOf, IsReady, Repeats, repeat_chance}
 use Rattle.sign_core.specs.Signing.{UnderKey}
@@ -34,8 +34,8 @@ use Rattle.sign_core.specs.Ledger.{kept_of}
 use Rattle.sign_core.specs.Events.{AreDrawsOf}
 use Rattle.sign_core.specs.Signer.{KeepsAtRefusal}
 use Rattle.sign_core.specs.World.{Chance, Outcome, State, reading, refused, requested}
-use Rattle.sign_core.specs.inner.Cases.{bound_anew, bound_sound, repeated, repeated_sound, requested_of, requested_under}
-use Rattle.sign_core.specs.Textbook.{damaged_in, digest_at, tree_before}
+use Rattle.sign_core.specs.inner.Cases.{bound_level, bound_sound, repeated, repeated_sound, requested_binding, requested_key}
+use Rattle.sign_core.specs.Textbook.{damaged_at, digest_at, current_at}
 use Rattle.sign_core.proofs.Adding.{LeavesItsList}
 use Rattle.sign_core.proofs.Refusals.{after_caches, before_repeat, keeps_at_all, keeps_after_draws, same_view}
 
@@ -45,7 +45,7 @@ pub record Binds {S R M : Type 0} (g : store.Ghosts S) (r : source.Ghosts R) (m 
   pub chance : Chance
   pub outcome : Outcome (List ℕ)
   pub step : bound_sound (state_of old) key name chance level
-      (damaged_in key level old.records (tree_before level old.records (length old.records))) ≡ outcome
+      (damaged_at key level old.records (current_at level old.records (length old.records))) ≡ outcome
   pub possible : AreDrawsOf key.secret chance
   pub room : chance.has_room ≡ true
   pub does : Does g r m old new before after chance.given outcome answer
@@ -57,32 +57,32 @@ pub record Binds {S R M : Type 0} (g : store.Ghosts S) (r : source.Ghosts R) (m 
 request_by : (limit : ℕ) → State → Key → (name : List ℕ) → Chance → (closed moved : Bool) → Option (ℕ × Bound) → Outcome (List ℕ)
 request_by limit state key name chance closed moved found =
     if closed then refused state Stopped
-    else (if moved then refused state Moved else requested_of limit state key name chance found)
+    else (if moved then refused state Moved else requested_binding limit state key name chance found)
 
 request_by_is : (limit : ℕ) (state : State) (key : Key) (name : List ℕ) (chance : Chance) (closed moved : Bool) (found : Option (ℕ × Bound))
-    → key_in state.records ≡ Some key → not state.is_open ≡ closed → has_moved state.records ≡ moved → binding_in state.records name ≡ found
+    → the_key state.records ≡ Some key → not state.is_open ≡ closed → has_moved state.records ≡ moved → binding_at state.records name ≡ found
     → requested limit state name chance ≡ request_by limit state key name chance closed moved found
 unfolding request_by
 request_by_is limit state key name chance closed moved found keyed shut gone bound =
-    ap (requested_under limit state name chance) keyed ∙ (λ i. request_by limit state key name chance (shut i) (gone i) (bound i))
+    ap (requested_key limit state name chance) keyed ∙ (λ i. request_by limit state key name chance (shut i) (gone i) (bound i))
 
 anew : (state : State) → Key → (name : List ℕ) → Chance → (level : ℕ) → (full lacking : Bool) → Outcome (List ℕ)
 anew state key name chance level full lacking =
     if full then refused state LedgerFull
     else (if lacking then refused state OutOfMemory
     else bound_sound state key name chance level
-    (damaged_in key level state.records (tree_before level state.records (length state.records))))
+    (damaged_at key level state.records (current_at level state.records (length state.records))))
 
 -- a new name, where this level is the deepest with a free leaf
-anew_is : (limit : ℕ) (state : State) (key : Key) (name : List ℕ) (chance : Chance) (level : ℕ) (full lacking : Bool) → key_in state.records ≡ Some key
-    → state.is_open ≡ true → has_moved state.records ≡ false → binding_in state.records name ≡ None → is_long key name ≡ false
+anew_is : (limit : ℕ) (state : State) (key : Key) (name : List ℕ) (chance : Chance) (level : ℕ) (full lacking : Bool) → the_key state.records ≡ Some key
+    → state.is_open ≡ true → has_moved state.records ≡ false → binding_at state.records name ≡ None → is_long key name ≡ false
     → deepest key.secret state.records ≡ Some level → nat_lt limit (length state.records + wanted_count key.secret level) ≡ full → not chance.has_room ≡ lacking
     → requested limit state name chance ≡ anew state key name chance level full lacking
 unfolding request_by anew
 anew_is limit state key name chance level full lacking keyed opened stays unbound short at is_full is_lacking =
     request_by_is limit state key name chance false false None keyed (ap not opened) stays unbound
-    ∙ ap (λ long. if long then refused state LongName else bound_anew limit state key name chance (deepest key.secret state.records)) short
-    ∙ ap (bound_anew limit state key name chance) at
+    ∙ ap (λ long. if long then refused state LongName else bound_level limit state key name chance (deepest key.secret state.records)) short
+    ∙ ap (bound_level limit state key name chance) at
     ∙ (λ i. anew state key name chance level (is_full i) (is_lacking i))
 
 -- ---- calls that leave all as it was
@@ -168,7 +168,7 @@ repeated_kept : (state : State) (key : Key) (k : ℕ) (bound : Bound) (has_room 
 repeated_kept state key k bound has_room None = (refl, calm_by has_room MessageRead refl refl refl)
 repeated_kept state key k bound has_room (Some message) =
     repeated_by state key k bound (not (are_same (digest_at key state.records k bound.leaf bound.randomizer message) bound.digest)) has_room
-    (damaged_in key (bottom_of key.secret) state.records (tree_before (bottom_of key.secret) state.records k))
+    (damaged_at key (bottom_of key.secret) state.records (current_at (bottom_of key.secret) state.records k))
 
 some_mapped : {A B : Type 0} (f : A → B) (found : Option A) (b : B) → option_map f found ≡ Some b → (a : A) × (found ≡ Some a)
 some_mapped f None b is = absurd (none-some _ is)
@@ -186,10 +186,10 @@ module _ {S R M : Type 0} (g : store.Ghosts S) (r : source.Ghosts R) (m : messag
   -- a call that leaves all but memory and caches
   pub left_signs : (old new : View S R) (name : List ℕ) (before after : M) (capacity : ℕ) (key : Key) (answer : Result (List ℕ) SignFault)
       (has_room is_read : Bool) (given : Option (List ℕ)) → KeepsAll old new
-      → (is_fault is_before_caches answer ≡ true → new.cached ≡ old.cached) → old.spare ≤ new.spare → IsSigner g old → LeavesItsList g old.store → key_in old.records ≡ Some key
+      → (is_fault is_before_caches answer ≡ true → new.cached ≡ old.cached) → old.spare ≤ new.spare → IsSigner g old → LeavesItsList g old.store → the_key old.records ≡ Some key
       → requested (g.most old.store) (state_of old) name (repeat_chance has_room given) ≡ kept (state_of old) answer is_read
       → IsRead m is_read given before after
-      → (has_room ≡ false → LacksMemory key old (deepest key.secret old.records) (binding_in old.records name) capacity)
+      → (has_room ≡ false → LacksMemory key old (deepest key.secret old.records) (binding_at old.records name) capacity)
       → IsCalm has_room answer → Signs g r m old new name before after capacity answer
   left_signs old new name before after capacity key answer has_room is_read given keeps caches spare signer only keyed step read room calm = record {
     answers = record {
@@ -215,22 +215,22 @@ module _ {S R M : Type 0} (g : store.Ghosts S) (r : source.Ghosts R) (m : messag
       refusals = subst (λ s. RefusesMemory has_room answer (g.refusals old.store) (g.refusals s)) (sym keeps.store)
           (refuses_early has_room answer (g.refusals old.store) (calm.memory (g.refusals old.store)));
       memory = omega (arith, spare, ap length keeps.records);
-      keeps = keeps_at_all g has_room (wanted_by key.secret (deepest key.secret old.records)) old new answer keeps caches
+      keeps = keeps_at_all g has_room (wanted_records key.secret (deepest key.secret old.records)) old new answer keeps caches
           (calm_refuses has_room answer (calm.memory 0));
     };
     message = read;
   }
 
   pub hindered_signs : (v : View S R) (name : List ℕ) (before : M) (capacity : ℕ) (key : Key) (fault : SignFault) → IsSigner g v → LeavesItsList g v.store
-      → key_in v.records ≡ Some key → Hinders v.is_open (has_moved v.records) fault → Signs g r m v v name before before capacity (Err fault)
+      → the_key v.records ≡ Some key → Hinders v.is_open (has_moved v.records) fault → Signs g r m v v name before before capacity (Err fault)
   unfolding request_by
   hindered_signs v name before capacity key Stopped signer only keyed why =
       left_signs v v name before before capacity key (Err Stopped) true false None (same_view v) (λ _. refl) (omega arith) signer only keyed
-      (request_by_is (g.most v.store) (state_of v) key name (repeat_chance true None) true (has_moved v.records) (binding_in v.records name) keyed (ap not why) refl refl)
+      (request_by_is (g.most v.store) (state_of v) key name (repeat_chance true None) true (has_moved v.records) (binding_at v.records name) keyed (ap not why) refl refl)
       refl (λ lacking. absurd (true≢false lacking)) (record { store = λ n. refl; random = λ n. refl; memory = λ n. refl })
   hindered_signs v name before capacity key Moved signer only keyed why =
       left_signs v v name before before capacity key (Err Moved) true false None (same_view v) (λ _. refl) (omega arith) signer only keyed
-      (request_by_is (g.most v.store) (state_of v) key name (repeat_chance true None) false true (binding_in v.records name) keyed (ap not why.0) why.1 refl)
+      (request_by_is (g.most v.store) (state_of v) key name (repeat_chance true None) false true (binding_at v.records name) keyed (ap not why.0) why.1 refl)
       refl (λ lacking. absurd (true≢false lacking)) (record { store = λ n. refl; random = λ n. refl; memory = λ n. refl })
   hindered_signs v name before capacity key Changed signer only keyed why = absurd why
   hindered_signs v name before capacity key Exhausted signer only keyed why = absurd why
@@ -251,18 +251,18 @@ module _ {S R M : Type 0} (g : store.Ghosts S) (r : source.Ghosts R) (m : messag
   hindered_signs v name before capacity key (Illegal k) signer only keyed why = absurd why
 
   pub long_signs : (v : View S R) (name : List ℕ) (before : M) (capacity : ℕ) (key : Key) → IsSigner g v → LeavesItsList g v.store
-      → key_in v.records ≡ Some key → v.is_open ≡ true → has_moved v.records ≡ false → binding_in v.records name ≡ None → is_long key name ≡ true
+      → the_key v.records ≡ Some key → v.is_open ≡ true → has_moved v.records ≡ false → binding_at v.records name ≡ None → is_long key name ≡ true
       → Signs g r m v v name before before capacity (Err LongName)
   unfolding request_by
   long_signs v name before capacity key signer only keyed opened stays unbound long =
       left_signs v v name before before capacity key (Err LongName) true false None (same_view v) (λ _. refl) (omega arith) signer only keyed
       (request_by_is (g.most v.store) (state_of v) key name (repeat_chance true None) false false None keyed (ap not opened) stays unbound
       ∙ ap (λ test. if test then refused (state_of v) LongName
-      else bound_anew (g.most v.store) (state_of v) key name (repeat_chance true None) (deepest key.secret v.records)) long)
+      else bound_level (g.most v.store) (state_of v) key name (repeat_chance true None) (deepest key.secret v.records)) long)
       refl (λ lacking. absurd (true≢false lacking)) (record { store = λ n. refl; random = λ n. refl; memory = λ n. refl })
 
   pub exhausted_signs : (v : View S R) (name : List ℕ) (before : M) (capacity : ℕ) (key : Key) → IsSigner g v → LeavesItsList g v.store
-      → key_in v.records ≡ Some key → v.is_open ≡ true → has_moved v.records ≡ false → binding_in v.records name ≡ None → is_long key name ≡ false
+      → the_key v.records ≡ Some key → v.is_open ≡ true → has_moved v.records ≡ false → binding_at v.records name ≡ None → is_long key name ≡ false
       → deepest key.secret v.records ≡ None
       → Signs g r m v v name before before capacity (Err Exhausted)
   unfolding request_by
@@ -270,13 +270,13 @@ module _ {S R M : Type 0} (g : store.Ghosts S) (r : source.Ghosts R) (m : messag
       left_signs v v name before before capacity key (Err Exhausted) true false None (same_view v) (λ _. refl) (omega arith) signer only keyed
       (request_by_is (g.most v.store) (state_of v) key name (repeat_chance true None) false false None keyed (ap not opened) stays unbound
       ∙ ap (λ long. if long then refused (state_of v) LongName
-      else bound_anew (g.most v.store) (state_of v) key name (repeat_chance true None) (deepest key.secret v.records)) short
-      ∙ ap (bound_anew (g.most v.store) (state_of v) key name (repeat_chance true None)) none)
+      else bound_level (g.most v.store) (state_of v) key name (repeat_chance true None) (deepest key.secret v.records)) short
+      ∙ ap (bound_level (g.most v.store) (state_of v) key name (repeat_chance true None)) none)
       refl (λ lacking. absurd (true≢false lacking)) (record { store = λ n. refl; random = λ n. refl; memory = λ n. refl })
 
   -- the store or memory has no room
   pub unprepared_signs : (old new : View S R) (name : List ℕ) (before : M) (capacity room level : ℕ) (key : Key) (fault : SignFault) → IsSigner g old
-      → LeavesItsList g old.store → key_in old.records ≡ Some key → old.is_open ≡ true → has_moved old.records ≡ false → binding_in old.records name ≡ None
+      → LeavesItsList g old.store → the_key old.records ≡ Some key → old.is_open ≡ true → has_moved old.records ≡ false → binding_at old.records name ≡ None
       → is_long key name ≡ false → deepest key.secret old.records ≡ Some level → KeepsAll old new → (is_before_caches fault ≡ true → new.cached ≡ old.cached) → old.spare ≤ new.spare
       → HasPrepared {A = Unit {0}} (g.most old.store) level key old new capacity room (Err fault)
       → Signs g r m old new name before before capacity (Err fault)
@@ -316,17 +316,17 @@ module _ {S R M : Type 0} (g : store.Ghosts S) (r : source.Ghosts R) (m : messag
   -- ---- a name that is bound
 
   pub repeats_signs : (v new : View S R) (name : List ℕ) (before after : M) (capacity : ℕ) (key : Key) (binding : Binding)
-      (answer : Result (List ℕ) SignFault) → IsSigner g v → LeavesItsList g v.store → key_in v.records ≡ Some key → v.is_open ≡ true
+      (answer : Result (List ℕ) SignFault) → IsSigner g v → LeavesItsList g v.store → the_key v.records ≡ Some key → v.is_open ≡ true
       → has_moved v.records ≡ false → IsBindingOf v.records binding key name → Repeats m (state_of v) v.cached before after capacity answer key name
       → KeepsForRepeat v new (is_fault is_before_repeat answer) → Signs g r m v new name before after capacity answer
   unfolding request_by
   repeats_signs v new name before after capacity key binding answer signer only keyed opened stays is repeats kept_all =
-      let ((k, bound), found) = some_mapped (kept_of key.secret v.records) (binding_in v.records name) binding is in
+      let ((k, bound), found) = some_mapped (kept_of key.secret v.records) (binding_at v.records name) binding is in
       let chance = repeat_chance repeats.has_room repeats.given in
       let whole = repeated_kept (state_of v) key k bound repeats.has_room repeats.given in
       let limit = g.most v.store in
       let answer_is : (repeated (state_of v) key k bound chance repeats.given).answer ≡ answer =
-      sym (ap (λ f. (requested_of limit (state_of v) key name chance f).answer) found) ∙ repeats.step limit in
+      sym (ap (λ f. (requested_binding limit (state_of v) key name chance f).answer) found) ∙ repeats.step limit in
       let same = kept_all.but_caches in
       let keeps : KeepsAll v new = record {
         store = ap (λ w. w.store) same;
@@ -363,7 +363,7 @@ module _ {S R M : Type 0} (g : store.Ghosts S) (r : source.Ghosts R) (m : messag
       record { store = keeps.store; random = keeps.random; records = keeps.records; is_open = keeps.is_open }
 
   pub binds_signs : (old mid new : View S R) (name : List ℕ) (before after : M) (capacity level : ℕ) (key : Key) (answer : Result (List ℕ) SignFault)
-      → key_in old.records ≡ Some key → old.is_open ≡ true → has_moved old.records ≡ false → binding_in old.records name ≡ None
+      → the_key old.records ≡ Some key → old.is_open ≡ true → has_moved old.records ≡ false → binding_at old.records name ≡ None
       → is_long key name ≡ false → deepest key.secret old.records ≡ Some level → KeepsAll old mid → old.spare ≤ mid.spare → IsReady (g.most old.store) (levels_of key.secret - level) mid
       → Binds g r m name level mid new before after answer key → Signs g r m old new name before after capacity answer
   unfolding anew
@@ -398,7 +398,7 @@ module _ {S R M : Type 0} (g : store.Ghosts S) (r : source.Ghosts R) (m : messag
             at_once = λ early. kept_of_other old new mid.spare mid.cached (b.keeps.at_once early);
             caches = λ early. absurd (true≢false (sym early ∙ b.not_before_caches));
             unprepared = λ lacking. absurd (true≢false (sym b.room ∙ lacking));
-            lacks_tree = λ room. subst (λ l. LacksTree g (wanted_by key.secret l) old new answer) (sym at)
+            lacks_tree = λ room. subst (λ l. LacksTree g (wanted_records key.secret l) old new answer) (sym at)
                 (b.keeps.lacks_tree refl);
             store = b.keeps.store;
           };
@@ -407,7 +407,7 @@ module _ {S R M : Type 0} (g : store.Ghosts S) (r : source.Ghosts R) (m : messag
       }
 
   pub damaged_binds : (v : View S R) (name : List ℕ) (before : M) (level : ℕ) (key : Key) (slot : ℕ) → IsSigner g v → LeavesItsList g v.store
-      → damaged_in key level v.records (tree_before level v.records (length v.records)) ≡ Some slot
+      → damaged_at key level v.records (current_at level v.records (length v.records)) ≡ Some slot
       → Binds g r m name level v v before before (Err (Damaged slot)) key
   damaged_binds v name before level key slot signer only damaged = record {
     chance = repeat_chance true None;
@@ -438,7 +438,7 @@ module _ {S R M : Type 0} (g : store.Ghosts S) (r : source.Ghosts R) (m : messag
 
   -- the current trees down to a level are sound, and the records below it are made
   pub binds_below_binds : (old new : View S R) (name : List ℕ) (before after : M) (level : ℕ) (key : Key) (answer : Result (List ℕ) SignFault)
-      → damaged_in key level old.records (tree_before level old.records (length old.records)) ≡ None
+      → damaged_at key level old.records (current_at level old.records (length old.records)) ≡ None
       → BindsBelow g r m name (bottom_of key.secret - level) old new before after answer key → old.is_open ≡ true → level < levels_of key.secret
       → Binds g r m name level old new before after answer key
   binds_below_binds old new name before after level key answer sound binds_below opened within = record {
@@ -457,23 +457,23 @@ module _ {S R M : Type 0} (g : store.Ghosts S) (r : source.Ghosts R) (m : messag
 -- ---- what a call answered
 
 -- the deepest level with a free leaf, along equal records
-pub deepest_after : (records other : List Record) (key own : Key) (level : ℕ) → other ≡ records → key_in records ≡ Some key → key_in other ≡ Some own
+pub deepest_after : (records other : List Record) (key own : Key) (level : ℕ) → other ≡ records → the_key records ≡ Some key → the_key other ≡ Some own
     → deepest key.secret records ≡ Some level → deepest own.secret other ≡ Some level
 deepest_after records other key own level same keyed is at =
-    let own_is : own ≡ key = same_Some own key (sym is ∙ ap key_in same ∙ keyed) in
+    let own_is : own ≡ key = same_Some own key (sym is ∙ ap the_key same ∙ keyed) in
     ap₂ (λ (k : Key) l. deepest k.secret l) own_is same ∙ at
 
 -- Once there is room for its records and its signature, the name can be bound.
 pub can_bind : {S R A : Type 0} (most : S → ℕ) (v mid : View S R) (name : List ℕ) (level size capacity room : ℕ) (x : A) → KeepsAll v mid
-    → binding_in v.records name ≡ None → UnderKey v.records (λ key. is_long key name ≡ false)
+    → binding_at v.records name ≡ None → UnderKey v.records (λ key. is_long key name ≡ false)
     → UnderKey v.records (Prepares (most v.store) level v mid capacity room (Ok x)) → size ≡ room
     → UnderKey mid.records (λ key. CanBind (most mid.store) (levels_of key.secret - level) name size mid)
 can_bind most v mid name level size capacity room x keeps unbound fits prepares same key keyed =
-    let made = prepares key (ap key_in (sym keeps.records) ∙ keyed) in
+    let made = prepares key (ap the_key (sym keeps.records) ∙ keyed) in
     record {
       ready = subst (λ s. IsReady (most s) (levels_of key.secret - level) mid) (sym keeps.store) made.does.0;
-      unbound = ap (λ l. binding_in l name) keeps.records ∙ unbound;
-      fits = λ own is. fits own (ap key_in (sym keeps.records) ∙ is);
+      unbound = ap (λ l. binding_at l name) keeps.records ∙ unbound;
+      fits = λ own is. fits own (ap the_key (sym keeps.records) ∙ is);
       room = λ own is. same ∙ made.does.1 ∙ ap (λ k. signature_size k.secret) (same_Some key own (sym keyed ∙ is));
     }
 

@@ -3,7 +3,7 @@ use Rattle.std.proofs.Common.{◌≡◌, ◌∙◌, ap, sym, subst, ℕ, ◌⊎�
 use Rattle.typecodes.specs.declared.spec.Spec.{Spec}
 use Rattle.state_file.specs.declared.record.Key.{Key}
 use Rattle.state_file.specs.declared.record.Record.{Record}
-use Rattle.sign_core.specs.Records.{key_in}
+use Rattle.sign_core.specs.Records.{the_key}
 use Rattle.sign_core.specs.Sound.{AreWhole, SoundLaw}
 use Rattle.sign_core.specs.Events.{IsEvent}
 use Rattle.sign_core.specs.Lasting.{lasting}
@@ -23,7 +23,7 @@ none_handed records whole = record {
 }
 
 -- records that begin with a key's aren't empty
-some_left : (records more left : List Record) (key : Key) → key_in records ≡ Some key → lasting left ≡ lasting records ++ more → left ≡ [] → ⊥
+some_left : (records more left : List Record) (key : Key) → the_key records ≡ Some key → lasting left ≡ lasting records ++ more → left ≡ [] → ⊥
 some_left [] more left key keyed grown empty = cc
 some_left (KeyRecord own ∷ records) more left key keyed grown empty = let none = sym (ap lasting empty) ∙ grown in cc
 some_left (ExtendRecord extend ∷ records) more left key keyed grown empty = cc

@@ -8,12 +8,12 @@ use Rattle.state_file.specs.declared.record.Bound.{Bound}
 use Rattle.state_file.specs.declared.record.Key.{Key}
 use Rattle.state_file.specs.declared.record.Record.{Record}
 use Rattle.state_file.specs.declared.record.Record.TheVariants.{Bound as BoundRecord, Extend as ExtendRecord}
-use Rattle.sign_core.specs.Records.{binding_in, can_follow, current, free_at, has_identifier, has_moved, has_randomizer, key_in, next_at}
+use Rattle.sign_core.specs.Records.{binding_at, can_follow, current, free_at, has_identifier, has_moved, has_randomizer, the_key, next_at}
 use Rattle.sign_core.specs.Events.{AreFields, tree_sizes}
 use Rattle.sign_core.specs.Headline.{IsBoundTo}
 use Rattle.sign_core.specs.World.{extend_record}
-use Rattle.sign_core.specs.Textbook.{AllHaveSizes, HasSizes, Trees, chain, damaged_in, is_sound_at, is_sound_extend, is_sound_record}
-use Rattle.sign_core.specs.Textbook.{lms_secret, tree_before, trees_of}
+use Rattle.sign_core.specs.Textbook.{AllHaveSizes, HasSizes, Trees, chain, damaged_at, is_sound_at, is_sound_extend, is_sound_record}
+use Rattle.sign_core.specs.Textbook.{lms_secret, current_at, trees_of}
 use Rattle.sign_core.proofs.Append.{current_new, next_new}
 use Rattle.sign_core.proofs.Bindings.{binding_new, binding_other}
 use Rattle.sign_core.proofs.Chains.{none_of_both}
@@ -28,7 +28,7 @@ use Rattle.sign_core.proofs.Found.{new_bound}
 pub record AreOf (key : Key) (records : List Record) : Type 0 where
   pub legal : IsLegal records
   pub sizes : AllHaveSizes records
-  pub keyed : key_in records ≡ Some key
+  pub keyed : the_key records ≡ Some key
 
 -- one more record that can follow and has its sizes
 pub of_grown : (key : Key) (records : List Record) (entry : Record) → AreOf key records → can_follow (Some key) records entry ≡ true → HasSizes entry
@@ -51,27 +51,27 @@ none_of_more test (x ∷ xs) y none last =
     apart true x later is = absurd (cc)
     apart false x later is = (refl, is)
 
-pub chain_stays : (key : Key) (level : ℕ) (xs ys : List Record) (tree : ℕ) → tree < length xs → damaged_in key level xs tree ≡ None
-    → damaged_in key level (xs ++ ys) tree ≡ None
+pub chain_stays : (key : Key) (level : ℕ) (xs ys : List Record) (tree : ℕ) → tree < length xs → damaged_at key level xs tree ≡ None
+    → damaged_at key level (xs ++ ys) tree ≡ None
 chain_stays key zero xs ys tree low sound =
     let (none, last) = none_of_both (λ k. not (is_sound_at key xs k)) [] tree sound in
     none_of_more (λ k. not (is_sound_at key (xs ++ ys) k)) [] tree refl (ap not (sound_stays key xs ys tree low) ∙ last)
 chain_stays key (suc level) xs ys tree low sound =
-    let parent = tree_before level xs tree in
+    let parent = current_at level xs tree in
     let (above, last) = none_of_both (λ k. not (is_sound_at key xs k)) (chain level xs parent) tree sound in
     let inside : parent < length xs = tree_low level xs tree (omega (arith, low)) (omega (arith, low)) in
-    let still = subst (λ p. damaged_in key level (xs ++ ys) p ≡ None) (sym (before_stays level xs ys tree (omega (arith, low))))
+    let still = subst (λ p. damaged_at key level (xs ++ ys) p ≡ None) (sym (before_stays level xs ys tree (omega (arith, low))))
     (chain_stays key level xs ys parent inside above) in
-    none_of_more (λ k. not (is_sound_at key (xs ++ ys) k)) (chain level (xs ++ ys) (tree_before level (xs ++ ys) tree)) tree still
+    none_of_more (λ k. not (is_sound_at key (xs ++ ys) k)) (chain level (xs ++ ys) (current_at level (xs ++ ys) tree)) tree still
     (ap not (sound_stays key xs ys tree low) ∙ last)
 
 -- the tree that was current at the end
 pub chain_at_end : (key : Key) (level : ℕ) (records : List Record) (entry : Record) → 0 < length records
-    → damaged_in key level records (tree_before level records (length records)) ≡ None
-    → damaged_in key level (records ++ entry ∷ []) (tree_before level (records ++ entry ∷ []) (length records)) ≡ None
+    → damaged_at key level records (current_at level records (length records)) ≡ None
+    → damaged_at key level (records ++ entry ∷ []) (current_at level (records ++ entry ∷ []) (length records)) ≡ None
 chain_at_end key level records entry some sound =
-    subst (λ tree. damaged_in key level (records ++ entry ∷ []) tree ≡ None) (sym (before_stays level records (entry ∷ []) (length records) (omega arith)))
-    (chain_stays key level records (entry ∷ []) (tree_before level records (length records))
+    subst (λ tree. damaged_at key level (records ++ entry ∷ []) tree ≡ None) (sym (before_stays level records (entry ∷ []) (length records) (omega arith)))
+    (chain_stays key level records (entry ∷ []) (current_at level records (length records))
     (tree_low level records (length records) some (omega arith)) sound)
 
 -- ---- a request under way
@@ -80,24 +80,24 @@ chain_at_end key level records entry some sound =
 pub record IsStanding (key : Key) (name : List ℕ) (below : ℕ) (records : List Record) : Type 0 where
   pub are : AreOf key records
   pub stays : has_moved records ≡ false
-  pub unbound : binding_in records name ≡ None
+  pub unbound : binding_at records name ≡ None
   pub inside : below < levels_of key.secret
   pub free : 0 < free_at key.secret records (bottom_of key.secret - below)
-  pub sound : let level = bottom_of key.secret - below in damaged_in key level records (tree_before level records (length records)) ≡ None
+  pub sound : let level = bottom_of key.secret - below in damaged_at key level records (current_at level records (length records)) ≡ None
 
 pub new_chain : (key : Key) (above : ℕ) (records : List Record) (entry : Record) → 0 < length records
-    → damaged_in key above records (tree_before above records (length records)) ≡ None
+    → damaged_at key above records (current_at above records (length records)) ≡ None
     → is_sound_record key records (length records) (Some entry) ≡ true → current (suc above) (records ++ entry ∷ []) ≡ Some (length records)
-    → (let all = records ++ entry ∷ [] in damaged_in key (suc above) all (tree_before (suc above) all (length all)) ≡ None)
+    → (let all = records ++ entry ∷ [] in damaged_at key (suc above) all (current_at (suc above) all (length all)) ≡ None)
 new_chain key above records entry some sound new now =
     let all = records ++ entry ∷ [] in
-    let tree : tree_before (suc above) all (length all) ≡ length records =
+    let tree : current_at (suc above) all (length all) ≡ length records =
     ap (λ xs. unwrap_or (current (suc above) xs) 0) (take_all (length all) all (omega arith)) ∙ ap (λ found. unwrap_or found 0) now in
     let own : is_sound_at key all (length records) ≡ true =
     ap (is_sound_record key all (length records)) (slice_get_new records entry)
     ∙ record_stays key records (entry ∷ []) (length records) (Some entry) some (omega arith) ∙ new in
-    subst (λ t. damaged_in key (suc above) all t ≡ None) (sym tree)
-    (none_of_more (λ k. not (is_sound_at key all k)) (chain above all (tree_before above all (length records))) (length records)
+    subst (λ t. damaged_at key (suc above) all t ≡ None) (sym tree)
+    (none_of_more (λ k. not (is_sound_at key all k)) (chain above all (current_at above all (length records))) (length records)
     (chain_at_end key above records entry some sound) (ap not own))
 
 -- one new tree: the level below stands
@@ -127,14 +127,14 @@ extend_stands key name below records trees identifier seed randomizer ready are 
     let first = current_new (level - 1) tree records extend own above in
     let now = ap (λ l. current l (records ++ entry ∷ [])) own ∙ first in
     let whole = new_chain key (level - 1) records entry some
-    (subst (λ l. damaged_in key l records (tree_before l records (length records)) ≡ None) parent ready.sound) sound first in
+    (subst (λ l. damaged_at key l records (current_at l records (length records)) ≡ None) parent ready.sound) sound first in
     record {
       are = of_grown key records entry ready.are can sized;
       stays = last_is records entry;
       unbound = binding_other records entry name refl ∙ ready.unbound;
       inside = omega (arith, inside);
       free = free_anew key.secret (records ++ entry ∷ []) level (length records) within now (next_new key.secret records entry some);
-      sound = subst (λ l. let all = records ++ entry ∷ [] in damaged_in key l all (tree_before l all (length all)) ≡ None) (sym own) whole;
+      sound = subst (λ l. let all = records ++ entry ∷ [] in damaged_at key l all (current_at l all (length all)) ≡ None) (sym own) whole;
     }
 
 -- ---- the binding
@@ -144,7 +144,7 @@ pub record IsSoundBinding (key : Key) (name message : List ℕ) (records : List 
   pub are : AreOf key (records ++ BoundRecord bound ∷ [])
   pub is_bound : IsBoundTo (records ++ BoundRecord bound ∷ []) key name message (length records) bound
   pub sound : let all = records ++ BoundRecord bound ∷ [] in let bottom = bottom_of key.secret in
-      damaged_in key bottom all (tree_before bottom all (length records)) ≡ None
+      damaged_at key bottom all (current_at bottom all (length records)) ≡ None
 
 pub bound_stands : (key : Key) (name message randomizer : List ℕ) (records : List Record) → IsStanding key name 0 records
     → length randomizer ≡ 32 → has_randomizer key.secret randomizer ≡ true
@@ -168,5 +168,5 @@ bound_stands key name message randomizer records ready size fits =
         digest = digest_stays key records (entry ∷ []) (length records) leaf randomizer message some (omega arith);
       };
       sound = chain_at_end key bottom records entry some
-          (subst (λ l. damaged_in key l records (tree_before l records (length records)) ≡ None) here ready.sound);
+          (subst (λ l. damaged_at key l records (current_at l records (length records)) ≡ None) here ready.sound);
     }

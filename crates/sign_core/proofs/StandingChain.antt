@@ -17,10 +17,10 @@ use Rattle.sign_core.specs.declared.key_trees.KeyTrees.{KeyTrees}
 use Rattle.sign_core.specs.declared.key_trees.SecretTrees.{SecretTrees}
 use Rattle.sign_core.specs.declared.key_trees.SecretTrees.TheVariants.{Chain, Xmss as XmssTree}
 use Rattle.sign_core.specs.declared.fault.SignFault.{SignFault}
-use Rattle.sign_core.specs.Records.{can_follow, current, free_at, has_identifier, has_moved, is_free, key_in, next_at}
+use Rattle.sign_core.specs.Records.{can_follow, current, free_at, has_identifier, has_moved, is_free, the_key, next_at}
 use Rattle.sign_core.specs.inner.Links.{MakesTrees}
 use Rattle.sign_core.specs.inner.Signing.{Stands}
-use Rattle.sign_core.specs.Textbook.{Trees, damaged_in, is_sound_extend, lms_secret, secret_at, tree_before, trees_of}
+use Rattle.sign_core.specs.Textbook.{Trees, damaged_at, is_sound_extend, lms_secret, secret_at, current_at, trees_of}
 use Rattle.sign_core.proofs.Append.{current_new, next_new}
 use Rattle.sign_core.proofs.CurrentChain.{HasFree}
 use Rattle.sign_core.proofs.BoundBelow.{next_extend}
@@ -37,7 +37,7 @@ no_chain secret (XmssTree own) level made below other = let one = ap levels_of m
 -- ---- the record of one level more
 
 -- the tree that is current at the end of the records
-before_end : (level : ℕ) (records : List Record) (tree : ℕ) → current level records ≡ Some tree → tree_before level records (length records) ≡ tree
+before_end : (level : ℕ) (records : List Record) (tree : ℕ) → current level records ≡ Some tree → current_at level records (length records) ≡ tree
 before_end level records tree is = ap (λ l. unwrap_or (current level l) 0) (take-length records) ∙ ap (λ o. unwrap_or o 0) is
 
 -- The Extend that the next leaf of a level's current tree signs is the record of the world.
@@ -54,11 +54,11 @@ entry_is key trees records level place leaf parent secret public extend has pare
     λ i. record { pair = sym pair i; identifier = secret.identifier; seed = secret.seed } in
     let own : public ≡ public_of (lms_secret (slice_index_or trees.pairs (level + 1) trees.top.pair) secret.identifier secret.seed) =
     made ∙ sym (ap public_of named) in
-    let above : parent ≡ secret_at trees records (tree_before (level + 1 - 1) records (length records)) =
+    let above : parent ≡ secret_at trees records (current_at (level + 1 - 1) records (length records)) =
     parent_is ∙ ap (secret_at trees records) (sym (before_end level records place has.current_is)
-    ∙ ap (λ n. tree_before n records (length records)) down) in
+    ∙ ap (λ n. current_at n records (length records)) down) in
     let next : leaf ≡ next_at key.secret records (level + 1 - 1) = has.leaf_is ∙ ap (next_at key.secret records) down in
-    let digest_is : extend.digest ≡ message_digest_of (secret_at trees records (tree_before (level + 1 - 1) records (length records))).identifier
+    let digest_is : extend.digest ≡ message_digest_of (secret_at trees records (current_at (level + 1 - 1) records (length records))).identifier
     (next_at key.secret records (level + 1 - 1)) extend.randomizer
     (public_bytes (public_of (lms_secret (slice_index_or trees.pairs (level + 1) trees.top.pair) secret.identifier secret.seed))) =
     digest ∙ (λ i. message_digest_of (above i).identifier (next i) extend.randomizer (public_bytes (own i))) in
@@ -74,10 +74,10 @@ entry_is key trees records level place leaf parent secret public extend has pare
       root = from i;
     })
 
-pub can_extend : (key : Key) (records : List Record) (level : ℕ) (extend : Extend) → key_in records ≡ Some key → has_moved records ≡ false
+pub can_extend : (key : Key) (records : List Record) (level : ℕ) (extend : Extend) → the_key records ≡ Some key → has_moved records ≡ false
     → 0 < free_at key.secret records level → extend.level ≡ level + 1 → level + 1 < levels_of key.secret
     → extend.parent_leaf ≡ next_at key.secret records level → has_identifier records extend.identifier ≡ false
-    → can_follow (key_in records) records (ExtendRecord extend) ≡ true
+    → can_follow (the_key records) records (ExtendRecord extend) ≡ true
 can_extend key records level extend keyed stays free of_level below leaf fresh =
     let down : extend.level - 1 ≡ level = omega (arith, of_level) in
     let named : is_free key.secret records (extend.level - 1) extend.parent_leaf ≡ true =
@@ -88,7 +88,7 @@ can_extend key records level extend keyed stays free of_level below leaf fresh =
 -- ---- one level more
 
 -- The new tree's leaves are free, and the chain down to it is sound.
-pub stands_below : (key : Key) (trees : Trees) (records : List Record) (level : ℕ) (identifier seed randomizer : List ℕ) → key_in records ≡ Some key
+pub stands_below : (key : Key) (trees : Trees) (records : List Record) (level : ℕ) (identifier seed randomizer : List ℕ) → the_key records ≡ Some key
     → trees_of key.secret ≡ Some trees → Stands records level key → level + 1 < levels_of key.secret
     → Stands (records ++ next_extend key trees records (level + 1) identifier seed randomizer ∷ []) (level + 1) key
 unfolding extend_of
@@ -107,7 +107,7 @@ stands_below key trees records level identifier seed randomizer keyed these stan
     record {
       inside = inside;
       free = free_anew key.secret (records ++ entry ∷ []) (level + 1) (length records) inside now (next_new key.secret records entry some);
-      sound = subst (λ l. let all = records ++ entry ∷ [] in damaged_in key l all (tree_before l all (length all)) ≡ None) (sym own) whole;
+      sound = subst (λ l. let all = records ++ entry ∷ [] in damaged_at key l all (current_at l all (length all)) ≡ None) (sym own) whole;
     }
 
 -- what holds of an append that is acknowledged

@@ -17,12 +17,12 @@ use Rattle.lmots.specs.Key.{message_digest_of}
 use Rattle.hss.specs.Secret.{Signing}
 use Rattle.hss.specs.Writing.{signature_bytes, textbook}
 use Rattle.sign_core.proofs.Lists.{slice_get_front, slice_get_new}
-use Rattle.sign_core.specs.Records.{are_same, current, has_moved, is_moved, key_in, last_from, makes}
+use Rattle.sign_core.specs.Records.{are_same, current, has_moved, is_moved, the_key, last_extend, makes}
 use Rattle.sign_core.specs.Records.{same_tree, under}
-use Rattle.sign_core.specs.Textbook.{Trees, digest_at, digest_by, is_sound_at, is_sound_extend, is_sound_record}
+use Rattle.sign_core.specs.Textbook.{Trees, digest_at, any_digest, is_sound_at, is_sound_extend, is_sound_record}
 use Rattle.sign_core.proofs.Found.{digest_under, hss_signature_under}
-use Rattle.sign_core.specs.Textbook.{secret_at, secret_by}
-use Rattle.sign_core.specs.Textbook.{signature_at, signature_by, signing_by, signings_above, tree_before, trees_of}
+use Rattle.sign_core.specs.Textbook.{secret_at, made_secret}
+use Rattle.sign_core.specs.Textbook.{signature_at, any_signature, parent_signing, chain_signings, current_at, trees_of}
 
 -- ---- places
 
@@ -38,7 +38,7 @@ made_low : (test : Bool) (k n : ℕ) (found : Option ℕ) (tree : ℕ) → (if t
 made_low true k n found tree is = let same : k ≡ tree = cc in inr (omega (arith, same))
 made_low false k n found tree is = inl is
 
-last_low : (level k : ℕ) (found : Option ℕ) (records : List Record) (tree : ℕ) → last_from level k found records ≡ Some tree
+last_low : (level k : ℕ) (found : Option ℕ) (records : List Record) (tree : ℕ) → last_extend level k found records ≡ Some tree
     → (found ≡ Some tree) ⊎ (tree < k + length records)
 last_low level k found [] tree is = inl is
 last_low level k found (entry ∷ rest) tree is = elim (last_low level (k + 1) (if makes level entry then Some k else found) rest tree is) [
@@ -58,7 +58,7 @@ under_low above records (Some j) tree is = ap Some (chosen (same_tree (above (ta
 pub current_low : (level : ℕ) (records : List Record) (tree : ℕ) → current level records ≡ Some tree → (tree ≡ 0) ⊎ (tree < length records)
 current_low zero records tree is = inl (let same : 0 ≡ tree = cc in sym same)
 current_low (suc level) records tree is =
-    elim (last_low (suc level) 0 None records tree (under_low (current level) records (last_from (suc level) 0 None records) tree is)) [
+    elim (last_low (suc level) 0 None records tree (under_low (current level) records (last_extend (suc level) 0 None records) tree is)) [
       | inl none ↦ absurd (cc)
       | inr low ↦ inr (omega (arith, low))
     ]
@@ -68,26 +68,26 @@ low_or None n m some within each = some
 low_or (Some tree) n m some within each = elim (each tree refl) [ inl same ↦ omega (arith, same, some) | inr low ↦ omega (arith, low, within) ]
 
 -- a tree before a place stands among the records
-pub tree_low : (level : ℕ) (records : List Record) (k : ℕ) → 0 < length records → k ≤ length records → tree_before level records k < length records
+pub tree_low : (level : ℕ) (records : List Record) (k : ℕ) → 0 < length records → k ≤ length records → current_at level records k < length records
 tree_low level records k some within =
     let size : length (take k records) ≤ length records = omega (arith, length-take-le k records within, within) in
     low_or (current level (take k records)) (length (take k records)) (length records) some size (current_low level (take k records))
 
-pub before_stays : (level : ℕ) (xs ys : List Record) (k : ℕ) → k ≤ length xs → tree_before level (xs ++ ys) k ≡ tree_before level xs k
+pub before_stays : (level : ℕ) (xs ys : List Record) (k : ℕ) → k ≤ length xs → current_at level (xs ++ ys) k ≡ current_at level xs k
 before_stays level xs ys k within = ap (λ records. unwrap_or (current level records) 0) (take-append-le k xs ys within)
 
 -- ---- secrets and signatures
 
 pub secret_stays : (trees : Trees) (xs ys : List Record) (tree : ℕ) → tree < length xs → secret_at trees (xs ++ ys) tree ≡ secret_at trees xs tree
-secret_stays trees xs ys tree low = ap (secret_by trees) (slice_get_front xs ys tree low)
+secret_stays trees xs ys tree low = ap (made_secret trees) (slice_get_front xs ys tree low)
 
 secret_before_stays : (trees : Trees) (xs ys : List Record) (level k : ℕ) → 0 < length xs → k ≤ length xs
-    → secret_at trees (xs ++ ys) (tree_before level (xs ++ ys) k) ≡ secret_at trees xs (tree_before level xs k)
+    → secret_at trees (xs ++ ys) (current_at level (xs ++ ys) k) ≡ secret_at trees xs (current_at level xs k)
 secret_before_stays trees xs ys level k some within =
-    ap (secret_at trees (xs ++ ys)) (before_stays level xs ys k within) ∙ secret_stays trees xs ys (tree_before level xs k) (tree_low level xs k some within)
+    ap (secret_at trees (xs ++ ys)) (before_stays level xs ys k within) ∙ secret_stays trees xs ys (current_at level xs k) (tree_low level xs k some within)
 
 signing_stays : (trees : Trees) (xs ys : List Record) (parent : ℕ) (found : Option Record) → parent < length xs
-    → signing_by trees (xs ++ ys) parent found ≡ signing_by trees xs parent found
+    → parent_signing trees (xs ++ ys) parent found ≡ parent_signing trees xs parent found
 signing_stays trees xs ys parent (Some (ExtendRecord extend)) low =
     let signing : LmsSecret → List Signing = λ secret. record {
       secret = secret;
@@ -103,15 +103,15 @@ signing_stays trees xs ys parent (Some Moved) low = refl
 signing_stays trees xs ys parent None low = refl
 
 pub signings_stay : (trees : Trees) (level : ℕ) (xs ys : List Record) (tree : ℕ) → tree < length xs
-    → signings_above trees level (xs ++ ys) tree ≡ signings_above trees level xs tree
+    → chain_signings trees level (xs ++ ys) tree ≡ chain_signings trees level xs tree
 signings_stay trees zero xs ys tree low = refl
 signings_stay trees (suc level) xs ys tree low =
-    let parent = tree_before level xs tree in
+    let parent = current_at level xs tree in
     let inside : parent < length xs = tree_low level xs tree (omega (arith, low)) (omega (arith, low)) in
-    let all : ℕ → List Signing = λ p. signings_above trees level (xs ++ ys) p ++ signing_by trees (xs ++ ys) p (slice_get (xs ++ ys) tree) in
+    let all : ℕ → List Signing = λ p. chain_signings trees level (xs ++ ys) p ++ parent_signing trees (xs ++ ys) p (slice_get (xs ++ ys) tree) in
     ap all (before_stays level xs ys tree (omega (arith, low)))
     ∙ ap₂ (λ above own. above ++ own) (signings_stay trees level xs ys parent inside)
-    (ap (signing_by trees (xs ++ ys) parent) (slice_get_front xs ys tree low) ∙ signing_stays trees xs ys parent (slice_get xs tree) inside)
+    (ap (parent_signing trees (xs ++ ys) parent) (slice_get_front xs ys tree low) ∙ signing_stays trees xs ys parent (slice_get xs tree) inside)
 
 bound_signing : LmsSecret → Bound → Signing
 bound_signing secret bound = record { secret = secret; leaf = bound.leaf; randomizer = bound.randomizer; digest = bound.digest }
@@ -124,14 +124,14 @@ hss_stays (Some trees) xs ys level tree bound low =
     ap₂ (λ above secret. signature_bytes (textbook above (bottom secret))) (signings_stay trees level xs ys tree low) (secret_stays trees xs ys tree low)
 
 signature_by_stays : (secret : Secret) (xs ys : List Record) (k : ℕ) (bound : Bound) → 0 < length xs → k ≤ length xs
-    → signature_by secret (xs ++ ys) k bound ≡ signature_by secret xs k bound
+    → any_signature secret (xs ++ ys) k bound ≡ any_signature secret xs k bound
 signature_by_stays (Lms secret) xs ys k bound some within = refl
 signature_by_stays (Xmss secret) xs ys k bound some within = refl
 signature_by_stays (Hss levels identifier seed) xs ys k bound some within =
     let bottom = length levels - 1 in
     let trees = trees_of (Hss levels identifier seed) in
     ap (λ tree. hss_signature_under trees (xs ++ ys) bottom tree bound) (before_stays bottom xs ys k within)
-    ∙ hss_stays trees xs ys bottom (tree_before bottom xs k) bound (tree_low bottom xs k some within)
+    ∙ hss_stays trees xs ys bottom (current_at bottom xs k) bound (tree_low bottom xs k some within)
 
 pub signature_stays : (key : Key) (xs ys : List Record) (k : ℕ) (bound : Bound) → 0 < length xs → k ≤ length xs
     → signature_at key (xs ++ ys) k bound ≡ signature_at key xs k bound
@@ -144,14 +144,14 @@ digest_under_stays (Some trees) xs ys tree leaf randomizer message low =
     ap (λ secret. message_digest_of secret.identifier leaf randomizer message) (secret_stays trees xs ys tree low)
 
 digest_by_stays : (secret : Secret) (root : List ℕ) (xs ys : List Record) (k leaf : ℕ) (randomizer message : List ℕ) → 0 < length xs → k ≤ length xs
-    → digest_by secret root (xs ++ ys) k leaf randomizer message ≡ digest_by secret root xs k leaf randomizer message
+    → any_digest secret root (xs ++ ys) k leaf randomizer message ≡ any_digest secret root xs k leaf randomizer message
 digest_by_stays (Lms secret) root xs ys k leaf randomizer message some within = refl
 digest_by_stays (Xmss secret) root xs ys k leaf randomizer message some within = refl
 digest_by_stays (Hss levels identifier seed) root xs ys k leaf randomizer message some within =
     let bottom = length levels - 1 in
     let trees = trees_of (Hss levels identifier seed) in
     ap (λ tree. digest_under trees (xs ++ ys) tree leaf randomizer message) (before_stays bottom xs ys k within)
-    ∙ digest_under_stays trees xs ys (tree_before bottom xs k) leaf randomizer message (tree_low bottom xs k some within)
+    ∙ digest_under_stays trees xs ys (current_at bottom xs k) leaf randomizer message (tree_low bottom xs k some within)
 
 pub digest_stays : (key : Key) (xs ys : List Record) (k leaf : ℕ) (randomizer message : List ℕ) → 0 < length xs → k ≤ length xs
     → digest_at key (xs ++ ys) k leaf randomizer message ≡ digest_at key xs k leaf randomizer message
@@ -164,7 +164,7 @@ pub extend_stays : (trees : Option Trees) (xs ys : List Record) (k : ℕ) (exten
     → is_sound_extend trees (xs ++ ys) k extend ≡ is_sound_extend trees xs k extend
 extend_stays None xs ys k extend some within = refl
 extend_stays (Some trees) xs ys k extend some within =
-    let made = public_of (secret_by trees (Some (ExtendRecord extend))) in
+    let made = public_of (made_secret trees (Some (ExtendRecord extend))) in
     let test : LmsSecret → Bool = λ parent.
     are_same extend.root made.root && are_same extend.digest
     (message_digest_of parent.identifier extend.parent_leaf extend.randomizer (public_bytes made)) in
@@ -185,7 +185,7 @@ sound_stays key xs ys k low =
 
 -- ---- the key and the last record
 
-pub key_stays : (xs ys : List Record) (key : Key) → key_in xs ≡ Some key → key_in (xs ++ ys) ≡ Some key
+pub key_stays : (xs ys : List Record) (key : Key) → the_key xs ≡ Some key → the_key (xs ++ ys) ≡ Some key
 key_stays [] ys key is = absurd (cc)
 key_stays (KeyRecord first ∷ rest) ys key is = is
 key_stays (ExtendRecord extend ∷ rest) ys key is = absurd (cc)
@@ -193,7 +193,7 @@ key_stays (BoundRecord bound ∷ rest) ys key is = absurd (cc)
 key_stays (Retire upto ∷ rest) ys key is = absurd (cc)
 key_stays (Moved ∷ rest) ys key is = absurd (cc)
 
-pub some_keyed : (records : List Record) (key : Key) → key_in records ≡ Some key → 0 < length records
+pub some_keyed : (records : List Record) (key : Key) → the_key records ≡ Some key → 0 < length records
 some_keyed [] key is = absurd (cc)
 some_keyed (first ∷ rest) key is = omega arith
 

@@ -13,25 +13,25 @@ use Rattle.state_file.specs.declared.record.Secret.{Secret}
 use Rattle.sign_core.specs.declared.fault.SignFault.{SignFault}
 use Rattle.sign_core.specs.declared.fault.SignFault.TheVariants.{StoreFailed}
 use Rattle.sign_core.specs.declared.key.AnyPublic.{AnyPublic}
-use Rattle.sign_core.specs.Records.{are_same, binding_in, deepest, has_identifier, has_moved, key_in, leaves_of_current, next_at, wanted_count, is_long}
-use Rattle.sign_core.specs.Textbook.{Trees, damaged_in, digest_at, public_in, tree_before, trees_of}
+use Rattle.sign_core.specs.Records.{are_same, binding_at, deepest, has_identifier, has_moved, the_key, leaves_of_current, next_at, wanted_count, is_long}
+use Rattle.sign_core.specs.Textbook.{Trees, damaged_at, digest_at, any_public_of, current_at, trees_of}
 use Rattle.sign_core.specs.World.{Chance, Creation, Draw, Fate, Outcome, State, acked, answered, appended}
-use Rattle.sign_core.specs.inner.Cases.{begun, bound_anew, bound_sound}
-use Rattle.sign_core.specs.World.{closed_on, created, drawing, reading}
-use Rattle.sign_core.specs.inner.Cases.{bound_with, created_after}
-use Rattle.sign_core.specs.World.{cut_new, cut_old, first_draw, new_key, no_memory, open_on}
-use Rattle.sign_core.specs.inner.Cases.{extended, extended_by, extended_with, bound_below}
-use Rattle.sign_core.specs.World.{randomizer_from}
+use Rattle.sign_core.specs.inner.Cases.{begun, bound_level, bound_sound}
+use Rattle.sign_core.specs.World.{closed_state, created, drawing, reading}
+use Rattle.sign_core.specs.inner.Cases.{bound_message, created_load}
+use Rattle.sign_core.specs.World.{cut_new, cut_old, first_draw, new_key, no_memory, open_state}
+use Rattle.sign_core.specs.inner.Cases.{extended, extended_identifier, extended_seed, bound_trees}
+use Rattle.sign_core.specs.World.{randomizer_of_fields}
 use Rattle.sign_core.specs.inner.Cases.{published}
-use Rattle.sign_core.specs.World.{refused, secret_from}
-use Rattle.sign_core.specs.inner.Cases.{repeated, repeated_sound, requested_of, requested_under, retired_under}
+use Rattle.sign_core.specs.World.{refused, secret_of_fields}
+use Rattle.sign_core.specs.inner.Cases.{repeated, repeated_sound, requested_binding, requested_key, retired_key}
 use Rattle.sign_core.specs.Cuts.{IsBeginning, IsLeftBy, StopLaw, reached}
-use Rattle.sign_core.specs.World.{World, create, handed_with, request, requested, retire, retired, stop}
+use Rattle.sign_core.specs.World.{World, create, newly_handed, request, requested, retire, retired, stop}
 use Rattle.sign_core.proofs.Found.{IsTreeDraw}
 
 -- the append was cut, and left these records
 abbrev pub IsCutAt : {A : Type 0} → Outcome A → (left : List Record) → Type 0
-IsCutAt outcome left = (outcome.state ≡ closed_on left) × (outcome.answer ≡ Err StoreFailed)
+IsCutAt outcome left = (outcome.state ≡ closed_state left) × (outcome.answer ≡ Err StoreFailed)
 
 -- one of these outcomes was cut and left these records, whatever the draws of trees that it doesn't use
 abbrev pub OneCut : {A I : Type 0} → (outcomes : I → List Draw → Outcome A) → (left : List Record) → Type 0
@@ -135,29 +135,29 @@ abbrev fated : Creation → Fate → Creation
 fated chance fate = record { version = chance.version; failed_load = chance.failed_load; fields = chance.fields; has_room = chance.has_room; fate = fate }
 
 stops_published : (records : List Record) (public : Option AnyPublic) (ways : List Record → Type 0) → Stops records (published records public) ways
-stops_published records (Some public) ways = answers (open_on records) public ways
-stops_published records None ways = refuses (closed_on records) _ ways
+stops_published records (Some public) ways = answers (open_state records) public ways
+stops_published records None ways = refuses (closed_state records) _ ways
 
 stops_begun : (state : State) (chance : Creation) (secret : Option Secret)
     → Stops state.records (begun state chance secret) (OneCut {I = Fate × Unit {0}} (λ i unused. begun state (fated chance i.0) secret))
 stops_begun state chance None = refuses state _ _
 stops_begun state chance (Some secret) = stops_choice {I = Fate × Unit {0}} state.records (not chance.has_room) _ _ _ _
     (refuses state _ _)
-    (stops_append tt state (KeyRecord (new_key chance.version secret)) chance.fate _ (λ i unused records. published records (public_in (new_key chance.version secret)))
-    (λ records. stops_published records (public_in (new_key chance.version secret)) _))
+    (stops_append tt state (KeyRecord (new_key chance.version secret)) chance.fate _ (λ i unused records. published records (any_public_of (new_key chance.version secret)))
+    (λ records. stops_published records (any_public_of (new_key chance.version secret)) _))
 
 stops_after : (failed : Option SignFault) (state : State) (spec : Spec) (chance : Creation)
-    → Stops state.records (created_after failed state spec chance)
-    (OneCut {I = Fate × Unit {0}} (λ i unused. created_after failed state spec (fated chance i.0)))
+    → Stops state.records (created_load failed state spec chance)
+    (OneCut {I = Fate × Unit {0}} (λ i unused. created_load failed state spec (fated chance i.0)))
 stops_after (Some fault) state spec chance = refuses state _ _
 stops_after None state spec chance = stops_choice {I = Fate × Unit {0}} state.records (nat_le 1 (length state.records)) _ _ _ _
     (refuses state _ _)
-    (drawn_stops (concat chance.fields) _ (stops_begun state chance (secret_from spec chance.fields)))
+    (drawn_stops (concat chance.fields) _ (stops_begun state chance (secret_of_fields spec chance.fields)))
 
 -- ---- retire
 
 stops_retired : (limit : ℕ) (state : State) (upto : ℕ) (fate : Fate) (found : Option Key)
-    → Stops state.records (retired_under limit state upto fate found) (OneCut {I = Fate × Unit {0}} (λ i unused. retired_under limit state upto i.0 found))
+    → Stops state.records (retired_key limit state upto fate found) (OneCut {I = Fate × Unit {0}} (λ i unused. retired_key limit state upto i.0 found))
 stops_retired limit state upto fate None = refuses state _ _
 stops_retired limit state upto fate (Some key) = stops_choice {I = Fate × Unit {0}} state.records (not state.is_open) _ _ _ _
     (refuses state _ _)
@@ -167,8 +167,8 @@ stops_retired limit state upto fate (Some key) = stops_choice {I = Fate × Unit 
     (stops_choice {I = Fate × Unit {0}} state.records (nat_le upto (next_at key.secret state.records (bottom_of key.secret))) _ _ _ _
     (answers state tt _)
     (stops_choice {I = Fate × Unit {0}} state.records (nat_lt limit (length state.records + 1)) _ _ _ _ (refuses state _ _)
-    (stops_append tt state (Retire upto) fate _ (λ i unused records. answered (open_on records) tt)
-    (λ records. answers (open_on records) tt _))))))
+    (stops_append tt state (Retire upto) fate _ (λ i unused records. answered (open_state records) tt)
+    (λ records. answers (open_state records) tt _))))))
 
 -- ---- requests
 
@@ -190,35 +190,35 @@ no_others : Others
 no_others = record { trees = []; all = tt; fate = acked }
 
 stops_bound : (state : State) (key : Key) (name : List ℕ) (randomizer given : Option (List ℕ)) (fate : Fate)
-    → Stops state.records (bound_with state key name randomizer given fate)
-    (OneCut {I = Fate × Unit {0}} (λ i unused. bound_with state key name randomizer given i.0))
+    → Stops state.records (bound_message state key name randomizer given fate)
+    (OneCut {I = Fate × Unit {0}} (λ i unused. bound_message state key name randomizer given i.0))
 stops_bound state key name None given fate = refuses state _ _
 stops_bound state key name (Some randomizer) None fate = read_stops _ (refuses state _ _)
 stops_bound state key name (Some randomizer) (Some message) fate =
-    read_stops _ (stops_append tt state _ fate _ (λ i unused records. answered (open_on records) _)
-    (λ records. answers (open_on records) _ _))
+    read_stops _ (stops_append tt state _ fate _ (λ i unused records. answered (open_state records) _)
+    (λ records. answers (open_state records) _ _))
 
-stops_with : {I : Type 0} (i : I) (state : State) (trees : Trees) (level leaf : ℕ) (identifier : List ℕ) (fields : List (List ℕ)) (fate : Fate)
+stops_seed : {I : Type 0} (i : I) (state : State) (trees : Trees) (level leaf : ℕ) (identifier : List ℕ) (fields : List (List ℕ)) (fate : Fate)
     (next : List Record → Outcome (List ℕ)) (nexts : I → List Draw → List Record → Outcome (List ℕ))
     → ((records : List Record) → Stops records (next records) (OneCut (λ i unused. nexts i unused records)))
-    → Stops state.records (extended_with state trees level leaf identifier fields fate next)
-    (OneCut {I = Fate × I} (λ i unused. extended_with state trees level leaf identifier fields i.0 (nexts i.1 unused)))
-stops_with i state trees level leaf identifier [] fate next nexts later = drawn_stops (concat []) _ (refuses state _ _)
-stops_with i state trees level leaf identifier (seed ∷ []) fate next nexts later = drawn_stops (concat (seed ∷ [])) _ (refuses state _ _)
-stops_with i state trees level leaf identifier (seed ∷ randomizer ∷ []) fate next nexts later =
+    → Stops state.records (extended_seed state trees level leaf identifier fields fate next)
+    (OneCut {I = Fate × I} (λ i unused. extended_seed state trees level leaf identifier fields i.0 (nexts i.1 unused)))
+stops_seed i state trees level leaf identifier [] fate next nexts later = drawn_stops (concat []) _ (refuses state _ _)
+stops_seed i state trees level leaf identifier (seed ∷ []) fate next nexts later = drawn_stops (concat (seed ∷ [])) _ (refuses state _ _)
+stops_seed i state trees level leaf identifier (seed ∷ randomizer ∷ []) fate next nexts later =
     drawn_stops (seed ++ randomizer) _ (stops_append i state _ fate next nexts later)
-stops_with i state trees level leaf identifier (seed ∷ randomizer ∷ more ∷ rest) fate next nexts later =
+stops_seed i state trees level leaf identifier (seed ∷ randomizer ∷ more ∷ rest) fate next nexts later =
     drawn_stops (concat (seed ∷ randomizer ∷ more ∷ rest)) _ (refuses state _ _)
 
-stops_extended_by : {I : Type 0} (i : I) (state : State) (trees : Trees) (level leaf : ℕ) (fields : List (List ℕ)) (fate : Fate)
+stops_identifier : {I : Type 0} (i : I) (state : State) (trees : Trees) (level leaf : ℕ) (fields : List (List ℕ)) (fate : Fate)
     (next : List Record → Outcome (List ℕ)) (nexts : I → List Draw → List Record → Outcome (List ℕ))
     → ((records : List Record) → Stops records (next records) (OneCut (λ i unused. nexts i unused records)))
-    → Stops state.records (extended_by state trees level leaf fields fate next)
-    (OneCut {I = Fate × I} (λ i unused. extended_by state trees level leaf fields i.0 (nexts i.1 unused)))
-stops_extended_by i state trees level leaf [] fate next nexts later = refuses state _ _
-stops_extended_by {I = I} i state trees level leaf (identifier ∷ fields) fate next nexts later =
+    → Stops state.records (extended_identifier state trees level leaf fields fate next)
+    (OneCut {I = Fate × I} (λ i unused. extended_identifier state trees level leaf fields i.0 (nexts i.1 unused)))
+stops_identifier i state trees level leaf [] fate next nexts later = refuses state _ _
+stops_identifier {I = I} i state trees level leaf (identifier ∷ fields) fate next nexts later =
     drawn_stops identifier _ (stops_choice {I = Fate × I} state.records (has_identifier state.records identifier) _ _ _ _ (refuses state _ _)
-    (stops_with i state trees level leaf identifier fields fate next nexts later))
+    (stops_seed i state trees level leaf identifier fields fate next nexts later))
 
 stops_extended : {I : Type 0} (i : I) (state : State) (key : Key) (level : ℕ) (trees : Option Trees) (draw : Draw)
     (next : List Record → Outcome (List ℕ)) (nexts : I → List Draw → List Record → Outcome (List ℕ))
@@ -227,7 +227,7 @@ stops_extended : {I : Type 0} (i : I) (state : State) (key : Key) (level : ℕ) 
     (OneCut {I = Fate × I} (λ i unused. extended state key level trees (record { fields = draw.fields; fate = i.0 }) (nexts i.1 unused)))
 stops_extended i state key level None draw next nexts later = refuses state _ _
 stops_extended i state key level (Some trees) draw next nexts later =
-    stops_extended_by i state trees level (next_at key.secret state.records (level - 1)) draw.fields draw.fate next nexts later
+    stops_identifier i state trees level (next_at key.secret state.records (level - 1)) draw.fields draw.fate next nexts later
 
 all_first : (draws : List Draw) → AllByRecursion IsTreeDraw draws → IsTreeDraw (first_draw draws)
 all_first [] all = tt
@@ -238,11 +238,11 @@ all_later [] all = tt
 all_later (draw ∷ draws) all = all.1
 
 stops_bound_below : (key : Key) (name : List ℕ) (chance : Chance) (below : ℕ) (draws : List Draw) (all : AllByRecursion IsTreeDraw draws) (records : List Record)
-    → Stops records (bound_below key name chance below draws records)
-    (OneCut {I = Others} (λ o unused. bound_below key name (other_chance chance o.fate unused) below o.trees records))
+    → Stops records (bound_trees key name chance below draws records)
+    (OneCut {I = Others} (λ o unused. bound_trees key name (other_chance chance o.fate unused) below o.trees records))
 stops_bound_below key name chance zero draws all records =
     drawn_stops (concat chance.bound.fields) _ (stops_by records _ _ _ (λ left way. (record { trees = []; all = tt; fate = way.0.0 }, way.1))
-    (stops_bound (open_on records) key name (randomizer_from key.secret chance.bound.fields) chance.given chance.bound.fate))
+    (stops_bound (open_state records) key name (randomizer_of_fields key.secret chance.bound.fields) chance.given chance.bound.fate))
 stops_bound_below key name chance (suc below) draws all records =
     stops_by records _ _ _
     (λ left way. (
@@ -253,8 +253,8 @@ stops_bound_below key name chance (suc below) draws all records =
       },
       way.1,
     ))
-    (stops_extended {I = Others} no_others (open_on records) key (bottom_of key.secret - below) (trees_of key.secret) (first_draw draws)
-    (bound_below key name chance below (drop 1 draws)) (λ o unused. bound_below key name (other_chance chance o.fate unused) below o.trees)
+    (stops_extended {I = Others} no_others (open_state records) key (bottom_of key.secret - below) (trees_of key.secret) (first_draw draws)
+    (bound_trees key name chance below (drop 1 draws)) (λ o unused. bound_trees key name (other_chance chance o.fate unused) below o.trees)
     (stops_bound_below key name chance below (drop 1 draws) (all_later draws all)))
 
 stops_sound : (state : State) (key : Key) (name : List ℕ) (chance : Chance) → AllByRecursion IsTreeDraw chance.trees → (level : ℕ) (damaged : Option ℕ)
@@ -265,14 +265,14 @@ stops_sound state key name chance all level None =
     stops_by state.records _ _ _ (λ left way. (way.0, λ unused. way.1 way.0.trees))
     (stops_bound_below key name chance (bottom_of key.secret - level) chance.trees all state.records)
 
-stops_anew : (limit : ℕ) (state : State) (key : Key) (name : List ℕ) (chance : Chance) → AllByRecursion IsTreeDraw chance.trees → (level : Option ℕ)
-    → Stops state.records (bound_anew limit state key name chance level)
-    (OneCut {I = Others} (λ o unused. bound_anew limit state key name (other_chance chance o.fate o.trees) level))
-stops_anew limit state key name chance all None = refuses state _ _
-stops_anew limit state key name chance all (Some level) =
+stops_level : (limit : ℕ) (state : State) (key : Key) (name : List ℕ) (chance : Chance) → AllByRecursion IsTreeDraw chance.trees → (level : Option ℕ)
+    → Stops state.records (bound_level limit state key name chance level)
+    (OneCut {I = Others} (λ o unused. bound_level limit state key name (other_chance chance o.fate o.trees) level))
+stops_level limit state key name chance all None = refuses state _ _
+stops_level limit state key name chance all (Some level) =
     stops_choice {I = Others} state.records (nat_lt limit (length state.records + wanted_count key.secret level)) _ _ _ _ (refuses state _ _)
     (stops_choice {I = Others} state.records (not chance.has_room) _ _ _ _ (refuses state _ _)
-    (stops_sound state key name chance all level (damaged_in key level state.records (tree_before level state.records (length state.records)))))
+    (stops_sound state key name chance all level (damaged_at key level state.records (current_at level state.records (length state.records)))))
 
 stops_repeated_sound : (state : State) (key : Key) (k : ℕ) (bound : Bound) (damaged : Option ℕ) (ways : List Record → Type 0)
     → Stops state.records (repeated_sound state key k bound damaged) ways
@@ -290,19 +290,19 @@ stops_repeated state key k bound chance (Some message) = read_stops _
     (stops_repeated_sound state key k bound _ _)))
 
 stops_of : (limit : ℕ) (state : State) (key : Key) (name : List ℕ) (chance : Chance) → AllByRecursion IsTreeDraw chance.trees → (found : Option (ℕ × Bound))
-    → Stops state.records (requested_of limit state key name chance found)
-    (OneCut {I = Others} (λ o unused. requested_of limit state key name (other_chance chance o.fate o.trees) found))
+    → Stops state.records (requested_binding limit state key name chance found)
+    (OneCut {I = Others} (λ o unused. requested_binding limit state key name (other_chance chance o.fate o.trees) found))
 stops_of limit state key name chance all (Some (k, bound)) = stops_repeated state key k bound chance chance.given
 stops_of limit state key name chance all None = stops_choice {I = Others} state.records (is_long key name) _ _ _ _ (refuses state _ _)
-    (stops_anew limit state key name chance all (deepest key.secret state.records))
+    (stops_level limit state key name chance all (deepest key.secret state.records))
 
-stops_under : (limit : ℕ) (state : State) (name : List ℕ) (chance : Chance) → AllByRecursion IsTreeDraw chance.trees → (found : Option Key)
-    → Stops state.records (requested_under limit state name chance found)
-    (OneCut {I = Others} (λ o unused. requested_under limit state name (other_chance chance o.fate o.trees) found))
-stops_under limit state name chance all None = refuses state _ _
-stops_under limit state name chance all (Some key) = stops_choice {I = Others} state.records (not state.is_open) _ _ _ _ (refuses state _ _)
+stops_key : (limit : ℕ) (state : State) (name : List ℕ) (chance : Chance) → AllByRecursion IsTreeDraw chance.trees → (found : Option Key)
+    → Stops state.records (requested_key limit state name chance found)
+    (OneCut {I = Others} (λ o unused. requested_key limit state name (other_chance chance o.fate o.trees) found))
+stops_key limit state name chance all None = refuses state _ _
+stops_key limit state name chance all (Some key) = stops_choice {I = Others} state.records (not state.is_open) _ _ _ _ (refuses state _ _)
     (stops_choice {I = Others} state.records (has_moved state.records) _ _ _ _ (refuses state _ _)
-    (stops_of limit state key name chance all (binding_in state.records name)))
+    (stops_of limit state key name chance all (binding_at state.records name)))
 
 -- ---- the law
 
@@ -320,13 +320,13 @@ beyond (x ∷ records) more (suc count) enough =
 
 pub left_by_stop : (limit : ℕ) (world : World) (left : List Record) → left ≡ world.state.records → IsLeftBy limit world left
 left_by_stop limit world left is =
-    record { events = stop ∷ []; possible = (tt, tt); leads = ap (λ l. record { state = closed_on l; handed = world.handed }) (sym is) }
+    record { events = stop ∷ []; possible = (tt, tt); leads = ap (λ l. record { state = closed_state l; handed = world.handed }) (sym is) }
 
 -- what crashes leave, where each way is one event
-left_by : {A : Type 0} (limit : ℕ) (world : World) (outcome : Outcome A) (ways : List Record → Type 0) (left : List Record)
+contents_left : {A : Type 0} (limit : ℕ) (world : World) (outcome : Outcome A) (ways : List Record → Type 0) (left : List Record)
     → Stops world.state.records outcome ways → ((all : List Record) → ways all → IsLeftBy limit world all)
     → IsBeginning (length world.state.records) (reached outcome) left → IsLeftBy limit world left
-left_by limit world outcome ways left stops leads begins =
+contents_left limit world outcome ways left stops leads begins =
     let (first, rest, is, are) = beyond world.state.records stops.more begins.count begins.enough in
     let whole = begins.beginning ∙ ap (take begins.count) stops.reaches ∙ is in
     elim (stops.each first rest are) as (λ u. IsLeftBy limit world left) [
@@ -335,7 +335,7 @@ left_by limit world outcome ways left stops leads begins =
     ]
 
 nothing_handed : (name : List ℕ) (given : Option (List ℕ)) (answer : Result (List ℕ) SignFault) → answer ≡ Err StoreFailed
-    → handed_with name given answer ≡ []
+    → newly_handed name given answer ≡ []
 nothing_handed name (Some message) (Ok signature) is = absurd (cc)
 nothing_handed name None (Ok signature) is = refl
 nothing_handed name (Some message) (Err fault) is = refl
@@ -344,26 +344,26 @@ nothing_handed name None (Err fault) is = refl
 pub stop_law : StopLaw
 stop_law = record {
   creates = λ limit world spec chance left can begins.
-      left_by limit world (created world.state spec chance) _ left (stops_after chance.failed_load world.state spec chance)
+      contents_left limit world (created world.state spec chance) _ left (stops_after chance.failed_load world.state spec chance)
       (λ all way. record {
         events = create spec (fated chance way.0.0) ∷ [];
         possible = (can, tt);
         leads = ap (λ s. record { state = s; handed = world.handed }) (way.1 []).0;
       }) begins;
   requests = λ limit world name chance left can begins.
-      left_by limit world (requested limit world.state name chance) _ left (stops_under limit world.state name chance can.1.trees (key_in world.state.records))
+      contents_left limit world (requested limit world.state name chance) _ left (stops_key limit world.state name chance can.1.trees (the_key world.state.records))
       (λ all way. record {
         events = request name (other_chance chance way.0.fate way.0.trees) ∷ [];
         possible = ((can.0, record { trees = way.0.all; bound = can.1.bound }), tt);
         leads = ap (λ s. record {
           state = s;
-          handed = world.handed ++ handed_with name chance.given (requested limit world.state name (other_chance chance way.0.fate way.0.trees)).answer;
+          handed = world.handed ++ newly_handed name chance.given (requested limit world.state name (other_chance chance way.0.fate way.0.trees)).answer;
         }) (way.1 []).0
-            ∙ ap (λ l. record { state = closed_on all; handed = l })
+            ∙ ap (λ l. record { state = closed_state all; handed = l })
             (ap (λ l. world.handed ++ l) (nothing_handed name chance.given _ (way.1 []).1) ∙ append-nil world.handed);
       }) begins;
   retires = λ limit world upto fate left begins.
-      left_by limit world (retired limit world.state upto fate) _ left (stops_retired limit world.state upto fate (key_in world.state.records))
+      contents_left limit world (retired limit world.state upto fate) _ left (stops_retired limit world.state upto fate (the_key world.state.records))
       (λ all way. record {
         events = retire upto way.0.0 ∷ [];
         possible = (tt, tt);

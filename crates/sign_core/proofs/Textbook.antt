@@ -14,7 +14,7 @@ use Rattle.lms.specs.Writing.{public_bytes as lms_public_bytes, textbook as lms_
 use Rattle.hss.specs.Secret.{Signing}
 use Rattle.hss.specs.Signature.{message_at}
 use Rattle.hss.specs.SignedKey.{SignedKey}
-use Rattle.hss.specs.Writing.{AreSized, IsSized, AreSigning, level_in, levels_in, textbook}
+use Rattle.hss.specs.Writing.{AreSized, IsSized, AreSigning, level_at, all_levels, textbook}
 use Rattle.hss.proofs.Making.{signed-at, signed-count}
 use Rattle.state_file.specs.Laws.{Fits, bottom_of, leaves_at}
 use Rattle.state_file.specs.declared.record.Bound.{Bound}
@@ -22,7 +22,7 @@ use Rattle.state_file.specs.declared.record.Key.{Key}
 use Rattle.state_file.specs.declared.record.Record.{Record}
 use Rattle.state_file.specs.declared.record.Record.TheVariants.{Key as KeyRecord, Extend as ExtendRecord, Bound as BoundRecord}
 use Rattle.sign_core.specs.Records.{current}
-use Rattle.sign_core.specs.Textbook.{AllHaveSizes, Trees, secret_at, secret_by, trees_of}
+use Rattle.sign_core.specs.Textbook.{AllHaveSizes, Trees, secret_at, made_secret, trees_of}
 use Rattle.sign_core.proofs.Chains.{AreChained, SignsNext, chained, current_made}
 use Rattle.sign_core.specs.inner.Links.{signing_of_bound}
 
@@ -36,12 +36,12 @@ key_of level = lms_public_of level.secret
 
 -- a level above the bottom signs the next level's key
 message_above : (above : List Signing) (bottom : Signing) (message : List ℕ) (i : ℕ) → i < length above
-    → message_at message (textbook above bottom) i ≡ lms_public_bytes (lms_public_of (level_in above bottom (i + 1)).secret)
+    → message_at message (textbook above bottom) i ≡ lms_public_bytes (lms_public_of (level_at above bottom (i + 1)).secret)
 unfolding signature_of key_of
 message_above above bottom message i inside =
     let signed = (textbook above bottom).signed in
     let key_bytes : SignedKey → List ℕ = λ one. lms_public_bytes one.key in
-    let one : SignedKey = record { signature = signature_of (level_in above bottom i); key = key_of (level_in above bottom (i + 1)) } in
+    let one : SignedKey = record { signature = signature_of (level_at above bottom i); key = key_of (level_at above bottom (i + 1)) } in
     let count : length signed ≡ length above = signed-count signature_of key_of above bottom in
     let within : i < length (map key_bytes signed) = omega (arith, inside, count, length-map signed key_bytes) in
     get_or_append_left (map key_bytes signed) (message ∷ []) message i within
@@ -72,18 +72,18 @@ module _ (key : Key) (trees : Trees) (records : List Record) (has : HasTrees key
   -- a level's tree has the level's types
   tree_pair : (level k tree : ℕ) → current level (take k records) ≡ Some tree
       → (secret_at trees records tree).pair ≡ slice_index_or trees.pairs level trees.top.pair
-  tree_pair zero k tree is = ap (λ n. (secret_at trees records n).pair) (sym (same_Some 0 tree is)) ∙ ap (λ r. (secret_by trees r).pair) has.first ∙ has.pairs
+  tree_pair zero k tree is = ap (λ n. (secret_at trees records n).pair) (sym (same_Some 0 tree is)) ∙ ap (λ r. (made_secret trees r).pair) has.first ∙ has.pairs
   tree_pair (suc level) k tree is =
       let made = (current_made level k records tree is).1 in
-      ap (λ r. (secret_by trees r).pair) made.stands ∙ ap (λ n. slice_index_or trees.pairs n trees.top.pair) (omega (arith, made.of_level))
+      ap (λ r. (made_secret trees r).pair) made.stands ∙ ap (λ n. slice_index_or trees.pairs n trees.top.pair) (omega (arith, made.of_level))
 
   tree_identifier : (level k tree : ℕ) → current level (take k records) ≡ Some tree → length (secret_at trees records tree).identifier ≡ 16
   tree_identifier zero k tree is =
-      ap (λ n. length (secret_at trees records n).identifier) (sym (same_Some 0 tree is)) ∙ ap (λ r. length (secret_by trees r).identifier) has.first
+      ap (λ n. length (secret_at trees records n).identifier) (sym (same_Some 0 tree is)) ∙ ap (λ r. length (made_secret trees r).identifier) has.first
       ∙ has.identifier
   tree_identifier (suc level) k tree is =
       let made = (current_made level k records tree is).1 in
-      ap (λ r. length (secret_by trees r).identifier) made.stands ∙ (has.sizes tree (ExtendRecord made.extend) made.stands).0
+      ap (λ r. length (made_secret trees r).identifier) made.stands ∙ (has.sizes tree (ExtendRecord made.extend) made.stands).0
 
   -- a leaf below the number of a level's leaves is one of its current tree
   tree_leaf : (level k tree n : ℕ) → current level (take k records) ≡ Some tree → n < leaves_at key.secret level
@@ -120,28 +120,28 @@ pub chain_signs : (trees : Trees) (records : List Record) (above : List Signing)
     → bottom.digest ≡ message_digest_of bottom.secret.identifier bottom.leaf bottom.randomizer message
     → AreChained trees records above bottom → AreSized above bottom × AreSigning above bottom message
 chain_signs trees records above bottom message sized bottom_sized digest chained =
-    let levels = levels_in above bottom in
+    let levels = all_levels above bottom in
     let count : length levels ≡ length above + 1 = length-append above (bottom ∷ []) in
-    let last : level_in above bottom (length above) ≡ bottom = get_or_at above bottom [] bottom (length above) refl in
-    let link : (i : ℕ) → i < length above → SignsNext trees records i (level_in above bottom i) (level_in above bottom (i + 1)) =
-    λ i inside. chained.links i (level_in above bottom i) (level_in above bottom (i + 1)) (slice_get-get_or levels i bottom (omega (arith, inside, count)))
+    let last : level_at above bottom (length above) ≡ bottom = get_or_at above bottom [] bottom (length above) refl in
+    let link : (i : ℕ) → i < length above → SignsNext trees records i (level_at above bottom i) (level_at above bottom (i + 1)) =
+    λ i inside. chained.links i (level_at above bottom i) (level_at above bottom (i + 1)) (slice_get-get_or levels i bottom (omega (arith, inside, count)))
     (slice_get-get_or levels (i + 1) bottom (omega (arith, inside, count))) in
     let each_sized : AreSized above bottom = λ i inside.
     elim (cases_order i (length above)) [
-      | inl same ↦ subst IsSized (sym (ap (level_in above bottom) same ∙ last)) bottom_sized
-      | inr (inl below) ↦ sized i (level_in above bottom i) (level_in above bottom (i + 1)) (link i below)
+      | inl same ↦ subst IsSized (sym (ap (level_at above bottom) same ∙ last)) bottom_sized
+      | inr (inl below) ↦ sized i (level_at above bottom i) (level_at above bottom (i + 1)) (link i below)
       | inr (inr beyond) ↦ absurd (omega (arith, inside, beyond))
     ] in
-    let digest_by : Signing → List ℕ → Type 0 = λ level signed. level.digest ≡ message_digest_of level.secret.identifier level.leaf level.randomizer signed in (
+    let any_digest : Signing → List ℕ → Type 0 = λ level signed. level.digest ≡ message_digest_of level.secret.identifier level.leaf level.randomizer signed in (
       each_sized,
       record {
         leaves = λ i inside. (each_sized i inside).inside;
         digests = λ i inside.
             elim (cases_order i (length above)) [
-              | inl same ↦ subst (λ n. digest_by (level_in above bottom n) (message_at message (textbook above bottom) n)) (sym same)
-                  (subst (λ level. digest_by level (message_at message (textbook above bottom) (length above))) (sym last)
-                  (subst (digest_by bottom) (sym (message_bottom above bottom message)) digest))
-              | inr (inl below) ↦ subst (digest_by (level_in above bottom i)) (sym (message_above above bottom message i below)) (link i below).signed
+              | inl same ↦ subst (λ n. any_digest (level_at above bottom n) (message_at message (textbook above bottom) n)) (sym same)
+                  (subst (λ level. any_digest level (message_at message (textbook above bottom) (length above))) (sym last)
+                  (subst (any_digest bottom) (sym (message_bottom above bottom message)) digest))
+              | inr (inl below) ↦ subst (any_digest (level_at above bottom i)) (sym (message_above above bottom message i below)) (link i below).signed
               | inr (inr beyond) ↦ absurd (omega (arith, inside, beyond))
             ];
       },

@@ -10,16 +10,16 @@ use Rattle.state_file.specs.declared.record.Record.{Record}
 use Rattle.state_file.specs.declared.record.Record.TheVariants.{Key as KeyRecord, Extend as ExtendRecord, Bound as BoundRecord, Retire, Moved}
 use Rattle.state_file.specs.Laws.{IsCurrent, IsLastExtend}
 use Rattle.state_file.proofs.Legal.{current-all, current-front}
-use Rattle.sign_core.specs.Records.{current, last_from, makes, same_tree, under}
+use Rattle.sign_core.specs.Records.{current, last_extend, makes, same_tree, under}
 
 -- ---- the last Extend of a level
 
-made_by : (level : ℕ) (entry : Record) → makes level entry ≡ true → (extend : Extend) × (entry ≡ ExtendRecord extend) × (extend.level ≡ level)
-made_by level (KeyRecord key) is = absurd (true≢false (sym is))
-made_by level (ExtendRecord extend) is = (extend, refl, eqb-true extend.level level is)
-made_by level (BoundRecord bound) is = absurd (true≢false (sym is))
-made_by level (Retire upto) is = absurd (true≢false (sym is))
-made_by level Moved is = absurd (true≢false (sym is))
+made_entry : (level : ℕ) (entry : Record) → makes level entry ≡ true → (extend : Extend) × (entry ≡ ExtendRecord extend) × (extend.level ≡ level)
+made_entry level (KeyRecord key) is = absurd (true≢false (sym is))
+made_entry level (ExtendRecord extend) is = (extend, refl, eqb-true extend.level level is)
+made_entry level (BoundRecord bound) is = absurd (true≢false (sym is))
+made_entry level (Retire upto) is = absurd (true≢false (sym is))
+made_entry level Moved is = absurd (true≢false (sym is))
 
 makes_not : (level : ℕ) (entry : Record) (other : Extend) → makes level entry ≡ false → entry ≡ ExtendRecord other → other.level ≢ level
 makes_not level entry other none same = eqb-false other.level level (subst (λ e. makes level e ≡ false) same none)
@@ -37,8 +37,8 @@ record LastFrom (level k : ℕ) (entries : List Record) (j : ℕ) : Type 0 where
   last : (i : ℕ) (other : Extend) → at < i → slice_get entries i ≡ Some (ExtendRecord other) → other.level ≢ level
 
 abbrev FoundLast : ℕ → ℕ → Option ℕ → List Record → Type 0
-FoundLast level k found entries = ((j : ℕ) × (last_from level k found entries ≡ Some j) × LastFrom level k entries j)
-    ⊎ ((last_from level k found entries ≡ found) × NoneMakes level entries)
+FoundLast level k found entries = ((j : ℕ) × (last_extend level k found entries ≡ Some j) × LastFrom level k entries j)
+    ⊎ ((last_extend level k found entries ≡ found) × NoneMakes level entries)
 
 none_later : (level : ℕ) (entry : Record) (rest : List Record) → NoneMakes level rest → (i : ℕ) (other : Extend) → 0 < i
     → slice_get (entry ∷ rest) i ≡ Some (ExtendRecord other) → other.level ≢ level
@@ -65,7 +65,7 @@ last_later level k j entry rest later = record {
 
 last_here : (level k : ℕ) (entry : Record) (rest : List Record) → makes level entry ≡ true → NoneMakes level rest → LastFrom level k (entry ∷ rest) k
 last_here level k entry rest made none =
-    let (extend, same, of_level) = made_by level entry made in record {
+    let (extend, same, of_level) = made_entry level entry made in record {
       at = 0;
       extend = extend;
       place = omega arith;
@@ -97,7 +97,7 @@ last_of level records j from =
       last = λ i other after before is. from.last i other (omega (arith, after, place)) is;
     }
 
-pub last_is : (level : ℕ) (records : List Record) (j : ℕ) → last_from level 0 None records ≡ Some j → IsLastExtend records (length records) level j
+pub last_is : (level : ℕ) (records : List Record) (j : ℕ) → last_extend level 0 None records ≡ Some j → IsLastExtend records (length records) level j
 last_is level records j is = elim (found_last level 0 None records) [
   | inl (i, at, from) ↦ last_of level records j (subst (LastFrom level 0 records) (same_Some i j (sym at ∙ is)) from)
   | inr (at, none) ↦ absurd (none-some j (sym at ∙ is))
@@ -111,7 +111,7 @@ one_last records k level i j a b =
       | inr (inr above) ↦ absurd (b.last i a.extend above a.before a.stands a.of_level)
     ]
 
-is_last : (level : ℕ) (records : List Record) (j : ℕ) → IsLastExtend records (length records) level j → last_from level 0 None records ≡ Some j
+is_last : (level : ℕ) (records : List Record) (j : ℕ) → IsLastExtend records (length records) level j → last_extend level 0 None records ≡ Some j
 is_last level records j last = elim (found_last level 0 None records) [
   | inl (i, at, from) ↦ at ∙ ap Some (one_last records (length records) level i j (last_of level records i from) last)
   | inr (at, none) ↦ absurd (none j last.extend last.stands last.of_level)
@@ -148,7 +148,7 @@ to_front records k level tree within is =
 
 current_below : (level : ℕ)
     → ((records : List Record) (tree : ℕ) → current level records ≡ Some tree → IsCurrent records (length records) level tree)
-    → (records : List Record) (tree : ℕ) (found : Option ℕ) → last_from (suc level) 0 None records ≡ found
+    → (records : List Record) (tree : ℕ) (found : Option ℕ) → last_extend (suc level) 0 None records ≡ found
     → under (current level) records found ≡ Some tree → IsCurrent records (length records) (suc level) tree
 current_below level above_is records tree None found is = absurd (none-some tree is)
 current_below level above_is records tree (Some j) found is =
@@ -162,7 +162,7 @@ current_below level above_is records tree (Some j) found is =
 pub current_is : (level : ℕ) (records : List Record) (tree : ℕ) → current level records ≡ Some tree → IsCurrent records (length records) level tree
 current_is zero records tree is = sym (same_Some 0 tree is)
 current_is (suc level) records tree is =
-    current_below level (λ before t at. current_is level before t at) records tree (last_from (suc level) 0 None records) refl is
+    current_below level (λ before t at. current_is level before t at) records tree (last_extend (suc level) 0 None records) refl is
 
 pub is_current : (level : ℕ) (records : List Record) (tree : ℕ) → IsCurrent records (length records) level tree → current level records ≡ Some tree
 is_current zero records tree is = ap Some (sym is)

@@ -11,16 +11,16 @@ use Rattle.sign_core.specs.declared.fault.SignFault.{SignFault}
 use Rattle.sign_core.specs.declared.fault.SignFault.TheVariants.{LedgerFull, OutOfMemory, RetireRange, Stopped, StoreFailed}
 use Rattle.sign_core.specs.declared.fault.SignFault.TheVariants.{Moved as MovedAway}
 use Rattle.sign_core.specs.Retirings.{IsActive, IsBeyondNext}
-use Rattle.sign_core.specs.Records.{binding_in, has_identifier, has_moved, key_in, leaves_of_current, next_at}
+use Rattle.sign_core.specs.Records.{binding_at, has_identifier, has_moved, the_key, leaves_of_current, next_at}
 use Rattle.sign_core.specs.Textbook.{Trees, lms_secret, trees_of}
 use Rattle.sign_core.specs.World.{Chance, Draw, Fate, Outcome, State, acked, answered, appended, cut_new, cut_old, extend_record}
-use Rattle.sign_core.specs.inner.Cases.{bound_with}
-use Rattle.sign_core.specs.World.{first_draw, no_memory, open_on, randomizer_from, refused}
-use Rattle.sign_core.specs.inner.Cases.{extended, extended_by, extended_with, bound_below}
+use Rattle.sign_core.specs.inner.Cases.{bound_message}
+use Rattle.sign_core.specs.World.{first_draw, no_memory, open_state, randomizer_of_fields, refused}
+use Rattle.sign_core.specs.inner.Cases.{extended, extended_identifier, extended_seed, bound_trees}
 use Rattle.sign_core.specs.World.{requested, retired}
-use Rattle.sign_core.specs.inner.Cases.{retired_under}
+use Rattle.sign_core.specs.inner.Cases.{retired_key}
 use Rattle.sign_core.proofs.Bindings.{binding_other}
-use Rattle.sign_core.proofs.DrawnAgain.{IsSettled, settled_repeated, settled_under}
+use Rattle.sign_core.proofs.DrawnAgain.{IsSettled, settled_repeated, settled_key}
 use Rattle.sign_core.proofs.OnceKept.{kept_choice}
 
 -- ---- what is bound
@@ -28,10 +28,10 @@ use Rattle.sign_core.proofs.OnceKept.{kept_choice}
 -- Refused for another reason than 25, each name is bound as it was.
 abbrev IsQuiet : (before : List Record) → Outcome (List ℕ) → Type 0
 IsQuiet before outcome = (fault : SignFault) (other : List ℕ) → outcome.answer ≡ Err fault → fault ≢ StoreFailed
-    → binding_in outcome.state.records other ≡ binding_in before other
+    → binding_at outcome.state.records other ≡ binding_at before other
 
 quiet_bound : (records : List Record) (key : Key) (name : List ℕ) (randomizer given : Option (List ℕ)) (fate : Fate)
-    → IsQuiet records (bound_with (open_on records) key name randomizer given fate)
+    → IsQuiet records (bound_message (open_state records) key name randomizer given fate)
 quiet_bound records key name None given fate fault other is not = refl
 quiet_bound records key name (Some randomizer) None fate fault other is not = refl
 quiet_bound records key name (Some randomizer) (Some message) acked fault other is not = absurd (cc)
@@ -42,7 +42,7 @@ quiet_bound records key name (Some randomizer) (Some message) no_memory fault ot
 quiet_append : (records : List Record) (trees : Trees) (level leaf : ℕ) (identifier seed randomizer : List ℕ) (fate : Fate)
     (next : List Record → Outcome (List ℕ)) → ((all : List Record) → IsQuiet all (next all))
     → (let secret = lms_secret (slice_index_or trees.pairs level trees.top.pair) identifier seed in
-    IsQuiet records (appended (open_on records) (extend_record trees records level secret randomizer leaf) fate next))
+    IsQuiet records (appended (open_state records) (extend_record trees records level secret randomizer leaf) fate next))
 quiet_append records trees level leaf identifier seed randomizer acked next later fault other is not =
     let secret = lms_secret (slice_index_or trees.pairs level trees.top.pair) identifier seed in
     let entry = extend_record trees records level secret randomizer leaf in
@@ -51,60 +51,60 @@ quiet_append records trees level leaf identifier seed randomizer cut_old next la
 quiet_append records trees level leaf identifier seed randomizer cut_new next later fault other is not = absurd (not (cc))
 quiet_append records trees level leaf identifier seed randomizer no_memory next later fault other is not = refl
 
-quiet_with : (records : List Record) (trees : Trees) (level leaf : ℕ) (identifier : List ℕ) (fields : List (List ℕ)) (fate : Fate)
+quiet_seed : (records : List Record) (trees : Trees) (level leaf : ℕ) (identifier : List ℕ) (fields : List (List ℕ)) (fate : Fate)
     (next : List Record → Outcome (List ℕ)) → ((all : List Record) → IsQuiet all (next all))
-    → IsQuiet records (extended_with (open_on records) trees level leaf identifier fields fate next)
-quiet_with records trees level leaf identifier [] fate next later = λ fault other is not. refl
-quiet_with records trees level leaf identifier (seed ∷ []) fate next later = λ fault other is not. refl
-quiet_with records trees level leaf identifier (seed ∷ randomizer ∷ []) fate next later =
+    → IsQuiet records (extended_seed (open_state records) trees level leaf identifier fields fate next)
+quiet_seed records trees level leaf identifier [] fate next later = λ fault other is not. refl
+quiet_seed records trees level leaf identifier (seed ∷ []) fate next later = λ fault other is not. refl
+quiet_seed records trees level leaf identifier (seed ∷ randomizer ∷ []) fate next later =
     quiet_append records trees level leaf identifier seed randomizer fate next later
-quiet_with records trees level leaf identifier (seed ∷ randomizer ∷ more ∷ rest) fate next later = λ fault other is not. refl
+quiet_seed records trees level leaf identifier (seed ∷ randomizer ∷ more ∷ rest) fate next later = λ fault other is not. refl
 
-quiet_by : (records : List Record) (trees : Trees) (level leaf : ℕ) (fields : List (List ℕ)) (fate : Fate)
+quiet_identifier : (records : List Record) (trees : Trees) (level leaf : ℕ) (fields : List (List ℕ)) (fate : Fate)
     (next : List Record → Outcome (List ℕ)) → ((all : List Record) → IsQuiet all (next all))
-    → IsQuiet records (extended_by (open_on records) trees level leaf fields fate next)
-quiet_by records trees level leaf [] fate next later = λ fault other is not. refl
-quiet_by records trees level leaf (identifier ∷ fields) fate next later =
+    → IsQuiet records (extended_identifier (open_state records) trees level leaf fields fate next)
+quiet_identifier records trees level leaf [] fate next later = λ fault other is not. refl
+quiet_identifier records trees level leaf (identifier ∷ fields) fate next later =
     kept_choice (IsQuiet records) (has_identifier records identifier) _ _ (λ there fault other is not. refl)
-    (λ new. quiet_with records trees level leaf identifier fields fate next later)
+    (λ new. quiet_seed records trees level leaf identifier fields fate next later)
 
 quiet_extended : (records : List Record) (key : Key) (level : ℕ) (trees : Option Trees) (draw : Draw) (next : List Record → Outcome (List ℕ))
-    → ((all : List Record) → IsQuiet all (next all)) → IsQuiet records (extended (open_on records) key level trees draw next)
+    → ((all : List Record) → IsQuiet all (next all)) → IsQuiet records (extended (open_state records) key level trees draw next)
 quiet_extended records key level None draw next later = λ fault other is not. refl
 quiet_extended records key level (Some trees) draw next later =
-    quiet_by records trees level (next_at key.secret records (level - 1)) draw.fields draw.fate next later
+    quiet_identifier records trees level (next_at key.secret records (level - 1)) draw.fields draw.fate next later
 
 quiet_bound_below : (key : Key) (name : List ℕ) (chance : Chance) (below : ℕ) (draws : List Draw) (records : List Record)
-    → IsQuiet records (bound_below key name chance below draws records)
+    → IsQuiet records (bound_trees key name chance below draws records)
 quiet_bound_below key name chance zero draws records =
-    quiet_bound records key name (randomizer_from key.secret chance.bound.fields) chance.given chance.bound.fate
+    quiet_bound records key name (randomizer_of_fields key.secret chance.bound.fields) chance.given chance.bound.fate
 quiet_bound_below key name chance (suc below) draws records =
     quiet_extended records key (bottom_of key.secret - below) (trees_of key.secret) (first_draw draws)
-    (bound_below key name chance below (drop 1 draws)) (quiet_bound_below key name chance below (drop 1 draws))
+    (bound_trees key name chance below (drop 1 draws)) (quiet_bound_below key name chance below (drop 1 draws))
 
 pub binds_none : (limit : ℕ) (state : State) (name other : List ℕ) (chance : Chance) (fault : SignFault)
     → (requested limit state name chance).answer ≡ Err fault → fault ≢ StoreFailed
-    → binding_in (requested limit state name chance).state.records other ≡ binding_in state.records other
+    → binding_at (requested limit state name chance).state.records other ≡ binding_at state.records other
 binds_none limit state name other chance fault is not =
     let quiet = IsQuiet state.records in
     let settled : IsSettled quiet state =
     record { refused_for = λ fault other name named is not. refl; gives = λ signature fault name is not. refl; read = λ outcome quiet. quiet } in
-    settled_under quiet limit state name chance settled.refused_for (key_in state.records) refl
+    settled_key quiet limit state name chance settled.refused_for (the_key state.records) refl
     (λ key k bound. settled_repeated quiet state chance settled key k bound chance.given)
     (λ key level wants. quiet_bound_below key name chance (bottom_of key.secret - level) chance.trees state.records) fault other is not
 
 -- ---- retirings
 
 pub moved_retires : (limit : ℕ) (state : State) (key : Key) (upto : ℕ) (fate : Fate) → state.is_open ≡ true → has_moved state.records ≡ true
-    → key_in state.records ≡ Some key → retired limit state upto fate ≡ refused state MovedAway
+    → the_key state.records ≡ Some key → retired limit state upto fate ≡ refused state MovedAway
 moved_retires limit state key upto fate open_now moved keyed =
     let bottom = bottom_of key.secret in
     let rest : Bool → Outcome (Unit {0}) = λ moved. if moved then refused state MovedAway
     else (if nat_lt (leaves_of_current key.secret state.records bottom) upto then refused state RetireRange
     else (if nat_le upto (next_at key.secret state.records bottom) then answered state tt
     else (if nat_lt limit (length state.records + 1) then refused state LedgerFull
-    else appended state (Retire upto) fate (λ records. answered (open_on records) tt)))) in
-    ap (retired_under limit state upto fate) keyed
+    else appended state (Retire upto) fate (λ records. answered (open_state records) tt)))) in
+    ap (retired_key limit state upto fate) keyed
     ∙ ap (λ test. if not test then refused state Stopped else rest (has_moved state.records)) open_now
     ∙ ap rest moved
 
@@ -114,7 +114,7 @@ by_tests state upto fate outside past full =
     if outside then refused state RetireRange
     else (if past then answered state tt
     else (if full then refused state LedgerFull
-    else appended state (Retire upto) fate (λ records. answered (open_on records) tt)))
+    else appended state (Retire upto) fate (λ records. answered (open_state records) tt)))
 
 active_retires : (limit : ℕ) (state : State) (key : Key) (upto : ℕ) (fate : Fate) (outside past full : Bool) → IsActive state key
     → nat_lt (leaves_of_current key.secret state.records (bottom_of key.secret)) upto ≡ outside
@@ -124,13 +124,13 @@ unfolding by_tests
 active_retires limit state key upto fate outside past full active is_outside is_past is_full =
     let bottom = bottom_of key.secret in
     let fourth : Bool → Outcome (Unit {0}) = λ full. if full then refused state LedgerFull
-    else appended state (Retire upto) fate (λ records. answered (open_on records) tt) in
+    else appended state (Retire upto) fate (λ records. answered (open_state records) tt) in
     let third : Bool → Outcome (Unit {0}) = λ past. if past then answered state tt else fourth (nat_lt limit (length state.records + 1)) in
     let second : Bool → Outcome (Unit {0}) = λ outside. if outside then refused state RetireRange
     else third (nat_le upto (next_at key.secret state.records bottom)) in
     let first : Bool → Outcome (Unit {0}) = λ moved. if moved then refused state MovedAway
     else second (nat_lt (leaves_of_current key.secret state.records bottom) upto) in
-    ap (retired_under limit state upto fate) active.keyed
+    ap (retired_key limit state upto fate) active.keyed
     ∙ ap (λ test. if not test then refused state Stopped else first (has_moved state.records)) active.is_open
     ∙ ap first active.stays ∙ ap second is_outside
     ∙ ap (λ b. if outside then refused state RetireRange else third b) is_past

@@ -14,7 +14,7 @@ use Rattle.typecodes.proofs.Unambiguous.{unambiguous}
 use Rattle.lmots.specs.Key.{message_digest_of}
 use Rattle.lms.specs.declared.key.LmsPublic.{LmsPublic}
 use Rattle.lms.specs.Signature.{Signature as LmsSignature, signature as lms_signature}
-use Rattle.lms.specs.Secret.{public_of as lms_public_of, public_with as lms_public_with}
+use Rattle.lms.specs.Secret.{public_of as lms_public_of, rooted_public as lms_rooted_public}
 use Rattle.lms.specs.Writing.{signature_bytes as lms_signature_bytes, textbook as lms_textbook}
 use Rattle.lms.proofs.OneWay.{one_way-signature as lms_one_way}
 use Rattle.xmss.specs.Signature.{signature as xmss_signature}
@@ -25,7 +25,7 @@ use Rattle.xmss.proofs.TextbookBytes.{textbook_spelled as xmss_textbook_spelled}
 use Rattle.hss.specs.Secret.{Signing}
 use Rattle.hss.specs.Signature.{Signature as HssSignature, key_at, message_at, signature as hss_signature, signature_at as hss_signature_at}
 use Rattle.hss.specs.SignedKey.{SignedKey}
-use Rattle.hss.specs.Writing.{level_in, levels_in, signature_bytes as hss_signature_bytes, textbook as hss_textbook}
+use Rattle.hss.specs.Writing.{level_at, all_levels, signature_bytes as hss_signature_bytes, textbook as hss_textbook}
 use Rattle.hss.proofs.Making.{signed-at, signed-count}
 use Rattle.hss.proofs.OneWay.{one_way-signature as hss_one_way}
 use Rattle.hss.proofs.Sized.{textbook-spelled as hss_textbook_spelled}
@@ -42,8 +42,8 @@ use Rattle.sign_core.specs.declared.key.AnyPublic.TheVariants.{Lms as AnyLms, Hs
 use Rattle.sign_core.specs.Records.{current}
 use Rattle.sign_core.specs.Headline.{IsBoundTo, IsLast}
 use Rattle.sign_core.specs.Headline.{LeafUse, MakesUses, lms_use, xmss_use}
-use Rattle.sign_core.specs.Textbook.{AllHaveSizes, AreSound, Trees, damaged_in, lms_secret, public_by, public_in, secret_at, secret_by}
-use Rattle.sign_core.specs.Textbook.{signature_at, signings_above, tree_before}
+use Rattle.sign_core.specs.Textbook.{AllHaveSizes, AreSound, Trees, damaged_at, lms_secret, any_public, any_public_of, secret_at, made_secret}
+use Rattle.sign_core.specs.Textbook.{signature_at, chain_signings, current_at}
 use Rattle.sign_core.proofs.Chains.{SignsNext, current_made}
 use Rattle.sign_core.proofs.TreeSteps.{current_before}
 use Rattle.sign_core.proofs.Valid.{AreLevelsOf, IsSoundlyBound, hss_levels, hss_trees, key_with, soundly_bound, undamaged}
@@ -112,11 +112,11 @@ of_one key records k x uses are is =
 
 lms_uses : (records : List Record) (version : Version) (secret : LmsSecret) (root message : List ℕ) (k : ℕ) (bound : Bound) (uses : List LeafUse)
     → IsSoundlyBound records (key_with version (Lms secret) root) message k bound
-    → MakesUses (AnyLms (lms_public_with secret root)) message (signature_at (key_with version (Lms secret) root) records k bound) uses
+    → MakesUses (AnyLms (lms_rooted_public secret root)) message (signature_at (key_with version (Lms secret) root) records k bound) uses
     → AreUsesOf (key_with version (Lms secret) root) records k uses
 lms_uses records version secret root message k bound uses is (s, spelled, are) =
     let key = key_with version (Lms secret) root in
-    let public = lms_public_with secret root in
+    let public = lms_rooted_public secret root in
     let t = lms_textbook secret bound.leaf bound.randomizer bound.digest in
     let (has_tree, inside, randomizer) = is.fits k (BoundRecord bound) is.stands in
     let t_spelled = textbook_spelled secret bound.leaf bound.randomizer bound.digest inside (is.sizes k (BoundRecord bound) is.stands).0 in
@@ -174,7 +174,7 @@ use_by : Signing → LeafUse
 use_by level = record { identifier = level.secret.identifier; leaf = level.leaf; digest = level.digest }
 
 signature_here : (above : List Signing) (bottom : Signing) (i : ℕ) → i < length above + 1
-    → hss_signature_at (hss_textbook above bottom) i ≡ signature_of (level_in above bottom i)
+    → hss_signature_at (hss_textbook above bottom) i ≡ signature_of (level_at above bottom i)
 unfolding signature_of key_of
 signature_here above bottom i inside =
     let signed = (hss_textbook above bottom).signed in
@@ -185,7 +185,7 @@ signature_here above bottom i inside =
       | inl same ↦ get_or_at (map signature_in signed) (signature_of bottom) [] (signature_of bottom) i (long ∙ sym same)
           ∙ ap signature_of (sym (get_or_at above bottom [] bottom i (sym same)))
       | inr (inl below) ↦
-          let one : SignedKey = record { signature = signature_of (level_in above bottom i); key = key_of (level_in above bottom (i + 1)) } in
+          let one : SignedKey = record { signature = signature_of (level_at above bottom i); key = key_of (level_at above bottom (i + 1)) } in
           get_or_append_left (map signature_in signed) (signature_of bottom ∷ []) (signature_of bottom) i (omega (arith, below, long))
           ∙ get_or-map signature_in signed i one (signature_of bottom) (omega (arith, below, count))
           ∙ ap signature_in (signed-at signature_of key_of above bottom i one below)
@@ -194,38 +194,38 @@ signature_here above bottom i inside =
 
 -- the I of a level's key, below the top
 below_top : (above : List Signing) (bottom : Signing) (top : LmsPublic) (i : ℕ) → i < length above
-    → (key_at top (hss_textbook above bottom) (suc i)).identifier ≡ (level_in above bottom (i + 1)).secret.identifier
+    → (key_at top (hss_textbook above bottom) (suc i)).identifier ≡ (level_at above bottom (i + 1)).secret.identifier
 unfolding signature_of key_of
 below_top above bottom top i below =
     let signed = (hss_textbook above bottom).signed in
-    let key_in : SignedKey → LmsPublic = λ one. one.key in
+    let the_key : SignedKey → LmsPublic = λ one. one.key in
     let count : length signed ≡ length above = signed-count signature_of key_of above bottom in
-    let one : SignedKey = record { signature = signature_of (level_in above bottom i); key = key_of (level_in above bottom (i + 1)) } in
+    let one : SignedKey = record { signature = signature_of (level_at above bottom i); key = key_of (level_at above bottom (i + 1)) } in
     ap (λ (key : LmsPublic). key.identifier)
-    (get_or-map key_in signed i one top (omega (arith, below, count)) ∙ ap key_in (signed-at signature_of key_of above bottom i one below))
+    (get_or-map the_key signed i one top (omega (arith, below, count)) ∙ ap the_key (signed-at signature_of key_of above bottom i one below))
 
 identifier_here : (above : List Signing) (bottom : Signing) (top : LmsPublic) (i : ℕ) → i < length above + 1
-    → top.identifier ≡ (level_in above bottom 0).secret.identifier
-    → (key_at top (hss_textbook above bottom) i).identifier ≡ (level_in above bottom i).secret.identifier
+    → top.identifier ≡ (level_at above bottom 0).secret.identifier
+    → (key_at top (hss_textbook above bottom) i).identifier ≡ (level_at above bottom i).secret.identifier
 identifier_here above bottom top zero inside is = is
 identifier_here above bottom top (suc i) inside is =
     let next : i + 1 ≡ suc i = omega arith in
-    below_top above bottom top i (omega (arith, inside)) ∙ ap (λ n. (level_in above bottom n).secret.identifier) next
+    below_top above bottom top i (omega (arith, inside)) ∙ ap (λ n. (level_at above bottom n).secret.identifier) next
 
 -- the use that a level of the textbook signature makes
 use_here : (trees : Trees) (records : List Record) (above : List Signing) (bottom : Signing) (message : List ℕ) (top : LmsPublic) (i : ℕ)
     → AreLevelsOf trees records above bottom message → top.identifier ≡ trees.top.identifier → i < length above + 1
     → lms_use (key_at top (hss_textbook above bottom) i) (message_at message (hss_textbook above bottom) i)
-    (hss_signature_at (hss_textbook above bottom) i) ≡ use_by (level_in above bottom i)
+    (hss_signature_at (hss_textbook above bottom) i) ≡ use_by (level_at above bottom i)
 unfolding signature_of use_by
 use_here trees records above bottom message top i levels top_is inside =
     let t = hss_textbook above bottom in
-    let level = level_in above bottom i in
+    let level = level_at above bottom i in
     let signed = message_at message t i in
-    let first : top.identifier ≡ (level_in above bottom 0).secret.identifier = top_is
+    let first : top.identifier ≡ (level_at above bottom 0).secret.identifier = top_is
     ∙ ap (λ secret. secret.identifier)
-    (sym (levels.chained.top (level_in above bottom 0)
-    (slice_get-get_or (levels_in above bottom) 0 bottom (omega (arith, length-append above (bottom ∷ [])))))) in
+    (sym (levels.chained.top (level_at above bottom 0)
+    (slice_get-get_or (all_levels above bottom) 0 bottom (omega (arith, length-append above (bottom ∷ [])))))) in
     let with_parts : List ℕ → ℕ → List ℕ → LeafUse = λ identifier leaf digest. record { identifier = identifier; leaf = leaf; digest = digest } in
     ap (lms_use (key_at top t i) signed) (signature_here above bottom i inside)
     ∙ ap (λ identifier. with_parts identifier level.leaf (message_digest_of identifier level.leaf level.randomizer signed))
@@ -242,10 +242,10 @@ tree_of : (trees : Trees) (records : List Record) (key : Key) (identifier : List
 tree_of trees records key identifier zero k tree first key_is is named =
     let zero_is : 0 ≡ tree = same_Some 0 tree is in
     let at : slice_get records tree ≡ Some (KeyRecord key) = ap (slice_get records) (sym zero_is) ∙ first in
-    (KeyRecord key, at, key_is ∙ ap Some (sym (named ∙ ap (λ r. (secret_by trees r).identifier) at)))
+    (KeyRecord key, at, key_is ∙ ap Some (sym (named ∙ ap (λ r. (made_secret trees r).identifier) at)))
 tree_of trees records key identifier (suc level) k tree first key_is is named =
     let made = (current_made level k records tree is).1 in
-    (ExtendRecord made.extend, made.stands, ap Some (sym (named ∙ ap (λ r. (secret_by trees r).identifier) made.stands)))
+    (ExtendRecord made.extend, made.stands, ap Some (sym (named ∙ ap (λ r. (made_secret trees r).identifier) made.stands)))
 
 -- The use of a level above the bottom is the Extend's that makes the next level's tree.
 link_use : (trees : Trees) (records : List Record) (key : Key) (level : ℕ) (x next : Signing) → slice_get records 0 ≡ Some (KeyRecord key)
@@ -270,38 +270,38 @@ link_use trees records key level x next first key_is has_tree link =
 hss_uses : (records : List Record) (version : Version) (pair : LmsPair) (rest : List LmsPair) (identifier seed root message : List ℕ) (k : ℕ) (bound : Bound)
     (uses : List LeafUse)
     → IsSoundlyBound records (key_with version (Hss (pair ∷ rest) identifier seed) root) message k bound
-    → MakesUses (AnyHss (record { levels = length (pair ∷ rest); top = lms_public_with (lms_secret pair identifier seed) root })) message
+    → MakesUses (AnyHss (record { levels = length (pair ∷ rest); top = lms_rooted_public (lms_secret pair identifier seed) root })) message
     (signature_at (key_with version (Hss (pair ∷ rest) identifier seed) root) records k bound) uses
     → AreUsesOf (key_with version (Hss (pair ∷ rest) identifier seed) root) records k uses
 unfolding use_by signature_of key_of
 hss_uses records version pair rest identifier seed root message k bound uses is (s, spelled, are) =
     let key = key_with version (Hss (pair ∷ rest) identifier seed) root in
     let trees = hss_trees pair rest identifier seed in
-    let top = lms_public_with (lms_secret pair identifier seed) root in
+    let top = lms_rooted_public (lms_secret pair identifier seed) root in
     let level = length (pair ∷ rest) - 1 in
-    let tree = tree_before level records k in
-    let above = signings_above trees level records tree in
+    let tree = current_at level records k in
+    let above = chain_signings trees level records tree in
     let bottom = signing_of_bound trees records tree bound in
     let levels = hss_levels records version pair rest identifier seed root message k bound is in
     let t = hss_textbook above bottom in
     let t_spelled = hss_textbook_spelled above bottom (omega (arith, levels.count, levels.few)) levels.sized in
     let same : s ≡ t = (unambiguous hss_signature hss_one_way).one_value s t (hss_signature_bytes t) spelled t_spelled in
-    let made_by : HssSignature → ℕ → LeafUse = λ s i. lms_use (key_at top s i) (message_at message s i) (hss_signature_at s i) in
+    let made_entry : HssSignature → ℕ → LeafUse = λ s i. lms_use (key_at top s i) (message_at message s i) (hss_signature_at s i) in
     let count : length t.signed ≡ length above = signed-count signature_of key_of above bottom in
-    let all : uses ≡ map (made_by t) (range_with_len 0 (length above + 1)) = are
-    ∙ ap (λ s. map (made_by s) (range_with_len 0 (length s.signed + 1))) same ∙ ap (λ n. map (made_by t) (range_with_len 0 (n + 1))) count in
+    let all : uses ≡ map (made_entry t) (range_with_len 0 (length above + 1)) = are
+    ∙ ap (λ s. map (made_entry s) (range_with_len 0 (length s.signed + 1))) same ∙ ap (λ n. map (made_entry t) (range_with_len 0 (n + 1))) count in
     let own : (tree : ℕ) (identifier : List ℕ) → ((made : Record) × (slice_get records tree ≡ Some made) × (identifier_of made ≡ Some identifier))
     → IsTreeOf key.secret records tree identifier =
     λ tree identifier made. made in
-    let count_levels : length (levels_in above bottom) ≡ length above + 1 = length-append above (bottom ∷ []) in
-    let last : level_in above bottom (length above) ≡ bottom = get_or_at above bottom [] bottom (length above) refl in
+    let count_levels : length (all_levels above bottom) ≡ length above + 1 = length-append above (bottom ∷ []) in
+    let last : level_at above bottom (length above) ≡ bottom = get_or_at above bottom [] bottom (length above) refl in
     let within : k ≤ length records = omega (arith, slice_get_within records k (BoundRecord bound) is.stands) in
-    of_levels key records k (length above) (made_by t) uses all
+    of_levels key records k (length above) (made_entry t) uses all
     (λ i below.
-    let x = level_in above bottom i in
-    let next = level_in above bottom (i + 1) in
-    let link = levels.chained.links i x next (slice_get-get_or (levels_in above bottom) i bottom (omega (arith, below, count_levels)))
-    (slice_get-get_or (levels_in above bottom) (i + 1) bottom (omega (arith, below, count_levels))) in
+    let x = level_at above bottom i in
+    let next = level_at above bottom (i + 1) in
+    let link = levels.chained.links i x next (slice_get-get_or (all_levels above bottom) i bottom (omega (arith, below, count_levels)))
+    (slice_get-get_or (all_levels above bottom) (i + 1) bottom (omega (arith, below, count_levels))) in
     let use_is = use_here trees records above bottom message top i levels refl (omega (arith, below)) in
     (link.place, subst (IsUseOf key records link.place) (sym use_is) (link_use trees records key i x next is.first refl own link)))
     (subst (IsUseOf key records k) (sym (use_here trees records above bottom message top (length above) levels refl (omega arith) ∙ ap use_by last)) (record {
@@ -317,18 +317,18 @@ hss_uses records version pair rest identifier seed root message k bound uses is 
 
 uses_by : (records : List Record) (version : Version) (secret : Secret) (root message : List ℕ) (k : ℕ) (bound : Bound) (public : AnyPublic)
     (uses : List LeafUse)
-    → IsSoundlyBound records (key_with version secret root) message k bound → public_by secret root ≡ Some public
+    → IsSoundlyBound records (key_with version secret root) message k bound → any_public secret root ≡ Some public
     → MakesUses public message (signature_at (key_with version secret root) records k bound) uses
     → AreUsesOf (key_with version secret root) records k uses
 uses_by records version (Lms secret) root message k bound public uses is is_public makes =
     lms_uses records version secret root message k bound uses is
     (subst (λ p. MakesUses p message (signature_at (key_with version (Lms secret) root) records k bound) uses)
-    (sym (same_Some (AnyLms (lms_public_with secret root)) public is_public)) makes)
+    (sym (same_Some (AnyLms (lms_rooted_public secret root)) public is_public)) makes)
 uses_by records version (Hss [] identifier seed) root message k bound public uses is is_public makes = absurd (cc)
 uses_by records version (Hss (pair ∷ rest) identifier seed) root message k bound public uses is is_public makes =
     hss_uses records version pair rest identifier seed root message k bound uses is
     (subst (λ p. MakesUses p message (signature_at (key_with version (Hss (pair ∷ rest) identifier seed) root) records k bound) uses)
-    (sym (same_Some (AnyHss (record { levels = length (pair ∷ rest); top = lms_public_with (lms_secret pair identifier seed) root })) public is_public)) makes)
+    (sym (same_Some (AnyHss (record { levels = length (pair ∷ rest); top = lms_rooted_public (lms_secret pair identifier seed) root })) public is_public)) makes)
 uses_by records version (Xmss secret) root message k bound public uses is is_public makes =
     xmss_uses records version secret root message k bound uses is
     (subst (λ p. MakesUses p message (signature_at (key_with version (Xmss secret) root) records k bound) uses)
@@ -337,7 +337,7 @@ uses_by records version (Xmss secret) root message k bound public uses is is_pub
 -- Over legal records where the chain of its trees is sound, each use of a binding's textbook signature is a record's ..
 pub use_checked : (records : List Record) (key : Key) (name message : List ℕ) (k : ℕ) (bound : Bound) (public : AnyPublic) (uses : List LeafUse) (u : LeafUse)
     → IsLegal records → AllHaveSizes records → IsBoundTo records key name message k bound
-    → damaged_in key (bottom_of key.secret) records (tree_before (bottom_of key.secret) records k) ≡ None → public_in key ≡ Some public
+    → damaged_at key (bottom_of key.secret) records (current_at (bottom_of key.secret) records k) ≡ None → any_public_of key ≡ Some public
     → MakesUses public message (signature_at key records k bound) uses → Contains uses u
     → (place : ℕ) × IsUseOf key records place u
 use_checked records key name message k bound public uses u legal sizes is sound is_public makes there =
@@ -347,7 +347,7 @@ use_checked records key name message k bound public uses u legal sizes is sound 
 -- .. and the last one is the binding's.
 pub last_checked : (records : List Record) (key : Key) (name message : List ℕ) (k : ℕ) (bound : Bound) (public : AnyPublic) (uses : List LeafUse) (u : LeafUse)
     → IsLegal records → AllHaveSizes records → IsBoundTo records key name message k bound
-    → damaged_in key (bottom_of key.secret) records (tree_before (bottom_of key.secret) records k) ≡ None → public_in key ≡ Some public
+    → damaged_at key (bottom_of key.secret) records (current_at (bottom_of key.secret) records k) ≡ None → any_public_of key ≡ Some public
     → MakesUses public message (signature_at key records k bound) uses → IsLast u uses
     → IsUseOf key records k u
 last_checked records key name message k bound public uses u legal sizes is sound is_public makes last =
@@ -356,17 +356,17 @@ last_checked records key name message k bound public uses u legal sizes is sound
 
 -- The same over sound records.
 pub use_recorded : (records : List Record) (key : Key) (name message : List ℕ) (k : ℕ) (bound : Bound) (public : AnyPublic) (uses : List LeafUse) (u : LeafUse)
-    → AreSound records → AllHaveSizes records → IsBoundTo records key name message k bound → public_in key ≡ Some public
+    → AreSound records → AllHaveSizes records → IsBoundTo records key name message k bound → any_public_of key ≡ Some public
     → MakesUses public message (signature_at key records k bound) uses → Contains uses u
     → (place : ℕ) × IsUseOf key records place u
 use_recorded records key name message k bound public uses u sound sizes is is_public makes there =
-    let undamaged_here = undamaged records key (bottom_of key.secret) (tree_before (bottom_of key.secret) records k) sound is.keyed in
+    let undamaged_here = undamaged records key (bottom_of key.secret) (current_at (bottom_of key.secret) records k) sound is.keyed in
     use_checked records key name message k bound public uses u sound.legal sizes is undamaged_here is_public makes there
 
 pub last_recorded : (records : List Record) (key : Key) (name message : List ℕ) (k : ℕ) (bound : Bound) (public : AnyPublic) (uses : List LeafUse) (u : LeafUse)
-    → AreSound records → AllHaveSizes records → IsBoundTo records key name message k bound → public_in key ≡ Some public
+    → AreSound records → AllHaveSizes records → IsBoundTo records key name message k bound → any_public_of key ≡ Some public
     → MakesUses public message (signature_at key records k bound) uses → IsLast u uses
     → IsUseOf key records k u
 last_recorded records key name message k bound public uses u sound sizes is is_public makes last =
-    let undamaged_here = undamaged records key (bottom_of key.secret) (tree_before (bottom_of key.secret) records k) sound is.keyed in
+    let undamaged_here = undamaged records key (bottom_of key.secret) (current_at (bottom_of key.secret) records k) sound is.keyed in
     last_checked records key name message k bound public uses u sound.legal sizes is undamaged_here is_public makes last

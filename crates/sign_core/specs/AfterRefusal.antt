@@ -17,9 +17,9 @@ use Rattle.sign_core.specs.declared.fault.SignFault.TheVariants.{RandomRepeated,
 use Rattle.sign_core.specs.Events.{AreFields, key_sizes}
 use Rattle.sign_core.specs.Requests.{BeginsTree, BindsName, bytes_drawn}
 use Rattle.sign_core.specs.Retirings.{IsActive}
-use Rattle.sign_core.specs.Records.{binding_in, deepest}
+use Rattle.sign_core.specs.Records.{binding_at, deepest}
 use Rattle.sign_core.specs.World.{Chance, Creation, Draw, Fate, Opening, Outcome, State, created, new_key, opened}
-use Rattle.sign_core.specs.World.{requested, retired, secret_from}
+use Rattle.sign_core.specs.World.{requested, retired, secret_of_fields}
 
 -- These records were acknowledged and stand. Only after 25 one more may stand, the one whose append failed, and it has
 -- this property.
@@ -35,7 +35,7 @@ pub record Leaves {A : Type 0} (records : List Record) (IsWanted : Record → Ty
 -- A signer is open on the records of this key, the name isn't bound, and this level is the deepest with a free leaf.
 pub record WantsRecords (state : State) (name : List ℕ) (key : Key) (level : ℕ) : Type 0 where
   pub active : IsActive state key
-  pub unbound : binding_in state.records name ≡ None
+  pub unbound : binding_at state.records name ≡ None
   pub level_is : deepest key.secret state.records ≡ Some level
 
 -- The record begins a tree i + 1 levels below this one, made of what a request drew for it.
@@ -71,7 +71,7 @@ pub record LeavesTrees (key : Key) (before : List Record) (level : ℕ) (name : 
   pub each : (i : ℕ) (entry : Record) → slice_get trees i ≡ Some entry
       → BeginsDrawn key (before ++ take i trees) level chance.trees i entry
   pub leaves : Leaves (before ++ trees) (IsNextWanted key before level name chance trees) outcome
-  pub unbound : (other : List ℕ) → binding_in (before ++ trees) other ≡ binding_in before other
+  pub unbound : (other : List ℕ) → binding_at (before ++ trees) other ≡ binding_at before other
 
 -- what is drawn for the begun trees and for the next record, which may fail
 abbrev pub AreDrawnFor : (below : ℕ) → Chance → (begun : ℕ) → (drawn : List ℕ) → Type 0
@@ -98,7 +98,7 @@ LeavesRequested state name chance outcome =
 
 -- the Key with this version and the drawn secret
 abbrev pub IsDrawnKey : Version → Spec → (fields : List (List ℕ)) → (drawn : List ℕ) → Record → Type 0
-IsDrawnKey version spec fields drawn entry = (secret : Secret) × (secret_from spec fields ≡ Some secret)
+IsDrawnKey version spec fields drawn entry = (secret : Secret) × (secret_of_fields spec fields ≡ Some secret)
     × (drawn ≡ concat fields) × (entry ≡ KeyRecord (new_key version secret))
 
 -- ---- the law

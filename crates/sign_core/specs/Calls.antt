@@ -7,7 +7,7 @@ use Rattle.state_file.specs.Disk.{LeavesOnly}
 use Rattle.sign_core.specs.Events.{AllEvents, AreDraws, AreDrawsOf, IsEvent}
 use Rattle.sign_core.specs.Cuts.{IsBeginning, IsLeftBy, reached}
 use Rattle.sign_core.specs.Once.{IsOnce}
-use Rattle.sign_core.specs.World.{Chance, Event, World, after, beginning, closed_on, create, created, opened, reopen}
+use Rattle.sign_core.specs.World.{Chance, Event, World, after, beginning, closed_state, create, created, opened, reopen}
 use Rattle.sign_core.specs.World.{migrate, migrated, request, requested, retire, retired, run, stop}
 
 -- An event ends; or a crash comes at a moment of it, or after its append failed and before the next opening, and leaves
@@ -17,21 +17,21 @@ pub data Step : Type 0 where
   stops : Event → (left : List Record) → Step
 
 -- The records that an event reaches. What a crash in a migration leaves, some whole migration leaves.
-abbrev pub reached_by : (limit : ℕ) → World → Event → List Record
-reached_by limit world (create spec chance) = reached (created world.state spec chance)
-reached_by limit world (reopen chance) = reached (opened world.state chance)
-reached_by limit world (request name chance) = reached (requested limit world.state name chance)
-reached_by limit world (retire upto fate) = reached (retired limit world.state upto fate)
-reached_by limit world (migrate fate) = world.state.records
-reached_by limit world stop = world.state.records
+abbrev pub reached_records : (limit : ℕ) → World → Event → List Record
+reached_records limit world (create spec chance) = reached (created world.state spec chance)
+reached_records limit world (reopen chance) = reached (opened world.state chance)
+reached_records limit world (request name chance) = reached (requested limit world.state name chance)
+reached_records limit world (retire upto fate) = reached (retired limit world.state upto fate)
+reached_records limit world (migrate fate) = world.state.records
+reached_records limit world stop = world.state.records
 
-abbrev pub acknowledged_by : (limit : ℕ) → World → Event → List Record
-acknowledged_by limit world (create spec chance) = (created world.state spec chance).acknowledged
-acknowledged_by limit world (reopen chance) = (opened world.state chance).acknowledged
-acknowledged_by limit world (request name chance) = (requested limit world.state name chance).acknowledged
-acknowledged_by limit world (retire upto fate) = (retired limit world.state upto fate).acknowledged
-acknowledged_by limit world (migrate fate) = (migrated world.state fate).records
-acknowledged_by limit world stop = world.state.records
+abbrev pub acknowledged_records : (limit : ℕ) → World → Event → List Record
+acknowledged_records limit world (create spec chance) = (created world.state spec chance).acknowledged
+acknowledged_records limit world (reopen chance) = (opened world.state chance).acknowledged
+acknowledged_records limit world (request name chance) = (requested limit world.state name chance).acknowledged
+acknowledged_records limit world (retire upto fate) = (retired limit world.state upto fate).acknowledged
+acknowledged_records limit world (migrate fate) = (migrated world.state fate).records
+acknowledged_records limit world stop = world.state.records
 
 abbrev pub IsOpenAfter : (limit : ℕ) → World → Event → Type 0
 IsOpenAfter limit world event = (after limit world event).state.is_open ≡ true
@@ -40,12 +40,12 @@ IsOpenAfter limit world event = (after limit world event).state.is_open ≡ true
 abbrev pub IsStep : (limit : ℕ) → World → Step → Type 0
 IsStep limit world (ends event) = IsEvent event
 IsStep limit world (stops event left) =
-    IsEvent event × IsBeginning (length world.state.records) (reached_by limit world event) left
+    IsEvent event × IsBeginning (length world.state.records) (reached_records limit world event) left
 
 -- the world after it; a crash hands nothing out, and leaves no signer open
 abbrev pub stepped : (limit : ℕ) → World → Step → World
 stepped limit world (ends event) = after limit world event
-stepped limit world (stops event left) = record { state = closed_on left; handed = world.handed }
+stepped limit world (stops event left) = record { state = closed_state left; handed = world.handed }
 
 abbrev pub AreSteps : (limit : ℕ) → World → List Step → Type 0
 AreSteps limit world [] = Unit {0}
@@ -70,7 +70,7 @@ pub record CallsLaw : Type 0 where
       → IsOnce limit (after_steps limit beginning steps)
   -- while a signer is open, all its records are acknowledged
   pub acknowledged : (limit : ℕ) (world : World) (event : Event) → IsOpenAfter limit world event
-      → acknowledged_by limit world event ≡ (after limit world event).state.records
+      → acknowledged_records limit world event ≡ (after limit world event).state.records
   -- draws under a key are draws of an event
   pub draws : (secret : Secret) (chance : Chance) → AreDrawsOf secret chance → AreDraws chance
 
@@ -87,7 +87,7 @@ pub record IsCall {S : Type 0} (moment : S → ℕ) (left_since : S → ℕ → 
     (world : World) (old : S) (call : Call S) : Type 0 where
   pub possible : IsEvent call.event
   pub leaves : LeavesOnly moment left_since old call.store
-      (IsBeginning (length world.state.records) (reached_by limit world call.event))
+      (IsBeginning (length world.state.records) (reached_records limit world call.event))
       ⊎ (call.store ≡ old)
 
 -- A call that lasts: while a signer is open after it, a crash then leaves the world's records, and nothing else.

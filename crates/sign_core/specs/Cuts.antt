@@ -4,7 +4,7 @@ use Rattle.std.specs.Option.{option_to_list}
 use Rattle.typecodes.specs.declared.spec.Spec.{Spec}
 use Rattle.state_file.specs.declared.record.Record.{Record}
 use Rattle.sign_core.specs.World.{Chance, Creation, Draw, Event, Fate, Outcome, State, World, acked, cut_new, cut_old}
-use Rattle.sign_core.specs.World.{no_memory, create, request, closed_on, created, requested, retired, run}
+use Rattle.sign_core.specs.World.{no_memory, create, request, closed_state, created, requested, retired, run}
 use Rattle.sign_core.specs.Events.{IsEvent, AllEvents}
 
 -- ---- cuts
@@ -76,7 +76,7 @@ pub record IsBeginning (least : ℕ) (all left : List Record) : Type 0 where
 pub record IsLeftBy (limit : ℕ) (world : World) (left : List Record) : Type 0 where
   pub events : List Event
   pub possible : AllEvents events
-  pub leads : run limit world events ≡ record { state = closed_on left; handed = world.handed }
+  pub leads : run limit world events ≡ record { state = closed_state left; handed = world.handed }
 
 -- A crash inside an event leaves a beginning of what the event reaches, no shorter than the old records. Whole events
 -- leave this as well: the event with its append cut there, or a crash alone.

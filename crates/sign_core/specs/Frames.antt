@@ -86,8 +86,8 @@ IsCut ending request =
     (request.is_whole ≡ false) × CutsAt ending (length request.message) request.announced
 
 -- what its message gives to a reader, if it can be read
-abbrev pub given_by : Request → Option (List ℕ)
-given_by request = if request.is_whole then Some request.message else None
+abbrev pub given_message : Request → Option (List ℕ)
+given_message request = if request.is_whole then Some request.message else None
 
 -- The bytes end inside a field of the layout, at whatever offset they begin.
 abbrev pub CutsField : {V : Type 0} → Layout V → List ℕ → Type 0

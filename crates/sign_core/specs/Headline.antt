@@ -18,7 +18,7 @@ use Rattle.sign_core.specs.declared.key.AnyPublic.TheVariants.{Lms, Hss, Xmss}
 use Rattle.state_file.specs.declared.record.Bound.{Bound}
 use Rattle.state_file.specs.declared.record.Key.{Key}
 use Rattle.state_file.specs.declared.record.Record.{Record}
-use Rattle.sign_core.specs.Records.{binding_in, key_in}
+use Rattle.sign_core.specs.Records.{binding_at, the_key}
 use Rattle.sign_core.specs.Events.{AllEvents}
 use Rattle.sign_core.specs.World.{Event, Handed, World, beginning, run}
 
@@ -60,8 +60,8 @@ IsValidUnder (Xmss key) message bytes =
 
 -- A name is bound to the digest of this message under the bound leaf and C.
 pub record IsBoundTo (records : List Record) (key : Key) (name message : List ℕ) (k : ℕ) (bound : Bound) : Type 0 where
-  pub keyed : key_in records ≡ Some key
-  pub named : binding_in records name ≡ Some (k, bound)
+  pub keyed : the_key records ≡ Some key
+  pub named : binding_at records name ≡ Some (k, bound)
   pub digest : digest_at key records k bound.leaf bound.randomizer message ≡ bound.digest
 
 -- A signature that was handed out is the textbook signature of its name's binding, to the digest of its message.
@@ -73,13 +73,13 @@ pub record IsRecorded (records : List Record) (x : Handed) : Type 0 where
   pub signature : x.signature ≡ signature_at key records k bound
 
 -- the public key of the world's record 0
-abbrev pub public_in_world : World → Option AnyPublic
-public_in_world world = public_of_key (key_in world.state.records)
+abbrev pub public_of_world : World → Option AnyPublic
+public_of_world world = public_of_key (the_key world.state.records)
 
 -- A signature was handed out, and by its bytes it makes these uses.
 pub record WasHanded (world : World) (x : Handed) (uses : List LeafUse) : Type 0 where
   pub public : AnyPublic
-  pub keyed : public_in_world world ≡ Some public
+  pub keyed : public_of_world world ≡ Some public
   pub handed : Contains world.handed x
   pub makes : MakesUses public x.message x.signature uses
 
@@ -107,7 +107,7 @@ pub record SignsOnce (world : World) : Type 0 where
   pub recorded : (x : Handed) → Contains world.handed x → IsRecorded world.state.records x
   -- and is valid for its message under the key
   pub valid : (x : Handed) → Contains world.handed x
-      → (public : AnyPublic) × (public_in_world world ≡ Some public) × IsValidUnder public x.message x.signature
+      → (public : AnyPublic) × (public_of_world world ≡ Some public) × IsValidUnder public x.message x.signature
 
 abbrev pub HeadlineLaw : Type 0
 HeadlineLaw = (limit : ℕ) (events : List Event) → AllEvents events → SignsOnce (run limit beginning events)

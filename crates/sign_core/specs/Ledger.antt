@@ -17,9 +17,9 @@ use Rattle.sign_core.specs.declared.ledger.Made.{Made}
 use Rattle.sign_core.specs.declared.ledger.LedgerFault.{LedgerFault}
 use Rattle.sign_core.specs.declared.ledger.LedgerFault.TheVariants.{Empty, Illegal, OutOfMemory}
 use Rattle.sign_core.specs.declared.trees.Tree.{Tree}
-use Rattle.sign_core.specs.Records.{binding_in, first_illegal, has_identifier, has_moved, key_in}
+use Rattle.sign_core.specs.Records.{binding_at, first_illegal, has_identifier, has_moved, the_key}
 use Rattle.sign_core.specs.Trees.{HasTrees}
-use Rattle.sign_core.specs.Textbook.{AllHaveSizes, tree_before}
+use Rattle.sign_core.specs.Textbook.{AllHaveSizes, current_at}
 
 -- A ledger as callers see it: its key, its records from the Key on, and for how many more records it has memory.
 pub record Table : Type 0 where
@@ -44,17 +44,17 @@ of_place entries place = get nat_eq entries place
 -- ---- what is kept of a record
 
 -- an Extend, with the tree that was current above it
-abbrev pub made_by : List Record → (place : ℕ) → Option Record → Option Made
-made_by records place (Some (ExtendRecord extend)) =
-    Some (record { extend = extend; parent = tree_before (extend.level - 1) records place })
-made_by records place (Some (KeyRecord key)) = None
-made_by records place (Some (BoundRecord bound)) = None
-made_by records place (Some (Retire upto)) = None
-made_by records place (Some Moved) = None
-made_by records place None = None
+abbrev pub made_entry : List Record → (place : ℕ) → Option Record → Option Made
+made_entry records place (Some (ExtendRecord extend)) =
+    Some (record { extend = extend; parent = current_at (extend.level - 1) records place })
+made_entry records place (Some (KeyRecord key)) = None
+made_entry records place (Some (BoundRecord bound)) = None
+made_entry records place (Some (Retire upto)) = None
+made_entry records place (Some Moved) = None
+made_entry records place None = None
 
 abbrev pub made_at : List Record → (place : ℕ) → Option Made
-made_at records place = made_by records place (slice_get records place)
+made_at records place = made_entry records place (slice_get records place)
 
 -- a binding with its place, and the bottom tree that was current before it
 abbrev pub kept_of : Secret → List Record → (ℕ × Bound) → Binding
@@ -63,11 +63,11 @@ kept_of secret records (place, bound) = record {
   leaf = bound.leaf;
   randomizer = bound.randomizer;
   digest = bound.digest;
-  tree = tree_before (bottom_of secret) records place;
+  tree = current_at (bottom_of secret) records place;
 }
 
 abbrev pub binding_kept : Secret → List Record → (name : List ℕ) → Option Binding
-binding_kept secret records name = option_map (kept_of secret records) (binding_in records name)
+binding_kept secret records name = option_map (kept_of secret records) (binding_at records name)
 
 -- ---- a ledger
 
@@ -76,7 +76,7 @@ binding_kept secret records name = option_map (kept_of secret records) (binding_
 pub record IsTableOf (records : List Record) (key : Key) (made : ByPlace Made) (bindings : ByText Binding)
     (identifiers : ByText ℕ) (levels : List (Option Tree)) (count : ℕ) (moved : Bool) : Type 0 where
   pub legal : IsLegal records
-  pub keyed : key_in records ≡ Some key
+  pub keyed : the_key records ≡ Some key
   pub sizes : AllHaveSizes records
   pub counted : count ≡ length records
   pub moved_is : moved ≡ has_moved records

@@ -13,7 +13,7 @@ use Rattle.state_file.specs.declared.migration.MigrateFault.{MigrateFault}
 use Rattle.state_file.specs.declared.migration.MigrateFault.TheVariants.{Stopped, DeviceFailed, KeyThere, Full}
 use Rattle.state_file.specs.declared.record.Record.{Record}
 use Rattle.sign_core.specs.OldFile.{ReportsOld, SpellsMovable}
-use Rattle.sign_core.specs.World.{Migration, left_alone, sealed, carried_over, closed_on, migrated}
+use Rattle.sign_core.specs.World.{Migration, left_alone, sealed, carried_over, closed_state, migrated}
 
 -- ---- the answer
 
@@ -91,7 +91,7 @@ StandsAfter carried_over records old new = StandsFor records new
 pub record IsMigration (records : List Record) (answer : Result ℕ MigrateFault) (old new : List ℕ) : Type 0 where
   pub fate : Migration
   pub is_fate : IsFateOf answer fate
-  pub stands : StandsAfter fate (migrated (closed_on records) fate).records old new
+  pub stands : StandsAfter fate (migrated (closed_state records) fate).records old new
 
 -- ---- the call
 

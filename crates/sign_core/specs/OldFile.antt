@@ -3,7 +3,7 @@ use Rattle.std.specs.Prelude.{◌≡◌, ◌⊎◌, ℕ, List, Some}
 use Rattle.state_file.specs.File.{SpellsRecords}
 use Rattle.state_file.specs.Laws.{IsLegal}
 use Rattle.state_file.specs.Opening.{OpensAs, damaged, no_key, no_key_file, unknown_version}
-use Rattle.state_file.specs.Slot.{version_in}
+use Rattle.state_file.specs.Slot.{file_version}
 use Rattle.state_file.specs.declared.migration.MigrateFault.{MigrateFault}
 use Rattle.state_file.specs.declared.migration.MigrateFault.TheVariants.{NoKey, NotKeyFile, Version as VersionFault}
 use Rattle.state_file.specs.declared.migration.MigrateFault.TheVariants.{Damaged, Illegal, DeviceFailed, OutOfMemory}
@@ -18,12 +18,12 @@ use Rattle.sign_core.specs.Records.{first_illegal}
 pub record SpellsMovable (content : List ℕ) (records : List Record) : Type 0 where
   pub spelled : SpellsRecords content records
   pub legal : IsLegal records
-  pub version : version_in records ≡ One
+  pub version : file_version records ≡ One
 
 -- The content's version isn't known, or it spells legal records of version 2.
 abbrev pub IsOfOtherVersion : List ℕ → Type 0
 IsOfOtherVersion content = OpensAs content unknown_version
-    ⊎ ((records : List Record) × SpellsRecords content records × IsLegal records × (version_in records ≡ Two))
+    ⊎ ((records : List Record) × SpellsRecords content records × IsLegal records × (file_version records ≡ Two))
 
 -- What each refusal reports of a content without such records.
 abbrev pub ReportsOld : List ℕ → MigrateFault → Type 0

@@ -11,8 +11,8 @@ use Rattle.sign_core.specs.Headline.{IsValidUnder}
 use Rattle.sign_core.specs.Textbook.{public_of_key}
 use Rattle.sign_core.specs.Openings.{Reopens}
 use Rattle.sign_core.specs.declared.fault.SignFault.TheVariants.{Damaged}
-use Rattle.sign_core.specs.Records.{binding_in, deepest, key_in}
-use Rattle.sign_core.specs.Textbook.{AllHaveSizes, chain, is_sound_at, tree_before}
+use Rattle.sign_core.specs.Records.{binding_at, deepest, the_key}
+use Rattle.sign_core.specs.Textbook.{AllHaveSizes, chain, is_sound_at, current_at}
 use Rattle.sign_core.specs.World.{Chance, Event, Handed, State, World, after, requested, run}
 
 -- They are legal, and each part has its size in bytes.
@@ -23,7 +23,7 @@ pub record AreWellFormed (records : List Record) : Type 0 where
 -- The bytes are a valid signature of the message under the public key of record 0.
 pub record IsValidOver (records : List Record) (message signature : List ℕ) : Type 0 where
   pub public : AnyPublic
-  pub keyed : public_of_key (key_in records) ≡ Some public
+  pub keyed : public_of_key (the_key records) ≡ Some public
   pub verifies : IsValidUnder public message signature
 
 -- The record at `slot` is the first that isn't sound in the chain from the Key's tree down to this one.
@@ -37,9 +37,9 @@ pub record IsFirstDamaged (key : Key) (records : List Record) (level tree slot :
 -- the same in the chain of a name's binding, or without one in the chain by which a new name signs
 abbrev pub IsDamagedFor : Key → List Record → Option (ℕ × Bound) → (slot : ℕ) → Type 0
 IsDamagedFor key records (Some (k, bound)) slot =
-    IsFirstDamaged key records (bottom_of key.secret) (tree_before (bottom_of key.secret) records k) slot
+    IsFirstDamaged key records (bottom_of key.secret) (current_at (bottom_of key.secret) records k) slot
 IsDamagedFor key records None slot = (level : ℕ) × (deepest key.secret records ≡ Some level)
-    × IsFirstDamaged key records level (tree_before level records (length records)) slot
+    × IsFirstDamaged key records level (current_at level records (length records)) slot
 
 pub record OpenedLaw : Type 0 where
   -- they are opened, where nothing fails
@@ -61,6 +61,6 @@ pub record OpenedLaw : Type 0 where
       → Contains (run limit world events).handed x → IsValidOver world.state.records x.message x.signature
   -- 28 names the first damaged record of the name's chain, from the top down, and changes nothing
   pub damaged : (limit : ℕ) (state : State) (name : List ℕ) (chance : Chance) (key : Key) (slot : ℕ)
-      → key_in state.records ≡ Some key → (requested limit state name chance).answer ≡ Err (Damaged slot)
-      → IsDamagedFor key state.records (binding_in state.records name) slot
+      → the_key state.records ≡ Some key → (requested limit state name chance).answer ≡ Err (Damaged slot)
+      → IsDamagedFor key state.records (binding_at state.records name) slot
       × ((requested limit state name chance).state ≡ state)

@@ -22,9 +22,9 @@ use Rattle.state_file.specs.declared.record.Version.TheVariants.{One, Two}
 -- ---- the key
 
 -- the key: record 0
-abbrev pub key_in : List Record → Option Key
-key_in (KeyRecord key ∷ rest) = Some key
-key_in _ = None
+abbrev pub the_key : List Record → Option Key
+the_key (KeyRecord key ∷ rest) = Some key
+the_key _ = None
 
 -- ---- trees
 
@@ -34,9 +34,9 @@ makes level (ExtendRecord extend) = nat_eq extend.level level
 makes level _ = false
 
 -- the place of the last Extend of a level, in records from place k on; else what was found before
-abbrev pub last_from : (level k : ℕ) → Option ℕ → List Record → Option ℕ
-last_from level k found [] = found
-last_from level k found (entry ∷ rest) = last_from level (k + 1) (if makes level entry then Some k else found) rest
+abbrev pub last_extend : (level k : ℕ) → Option ℕ → List Record → Option ℕ
+last_extend level k found [] = found
+last_extend level k found (entry ∷ rest) = last_extend level (k + 1) (if makes level entry then Some k else found) rest
 
 abbrev pub same_tree : Option ℕ → Option ℕ → Bool
 same_tree (Some a) (Some b) = nat_eq a b
@@ -51,7 +51,7 @@ under above records (Some j) = if same_tree (above (take j records)) (above reco
 -- the current tree above.
 abbrev pub current : ℕ → List Record → Option ℕ
 current zero = λ records. Some 0
-current (suc level) = λ records. under (current level) records (last_from (suc level) 0 None records)
+current (suc level) = λ records. under (current level) records (last_extend (suc level) 0 None records)
 
 -- ---- leaves
 
@@ -66,19 +66,19 @@ reaches secret before (Retire upto) = in_tree (current (bottom_of secret) before
 reaches secret before _ = None
 
 -- that number, for one tree alone
-abbrev pub number_in : (tree : ℕ) → Option (ℕ × ℕ) → ℕ
-number_in tree None = 0
-number_in tree (Some (other, n)) = if nat_eq other tree then n else 0
+abbrev pub reached_number : (tree : ℕ) → Option (ℕ × ℕ) → ℕ
+reached_number tree None = 0
+reached_number tree (Some (other, n)) = if nat_eq other tree then n else 0
 
 -- the numbers that records from place k on reach in a tree
-abbrev pub numbers_from : Secret → (all : List Record) → (tree k : ℕ) → List Record → List ℕ
-numbers_from secret all tree k [] = []
-numbers_from secret all tree k (entry ∷ rest) =
-    number_in tree (reaches secret (take k all) entry) ∷ numbers_from secret all tree (k + 1) rest
+abbrev pub reached_numbers : Secret → (all : List Record) → (tree k : ℕ) → List Record → List ℕ
+reached_numbers secret all tree k [] = []
+reached_numbers secret all tree k (entry ∷ rest) =
+    reached_number tree (reaches secret (take k all) entry) ∷ reached_numbers secret all tree (k + 1) rest
 
 -- the least number above every leaf that records name or retire in a tree
-abbrev pub next_in : Secret → List Record → (tree : ℕ) → ℕ
-next_in secret records tree = fold max 0 (numbers_from secret records tree 0 records)
+abbrev pub next_leaf : Secret → List Record → (tree : ℕ) → ℕ
+next_leaf secret records tree = fold max 0 (reached_numbers secret records tree 0 records)
 
 -- The same without a fold: no record names or retires a leaf from it on, and where it isn't 0, one reaches it.
 pub record IsNext (secret : Secret) (records : List Record) (tree next : ℕ) : Type 0 where
@@ -89,7 +89,7 @@ pub record IsNext (secret : Secret) (records : List Record) (tree next : ℕ) : 
 
 -- the next leaf of a level's current tree, 0 where there is none
 abbrev pub next_at : Secret → List Record → (level : ℕ) → ℕ
-next_at secret records level = unwrap_or (option_map (next_in secret records) (current level records)) 0
+next_at secret records level = unwrap_or (option_map (next_leaf secret records) (current level records)) 0
 
 -- how many leaves are free in a level's current tree, 0 where there is none
 abbrev pub free_at : Secret → List Record → (level : ℕ) → ℕ
@@ -118,15 +118,15 @@ abbrev pub are_same : List ℕ → List ℕ → Bool
 are_same a b = pointwise nat_eq a b
 
 -- a name's binding in records that begin at place k: the first that binds it, with its place
-abbrev pub bound_from : (name : List ℕ) (k : ℕ) → List Record → Option (ℕ × Bound)
-bound_from name k [] = None
-bound_from name k (BoundRecord bound ∷ rest) =
-    if are_same bound.name name then Some (k, bound) else bound_from name (k + 1) rest
-bound_from name k (entry ∷ rest) = bound_from name (k + 1) rest
+abbrev pub first_binding : (name : List ℕ) (k : ℕ) → List Record → Option (ℕ × Bound)
+first_binding name k [] = None
+first_binding name k (BoundRecord bound ∷ rest) =
+    if are_same bound.name name then Some (k, bound) else first_binding name (k + 1) rest
+first_binding name k (entry ∷ rest) = first_binding name (k + 1) rest
 
 -- a name's binding, with the place of its record
-abbrev pub binding_in : List Record → (name : List ℕ) → Option (ℕ × Bound)
-binding_in records name = bound_from name 0 records
+abbrev pub binding_at : List Record → (name : List ℕ) → Option (ℕ × Bound)
+binding_at records name = first_binding name 0 records
 
 -- whether a name is longer than a file of the key's version can hold
 abbrev pub is_long : Key → (name : List ℕ) → Bool
@@ -166,7 +166,7 @@ can_follow_legal key before (ExtendRecord extend) =
     nat_le 1 extend.level && nat_lt extend.level (levels_of key.secret)
     && is_free key.secret before (extend.level - 1) extend.parent_leaf && not (has_identifier before extend.identifier)
 can_follow_legal key before (BoundRecord bound) =
-    is_free key.secret before (bottom_of key.secret) bound.leaf && not (is_some (binding_in before bound.name))
+    is_free key.secret before (bottom_of key.secret) bound.leaf && not (is_some (binding_at before bound.name))
     && has_randomizer key.secret bound.randomizer
 can_follow_legal key before (Retire upto) =
     is_some (current (bottom_of key.secret) before) && nat_le upto (leaves_at key.secret (bottom_of key.secret))
@@ -178,10 +178,10 @@ can_follow None [] (KeyRecord key) = true
 can_follow None before entry = false
 
 -- the first record, from place k on, that can't follow the records before it
-abbrev pub illegal_from : (all : List Record) → (k : ℕ) → List Record → Option ℕ
-illegal_from all k [] = None
-illegal_from all k (entry ∷ rest) =
-    if can_follow (key_in (take k all)) (take k all) entry then illegal_from all (k + 1) rest else Some k
+abbrev pub next_illegal : (all : List Record) → (k : ℕ) → List Record → Option ℕ
+next_illegal all k [] = None
+next_illegal all k (entry ∷ rest) =
+    if can_follow (the_key (take k all)) (take k all) entry then next_illegal all (k + 1) rest else Some k
 
 abbrev pub first_illegal : List Record → Option ℕ
-first_illegal records = illegal_from records 0 records
+first_illegal records = next_illegal records 0 records

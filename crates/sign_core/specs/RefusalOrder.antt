@@ -16,9 +16,9 @@ use Rattle.sign_core.specs.declared.fault.SignFault.TheVariants.{LedgerFull, Lon
 use Rattle.sign_core.specs.declared.fault.SignFault.TheVariants.{OutOfMemory}
 use Rattle.sign_core.specs.declared.fault.SignFault.TheVariants.{RandomFailed, RandomRepeated, RetireRange, Stopped}
 use Rattle.sign_core.specs.declared.fault.SignFault.TheVariants.{StoreFailed}
-use Rattle.sign_core.specs.Records.{binding_in, deepest, first_illegal, free_at, has_identifier, has_moved, key_in}
+use Rattle.sign_core.specs.Records.{binding_at, deepest, first_illegal, free_at, has_identifier, has_moved, the_key}
 use Rattle.sign_core.specs.Records.{leaves_of_current, next_at, wanted_count}
-use Rattle.sign_core.specs.Textbook.{AllHaveSizes, damaged_in, digest_at, tree_before}
+use Rattle.sign_core.specs.Textbook.{AllHaveSizes, damaged_at, digest_at, current_at}
 use Rattle.sign_core.specs.Events.{AreDrawsOf, AreFields, key_sizes, randomizer_sizes}
 use Rattle.sign_core.specs.World.{Chance, Creation, Draw, Fate, Opening, State, cut_new, cut_old, no_memory}
 use Rattle.sign_core.specs.World.{created, first_draw, opened, requested, retired}
@@ -65,7 +65,7 @@ RefusesRepeat state key k bound chance =
     Unless (Of MessageRead (chance.given ≡ None))
     (Unless (Of Changed (HasChanged key state.records k bound chance.given))
     (Unless (Of OutOfMemory (chance.has_room ≡ false))
-    (Unless (IsUnsound (damaged_in key bottom state.records (tree_before bottom state.records k))) IsOk)))
+    (Unless (IsUnsound (damaged_at key bottom state.records (current_at bottom state.records k))) IsOk)))
 
 abbrev pub HasNoLeaf : Secret → List Record → Type 0
 HasNoLeaf secret records = (level : ℕ) → level < levels_of secret → free_at secret records level ≡ 0
@@ -100,7 +100,7 @@ RefusesAt limit state key chance level =
     let records = state.records in
     Unless (Of LedgerFull (limit < length records + wanted_count key.secret level))
     (Unless (Of OutOfMemory (chance.has_room ≡ false))
-    (Unless (IsUnsound (damaged_in key level records (tree_before level records (length records))))
+    (Unless (IsUnsound (damaged_at key level records (current_at level records (length records))))
     (RefusesWanted key chance (bottom_of key.secret - level) chance.trees
     (λ identifier. has_identifier records identifier ≡ true))))
 
@@ -122,7 +122,7 @@ RefusesName limit state key name chance None =
 -- A request: 26, 31, and `RefusesName`.
 abbrev pub RefusesRequest : (limit : ℕ) → State → Key → (name : List ℕ) → Chance → Result (List ℕ) SignFault → Type 0
 RefusesRequest limit state key name chance =
-    WhereOpen state (RefusesName limit state key name chance (binding_in state.records name))
+    WhereOpen state (RefusesName limit state key name chance (binding_at state.records name))
 
 -- ---- the other events
 
@@ -169,10 +169,11 @@ RefuseAlike one other = (fault : SignFault) → (one ≡ Err fault) ↔ (other �
 -- Each answer is the refusal of the first cause that applies, or Ok without one; and no other answer is.
 pub record RefusalLaw : Type 0 where
   pub request : (limit : ℕ) (state : State) (key : Key) (name : List ℕ) (chance : Chance)
-      → key_in state.records ≡ Some key → AreDrawsOf key.secret chance
+      → the_key state.records ≡ Some key → AreDrawsOf key.secret chance
       → RefusesRequest limit state key name chance (requested limit state name chance).answer
   pub retire : (limit : ℕ) (state : State) (key : Key) (upto : ℕ) (fate : Fate)
-      → key_in state.records ≡ Some key → RefusesRetire limit state key upto fate (retired limit state upto fate).answer
+      → the_key state.records ≡ Some key
+      → RefusesRetire limit state key upto fate (retired limit state upto fate).answer
   pub create : (state : State) (spec : Spec) (chance : Creation) → IsSpec spec
       → AreFields (key_sizes spec) chance.fields → RefusesCreate state spec chance (created state spec chance).answer
   pub opening : (state : State) (chance : Opening) → AllHaveSizes state.records

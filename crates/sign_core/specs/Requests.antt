@@ -16,9 +16,9 @@ use Rattle.sign_core.specs.declared.fault.SignFault.{SignFault}
 use Rattle.sign_core.specs.declared.fault.SignFault.TheVariants.{Changed, Damaged, Exhausted, MessageRead, LongName}
 use Rattle.sign_core.specs.declared.fault.SignFault.TheVariants.{Moved, OutOfMemory, Stopped, StoreFailed}
 use Rattle.sign_core.specs.declared.fault.SignFault.TheVariants.{RandomRepeated}
-use Rattle.sign_core.specs.Records.{binding_in, deepest, has_identifier, has_moved, key_in, next_at, wanted_count}
-use Rattle.sign_core.specs.World.{Chance, Draw, Outcome, World, acked, request, after, answered, open_on, reading}
-use Rattle.sign_core.specs.World.{refused, randomizer_from, requested}
+use Rattle.sign_core.specs.Records.{binding_at, deepest, has_identifier, has_moved, the_key, next_at, wanted_count}
+use Rattle.sign_core.specs.World.{Chance, Draw, Outcome, World, acked, request, after, answered, open_state, reading}
+use Rattle.sign_core.specs.World.{refused, randomizer_of_fields, requested}
 use Rattle.sign_core.specs.Events.{tree_sizes, randomizer_sizes, AreDrawsOf}
 use Rattle.sign_core.specs.Headline.{IsBoundTo}
 
@@ -53,7 +53,7 @@ pub record BindsName (key : Key) (before : List Record) (name message : List ℕ
     (bound : Bound) : Type 0 where
   pub named : bound.name ≡ name
   pub leaf : bound.leaf ≡ next_at key.secret before (bottom_of key.secret)
-  pub randomizer : randomizer_from key.secret fields ≡ Some bound.randomizer
+  pub randomizer : randomizer_of_fields key.secret fields ≡ Some bound.randomizer
   pub digest : bound.digest ≡ digest_at key before (length before) bound.leaf bound.randomizer message
 
 abbrev pub bytes_drawn : List Draw → List ℕ
@@ -74,7 +74,7 @@ pub record IsSigned (key : Key) (records : List Record) (level : ℕ) (name mess
       → slice_get chance.trees i ≡ Some draw
       → BeginsTree key (records ++ take i trees) (level + i + 1) draw.fields entry
   pub binds : BindsName key (records ++ trees) name message chance.bound.fields bound
-  pub state : outcome.state ≡ open_on (records ++ trees ++ BoundRecord bound ∷ [])
+  pub state : outcome.state ≡ open_state (records ++ trees ++ BoundRecord bound ∷ [])
   pub longer : length outcome.state.records ≡ length records + wanted_count key.secret level
   pub answer : outcome.answer
       ≡ Ok (signature_at key (records ++ trees ++ BoundRecord bound ∷ []) (length (records ++ trees)) bound)
@@ -110,8 +110,8 @@ pub record AreRequestsAnswered (limit : ℕ) (world : World) : Type 0 where
   -- a request to an open signer under a name bound to another digest is refused as changed, and changes nothing; the
   -- records don't end with a Moved
   pub changed : (key : Key) (k : ℕ) (bound : Bound) (name message : List ℕ) (chance : Chance)
-      → world.state.is_open ≡ true → has_moved world.state.records ≡ false → key_in world.state.records ≡ Some key
-      → binding_in world.state.records name ≡ Some (k, bound) → chance.given ≡ Some message
+      → world.state.is_open ≡ true → has_moved world.state.records ≡ false → the_key world.state.records ≡ Some key
+      → binding_at world.state.records name ≡ Some (k, bound) → chance.given ≡ Some message
       → digest_at key world.state.records k bound.leaf bound.randomizer message ≢ bound.digest
       → requested limit world.state name chance ≡ reading (refused world.state Changed)
   -- a repeated one gets the recorded signature, unless memory is refused, and changes nothing
@@ -123,23 +123,23 @@ pub record AreRequestsAnswered (limit : ℕ) (world : World) : Type 0 where
       else refused world.state OutOfMemory)
   -- one whose message can't be read is refused, and changes nothing
   pub unread : (key : Key) (k : ℕ) (bound : Bound) (name : List ℕ) (chance : Chance)
-      → world.state.is_open ≡ true → has_moved world.state.records ≡ false → key_in world.state.records ≡ Some key
-      → binding_in world.state.records name ≡ Some (k, bound) → chance.given ≡ None
+      → world.state.is_open ≡ true → has_moved world.state.records ≡ false → the_key world.state.records ≡ Some key
+      → binding_at world.state.records name ≡ Some (k, bound) → chance.given ≡ None
       → requested limit world.state name chance ≡ reading (refused world.state MessageRead)
   -- after a Moved every request is refused, and changes nothing
   pub moved : (key : Key) (name : List ℕ) (chance : Chance) → world.state.is_open ≡ true
-      → has_moved world.state.records ≡ true → key_in world.state.records ≡ Some key
+      → has_moved world.state.records ≡ true → the_key world.state.records ≡ Some key
       → requested limit world.state name chance ≡ refused world.state Moved
   -- a new name that is longer than a file of the key's version can hold is refused, and changes nothing
   pub long : (key : Key) (name : List ℕ) (chance : Chance) → world.state.is_open ≡ true
-      → has_moved world.state.records ≡ false → key_in world.state.records ≡ Some key
-      → binding_in world.state.records name ≡ None → name_most key.version < length name
+      → has_moved world.state.records ≡ false → the_key world.state.records ≡ Some key
+      → binding_at world.state.records name ≡ None → name_most key.version < length name
       → requested limit world.state name chance ≡ refused world.state LongName
   -- any other new name is signed if a leaf is free, the store takes the records that it needs and nothing fails, except
   -- for an I that was drawn before
   pub fresh : (key : Key) (level : ℕ) (name message : List ℕ) (chance : Chance) → world.state.is_open ≡ true
-      → has_moved world.state.records ≡ false → key_in world.state.records ≡ Some key
-      → binding_in world.state.records name ≡ None → length name ≤ name_most key.version
+      → has_moved world.state.records ≡ false → the_key world.state.records ≡ Some key
+      → binding_at world.state.records name ≡ None → length name ≤ name_most key.version
       → deepest key.secret world.state.records ≡ Some level
       → length world.state.records + wanted_count key.secret level ≤ limit → chance.given ≡ Some message
       → AreComplete key.secret (bottom_of key.secret - level) chance
@@ -151,19 +151,19 @@ pub record AreRequestsAnswered (limit : ℕ) (world : World) : Type 0 where
       → DrewAgain world.state.records chance.trees (requested limit world.state name chance).state.records
       (requested limit world.state name chance).drawn
   -- a request draws at most I, SEED and C for each level below the top, and C for the binding; for XMSS nothing
-  pub draws : (key : Key) (name : List ℕ) (chance : Chance) → key_in world.state.records ≡ Some key
+  pub draws : (key : Key) (name : List ℕ) (chance : Chance) → the_key world.state.records ≡ Some key
       → AreDrawsOf key.secret chance
       → length (requested limit world.state name chance).drawn
       ≤ sum tree_sizes * bottom_of key.secret + sum (randomizer_sizes key.secret)
   -- no refusal of a request but 25 binds a name
   pub unbound : (name other : List ℕ) (chance : Chance) (fault : SignFault)
       → (requested limit world.state name chance).answer ≡ Err fault → fault ≢ StoreFailed
-      → binding_in (requested limit world.state name chance).state.records other
-      ≡ binding_in world.state.records other
+      → binding_at (requested limit world.state name chance).state.records other
+      ≡ binding_at world.state.records other
   -- for a name that isn't too long, 22 comes exactly where no leaf is free at any level
   pub exhausted : (key : Key) (name : List ℕ) (chance : Chance) → world.state.is_open ≡ true
-      → has_moved world.state.records ≡ false → key_in world.state.records ≡ Some key
-      → binding_in world.state.records name ≡ None → length name ≤ name_most key.version
+      → has_moved world.state.records ≡ false → the_key world.state.records ≡ Some key
+      → binding_at world.state.records name ≡ None → length name ≤ name_most key.version
       → ((requested limit world.state name chance).answer ≡ Err Exhausted)
       ↔ (deepest key.secret world.state.records ≡ None)
   -- no request is refused for a damaged record

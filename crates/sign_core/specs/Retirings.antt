@@ -6,13 +6,13 @@ use Rattle.state_file.specs.declared.record.Record.{Record}
 use Rattle.state_file.specs.declared.record.Record.TheVariants.{Retire}
 use Rattle.sign_core.specs.declared.fault.SignFault.TheVariants.{LedgerFull, Moved, OutOfMemory, RetireRange, Stopped}
 use Rattle.sign_core.specs.declared.fault.SignFault.TheVariants.{StoreFailed}
-use Rattle.sign_core.specs.Records.{has_moved, key_in, leaves_of_current, next_at}
-use Rattle.sign_core.specs.World.{Fate, State, World, acked, no_memory, answered, open_on, refused, retired}
+use Rattle.sign_core.specs.Records.{has_moved, the_key, leaves_of_current, next_at}
+use Rattle.sign_core.specs.World.{Fate, State, World, acked, no_memory, answered, open_state, refused, retired}
 
 pub record IsActive (state : State) (key : Key) : Type 0 where
   pub is_open : state.is_open ≡ true
   pub stays : has_moved state.records ≡ false
-  pub keyed : key_in state.records ≡ Some key
+  pub keyed : the_key state.records ≡ Some key
 
 -- The current bottom tree has leaves up to this number, which is beyond the next one.
 pub record IsBeyondNext (records : List Record) (key : Key) (upto : ℕ) : Type 0 where
@@ -22,15 +22,15 @@ pub record IsBeyondNext (records : List Record) (key : Key) (upto : ℕ) : Type 
 pub record AreRetiringsAnswered (limit : ℕ) (world : World) : Type 0 where
   -- a retiring beyond the next leaf is recorded, if the tree has these leaves, the store has room and nothing fails
   pub retires : (key : Key) (upto : ℕ) → world.state.is_open ≡ true → has_moved world.state.records ≡ false
-      → key_in world.state.records ≡ Some key
+      → the_key world.state.records ≡ Some key
       → upto ≤ leaves_of_current key.secret world.state.records (bottom_of key.secret)
       → next_at key.secret world.state.records (bottom_of key.secret) < upto
       → length world.state.records + 1 ≤ limit
-      → retired limit world.state upto acked ≡ answered (open_on (world.state.records ++ Retire upto ∷ [])) tt
+      → retired limit world.state upto acked ≡ answered (open_state (world.state.records ++ Retire upto ∷ [])) tt
   -- one after a Moved, or of more leaves than the tree has, is refused; one no further than the next leaf is Ok; and
   -- none of them changes anything
   pub moved : (key : Key) (upto : ℕ) (fate : Fate) → world.state.is_open ≡ true
-      → has_moved world.state.records ≡ true → key_in world.state.records ≡ Some key
+      → has_moved world.state.records ≡ true → the_key world.state.records ≡ Some key
       → retired limit world.state upto fate ≡ refused world.state Moved
   pub outside : (key : Key) (upto : ℕ) (fate : Fate) → IsActive world.state key
       → leaves_of_current key.secret world.state.records (bottom_of key.secret) < upto

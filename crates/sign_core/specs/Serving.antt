@@ -16,8 +16,8 @@ use Rattle.sign_core.specs.declared.serving.Reply.TheVariants.{BadName, Refused,
 use Rattle.sign_core.specs.declared.source.Source as source
 use Rattle.sign_core.specs.Fault.{number_of}
 use Rattle.sign_core.specs.Frames.{CutsField, Ending, IsCut, IsFrame, IsWholeMessage, ReadsInput, Request, broken}
-use Rattle.sign_core.specs.Frames.{ended, given_by, going, head}
-use Rattle.sign_core.specs.Records.{binding_in}
+use Rattle.sign_core.specs.Frames.{ended, given_message, going, head}
+use Rattle.sign_core.specs.Records.{binding_at}
 use Rattle.sign_core.specs.Signer.{AnswersRequest, KeepsForRepeat, View, is_before_repeat, is_fault}
 use Rattle.sign_core.specs.Signing.{KeepsCapacity}
 
@@ -54,16 +54,16 @@ pub record SignsGiven {S R : Type 0} (g : store.Ghosts S) (r : source.Ghosts R) 
     (given : Option (List ℕ)) (capacity : ℕ) (answer : Result (List ℕ) SignFault) : Type 0 where
   pub answers : AnswersRequest g r old new name capacity answer
   pub message : answers.outcome.is_read ≡ true → answers.chance.given ≡ given
-  pub repeat : IsSome (binding_in old.records name) → KeepsForRepeat old new (is_fault is_before_repeat answer)
+  pub repeat : IsSome (binding_at old.records name) → KeepsForRepeat old new (is_fault is_before_repeat answer)
 
 -- The reply is the signer's answer, with an output of this capacity; or the name's bytes are no name, and the signer
 -- isn't asked.
 abbrev pub AnswersBy : {S R : Type 0} → store.Ghosts S → source.Ghosts R → Reply → (signature : List ℕ) → Request
     → (old new : View S R) → (capacity : ℕ) → Type 0
 AnswersBy g r Signed signature request old new capacity =
-    IsName request.name × SignsGiven g r old new request.name (given_by request) capacity (Ok signature)
+    IsName request.name × SignsGiven g r old new request.name (given_message request) capacity (Ok signature)
 AnswersBy g r (Refused fault) signature request old new capacity =
-    IsName request.name × SignsGiven g r old new request.name (given_by request) capacity (Err fault)
+    IsName request.name × SignsGiven g r old new request.name (given_message request) capacity (Err fault)
 AnswersBy g r BadName signature request old new capacity = (IsName request.name → ⊥) × (new ≡ old)
 
 -- The output keeps its capacity, which grows no further than the signature takes.

@@ -30,11 +30,11 @@ use Rattle.sign_core.specs.declared.fault.SignFault.TheVariants.{Illegal, Ledger
 use Rattle.sign_core.specs.declared.fault.SignFault.TheVariants.{NoKey, Stopped, Unreadable}
 use Rattle.sign_core.specs.declared.source.Source as source
 use Rattle.sign_core.specs.Source.{Provides}
-use Rattle.sign_core.specs.Records.{binding_in, deepest, key_in, wanted_count}
+use Rattle.sign_core.specs.Records.{binding_at, deepest, the_key, wanted_count}
 use Rattle.sign_core.specs.Events.{AreDrawsOf, AreFields, key_sizes}
 use Rattle.sign_core.specs.Cuts.{IsBeginning, reached}
 use Rattle.sign_core.specs.Textbook.{public_of_key}
-use Rattle.sign_core.specs.World.{Chance, Creation, Fate, Opening, Outcome, State, closed_on, created, opened}
+use Rattle.sign_core.specs.World.{Chance, Creation, Fate, Opening, Outcome, State, closed_state, created, opened}
 use Rattle.sign_core.specs.World.{requested, retired}
 use Rattle.sign_core.specs.Caches.{Cached, LacksCache}
 use Rattle.sign_core.specs.Ledger.{RunsOutOfMemory, Table}
@@ -167,9 +167,9 @@ signature_size (Hss levels identifier seed) = hss_signature_size levels
 signature_size (Xmss secret) = xmss_signature_len_of secret.tree
 
 -- how many records a new name needs
-abbrev pub wanted_by : Secret → Option ℕ → ℕ
-wanted_by secret None = 0
-wanted_by secret (Some level) = wanted_count secret level
+abbrev pub wanted_records : Secret → Option ℕ → ℕ
+wanted_records secret None = 0
+wanted_records secret (Some level) = wanted_count secret level
 
 -- Where a request may be refused memory. The output's capacity is too small for the signature; or there is no memory
 -- for a new name's records; or a cache is missing. For a new name it is a current tree's, down to the deepest level
@@ -179,7 +179,8 @@ abbrev pub LacksMemory : {S R : Type 0} → Key → View S R → (level : Option
 LacksMemory key view level (Some (k, bound)) capacity = (capacity < signature_size key.secret)
     ⊎ LacksCache key view.records (Some (bottom_of key.secret)) k view.cached
 LacksMemory key view level None capacity = (capacity < signature_size key.secret)
-    ⊎ (view.spare < wanted_by key.secret level) ⊎ LacksCache key view.records level (length view.records) view.cached
+    ⊎ (view.spare < wanted_records key.secret level)
+    ⊎ LacksCache key view.records level (length view.records) view.cached
 
 -- The message was read whole and gave this text, or can't be read; or it is as it was.
 abbrev pub IsRead : {M : Type 0} → message.Ghosts M → (is_read : Bool) → (given : Option (List ℕ)) → M → M → Type 0
@@ -250,7 +251,7 @@ pub record KeepsForRepeat {S R : Type 0} (old new : View S R) (is_early : Bool) 
 pub record AnswersRequest {S R : Type 0} (g : store.Ghosts S) (r : source.Ghosts R) (old new : View S R)
     (name : List ℕ) (capacity : ℕ) (answer : Result (List ℕ) SignFault) : Type 0 where
   pub key : Key
-  pub keyed : key_in old.records ≡ Some key
+  pub keyed : the_key old.records ≡ Some key
   pub chance : Chance
   pub outcome : Outcome (List ℕ)
   pub step : requested (g.most old.store) (state_of old) name chance ≡ outcome
@@ -259,10 +260,11 @@ pub record AnswersRequest {S R : Type 0} (g : store.Ghosts S) (r : source.Ghosts
   pub source : Provides (r.upcoming old.random) outcome.drawn (r.upcoming new.random)
   pub failures : Counts is_random_failed (r.failures old.random) (r.failures new.random) answer
   pub room : chance.has_room ≡ false
-      → LacksMemory key old (deepest key.secret old.records) (binding_in old.records name) capacity
+      → LacksMemory key old (deepest key.secret old.records) (binding_at old.records name) capacity
   pub refusals : RefusesMemory chance.has_room answer (g.refusals old.store) (g.refusals new.store)
   pub memory : UsesMemory old new
-  pub keeps : KeepsAtRefusal g chance.has_room (wanted_by key.secret (deepest key.secret old.records)) old new answer
+  pub keeps : let wanted = wanted_records key.secret (deepest key.secret old.records) in
+      KeepsAtRefusal g chance.has_room wanted old new answer
 
 -- A call of sign answers a request by such a step, and the message is read or as it was.
 pub record Signs {S R M : Type 0} (g : store.Ghosts S) (r : source.Ghosts R) (m : message.Ghosts M)
@@ -290,18 +292,18 @@ pub record Retires {S R : Type 0} (g : store.Ghosts S) (old new : View S R) (upt
 -- ---- create and open
 
 -- the store afterwards, in the signer or handed back
-abbrev pub store_after : {S R : Type 0} → Result (View S R) (Refused (S × R) SignFault) → S
-store_after (Ok signer) = signer.store
-store_after (Err refused) = refused.given.0
+abbrev pub store_of_result : {S R : Type 0} → Result (View S R) (Refused (S × R) SignFault) → S
+store_of_result (Ok signer) = signer.store
+store_of_result (Err refused) = refused.given.0
 
-abbrev pub random_after : {S R : Type 0} → Result (View S R) (Refused (S × R) SignFault) → R
-random_after (Ok signer) = signer.random
-random_after (Err refused) = refused.given.1
+abbrev pub random_of_result : {S R : Type 0} → Result (View S R) (Refused (S × R) SignFault) → R
+random_of_result (Ok signer) = signer.random
+random_of_result (Err refused) = refused.given.1
 
 -- A signer answers its public key, and is open on the acknowledged records; or the fault is answered.
 abbrev pub IsAnswered : {S R : Type 0} → Result (View S R) (Refused (S × R) SignFault) → Outcome AnyPublic → Type 0
 IsAnswered (Ok signer) outcome = (public : AnyPublic) × (outcome.answer ≡ Ok public)
-    × (public_of_key (key_in signer.records) ≡ Some public) × (signer.records ≡ outcome.acknowledged)
+    × (public_of_key (the_key signer.records) ≡ Some public) × (signer.records ≡ outcome.acknowledged)
     × (signer.is_open ≡ true)
 IsAnswered (Err refused) outcome = outcome.answer ≡ Err refused.fault
 
@@ -329,7 +331,7 @@ pub record MakesKey {S R : Type 0} (g : store.Ghosts S) (r : source.Ghosts R) (v
   pub chance : Creation
   pub of_version : chance.version ≡ version
   pub outcome : Outcome AnyPublic
-  pub step : created (closed_on (g.list old)) spec chance ≡ outcome
+  pub step : created (closed_state (g.list old)) spec chance ≡ outcome
   pub answer : IsAnswer outcome
   pub store : KeepsStore g old new (g.list old) outcome
   pub stopped : g.stopped new ≡ (is_fault is_store_failed outcome.answer || g.stopped old)
@@ -346,7 +348,7 @@ pub record MakesKey {S R : Type 0} (g : store.Ghosts S) (r : source.Ghosts R) (v
 abbrev pub Creates : {S R : Type 0} → store.Ghosts S → source.Ghosts R → Version → Spec → (kept_in : S) → (random : R)
     → Result (View S R) (Refused (S × R) SignFault) → Type 0
 Creates g r version spec kept_in random result =
-    MakesKey g r version spec kept_in (store_after result) random (random_after result) (IsAnswered result)
+    MakesKey g r version spec kept_in (store_of_result result) random (random_of_result result) (IsAnswered result)
 
 -- the record that couldn't be loaded, and why
 abbrev pub StopsOpening : Opening → List Record → (stopped honest : Bool) → Type 0
@@ -365,9 +367,9 @@ RefusesToOpen records (Err NoMemoryToOpen) before after =
 RefusesToOpen records answer before after = after ≡ before
 
 -- the slots below a number, the last one first
-abbrev pub slots_below : ℕ → List ℕ
-slots_below zero = []
-slots_below (suc n) = n ∷ slots_below n
+abbrev pub first_slots : ℕ → List ℕ
+first_slots zero = []
+first_slots (suc n) = n ∷ first_slots n
 
 -- How far an opening goes, by its answer: the loads that it makes, and the records that they give. Ok comes after all
 -- records and one more load, which finds their end, unless the store takes no more records. 44 of k comes after record
@@ -399,7 +401,7 @@ pub record LoadsAll {S : Type 0} (g : store.Ghosts S) (old new : S) (IsAnswer : 
   pub same : IsTrue (g.honest old) → records ≡ g.list old
   pub chance : Opening
   pub outcome : Outcome AnyPublic
-  pub step : opened (closed_on records) chance ≡ outcome
+  pub step : opened (closed_state records) chance ≡ outcome
   pub answer : IsAnswer outcome
   pub load : StopsOpening chance (g.list old) (g.stopped old) (g.honest old)
   pub stopped : g.stopped new ≡ (is_fault is_device_failed outcome.answer || g.stopped old)
@@ -410,7 +412,7 @@ pub record LoadsAll {S : Type 0} (g : store.Ghosts S) (old new : S) (IsAnswer : 
   pub unreadable : Collects unreadable_slot (g.unreadable old) (g.unreadable new) outcome.answer
   pub loads : ℕ
   pub given : ℕ
-  pub asked : g.loads new ≡ slots_below loads ++ g.loads old
+  pub asked : g.loads new ≡ first_slots loads ++ g.loads old
   pub gave : g.given new ≡ g.given old ++ take given records
   pub order : GoesTo (g.most old) chance records (g.refusals old) (g.refusals new) loads given outcome.answer
   pub honest : g.honest new ≡ g.honest old
@@ -420,5 +422,5 @@ pub record LoadsAll {S : Type 0} (g : store.Ghosts S) (old new : S) (IsAnswer : 
 -- A call of open loads the records, and draws nothing.
 pub record Opens {S R : Type 0} (g : store.Ghosts S) (kept_in : S) (random : R)
     (result : Result (View S R) (Refused (S × R) SignFault)) : Type 0 where
-  pub loads : LoadsAll g kept_in (store_after result) (IsAnswered result)
-  pub same_random : random_after result ≡ random
+  pub loads : LoadsAll g kept_in (store_of_result result) (IsAnswered result)
+  pub same_random : random_of_result result ≡ random

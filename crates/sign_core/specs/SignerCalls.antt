@@ -13,8 +13,8 @@ use Rattle.sign_core.specs.declared.fault.SignFault.{SignFault}
 use Rattle.sign_core.specs.declared.fault.SignFault.TheVariants.{Stopped}
 use Rattle.sign_core.specs.declared.source.Source as source
 use Rattle.sign_core.specs.Calls.{IsCall, IsLastingCall}
-use Rattle.sign_core.specs.Signer.{Creates, IsSigner, Opens, Retires, Signs, View, state_of, store_after}
-use Rattle.sign_core.specs.World.{Event, Handed, State, World, after, closed_on, create, reopen, request, retire}
+use Rattle.sign_core.specs.Signer.{Creates, IsSigner, Opens, Retires, Signs, View, state_of, store_of_result}
+use Rattle.sign_core.specs.World.{Event, Handed, State, World, after, closed_state, create, reopen, request, retire}
 use Rattle.state_file.specs.declared.record.Version.{Version}
 
 abbrev pub world_of : State → List Handed → World
@@ -60,14 +60,14 @@ pub record RetiresInWorld {S R : Type 0} (g : store.Ghosts S) (handed : List Han
 -- records of the store handed back
 abbrev pub OpensIn : {S R : Type 0} → store.Ghosts S → Result (View S R) (Refused (S × R) SignFault) → World → Type 0
 OpensIn g (Ok signer) left = IsAfter signer left
-OpensIn g (Err refused) left = left.state ≡ closed_on (g.list refused.given.0)
+OpensIn g (Err refused) left = left.state ≡ closed_state (g.list refused.given.0)
 
 -- A create or an opening of a store whose records these are, with no signer open, as this event.
 pub record OpensInWorld {S R : Type 0} (g : store.Ghosts S) (records : List Record) (handed : List Handed)
     (event : Event) (kept_in : S) (result : Result (View S R) (Refused (S × R) SignFault)) : Type 0 where
-  pub is : IsEventOf g (g.most kept_in) (world_of (closed_on records) handed) event kept_in (store_after result)
-  pub leaves : OpensIn g result (after (g.most kept_in) (world_of (closed_on records) handed) event)
-  pub hands : (after (g.most kept_in) (world_of (closed_on records) handed) event).handed ≡ handed
+  pub is : IsEventOf g (g.most kept_in) (world_of (closed_state records) handed) event kept_in (store_of_result result)
+  pub leaves : OpensIn g result (after (g.most kept_in) (world_of (closed_state records) handed) event)
+  pub hands : (after (g.most kept_in) (world_of (closed_state records) handed) event).handed ≡ handed
 
 pub record IsRunning {S : Type 0} (g : store.Ghosts S) (kept_in : S) : Type 0 where
   pub running : g.stopped kept_in ≡ false

@@ -3,19 +3,19 @@ use Rattle.std.specs.Prelude.{◌≡◌, ℕ, List, Some, Result, Ok, Err, max, 
 use Rattle.state_file.specs.declared.record.Key.{Key}
 use Rattle.state_file.specs.declared.record.Record.{Record}
 use Rattle.sign_core.specs.declared.fault.SignFault.{SignFault}
-use Rattle.sign_core.specs.Records.{key_in}
+use Rattle.sign_core.specs.Records.{the_key}
 use Rattle.sign_core.specs.Signer.{signature_size}
 use Rattle.state_file.specs.declared.record.Secret.TheVariants.{Xmss}
 use Rattle.typecodes.specs.declared.secret.XmssSecret.{XmssSecret}
 
 -- the answer, with this value where it is Ok
-abbrev pub answered_with : {A B : Type 0} → Result A SignFault → B → Result B SignFault
-answered_with (Ok _) value = Ok value
-answered_with (Err fault) value = Err fault
+abbrev pub answered_value : {A B : Type 0} → Result A SignFault → B → Result B SignFault
+answered_value (Ok _) value = Ok value
+answered_value (Err fault) value = Err fault
 
 -- P holds of the records' key
 abbrev pub UnderKey : List Record → (Key → Type 0) → Type 0
-UnderKey records P = (key : Key) → key_in records ≡ Some key → P key
+UnderKey records P = (key : Key) → the_key records ≡ Some key → P key
 
 -- An output keeps its memory, which grows no further than a signature of the records' key takes.
 abbrev pub KeepsCapacity : List Record → (old new : ℕ) → Type 0

@@ -16,8 +16,8 @@ Fills before after upcoming left bytes (Err _) = (after ≡ before + 1) × (left
 
 -- ---- a `TapeSource`
 
-abbrev pub left_in : TapeSource → List ℕ
-left_in source = source.bytes.now
+abbrev pub tape_rest_of : TapeSource → List ℕ
+tape_rest_of source = source.bytes.now
 
 abbrev pub tape_failures_of : TapeSource → ℕ
 tape_failures_of source = source.failures

@@ -27,11 +27,11 @@ use Rattle.sign_core.specs.declared.fault.SignFault.TheVariants.{Changed, Exhaus
 use Rattle.sign_core.specs.declared.fault.SignFault.TheVariants.{StoreFailed}
 use Rattle.sign_core.specs.declared.fault.SignFault.TheVariants.{Stopped, MessageRead, Damaged, OutOfMemory, LedgerFull}
 use Rattle.sign_core.specs.declared.fault.SignFault.TheVariants.{Moved, RetireRange, LongName, NoKey, Illegal, KeyThere}
-use Rattle.sign_core.specs.Records.{are_same, binding_in, can_move, deepest, first_illegal, has_identifier}
+use Rattle.sign_core.specs.Records.{are_same, binding_at, can_move, deepest, first_illegal, has_identifier}
 use Rattle.sign_core.specs.Records.{has_moved}
-use Rattle.sign_core.specs.Records.{is_long, key_in, leaves_of_current, next_at, wanted_count}
-use Rattle.sign_core.specs.Textbook.{Trees, damaged_in, digest_at, lms_secret, public_in, public_of_key, root_by}
-use Rattle.sign_core.specs.Textbook.{secret_at, signature_at, tree_before, trees_of}
+use Rattle.sign_core.specs.Records.{is_long, the_key, leaves_of_current, next_at, wanted_count}
+use Rattle.sign_core.specs.Textbook.{Trees, damaged_at, digest_at, lms_secret, any_public_of, public_of_key, key_root}
+use Rattle.sign_core.specs.Textbook.{secret_at, signature_at, current_at, trees_of}
 
 -- ---- states and outcomes
 
@@ -59,16 +59,16 @@ abbrev pub answered : {A : Type 0} → State → A → Outcome A
 answered state a =
     record { state = state; answer = Ok a; acknowledged = state.records; failed = None; drawn = []; is_read = false }
 
-abbrev pub open_on : List Record → State
-open_on records = record { records = records; is_open = true }
+abbrev pub open_state : List Record → State
+open_state records = record { records = records; is_open = true }
 
-abbrev pub closed_on : List Record → State
-closed_on records = record { records = records; is_open = false }
+abbrev pub closed_state : List Record → State
+closed_state records = record { records = records; is_open = false }
 
 -- The append of a record was cut, and left these records; the signer is closed.
 abbrev pub cut : {A : Type 0} → (acknowledged : List Record) → Record → (left : List Record) → Outcome A
 cut acknowledged entry left =
-    record (refused (closed_on left) StoreFailed) { acknowledged = acknowledged; failed = Some entry }
+    record (refused (closed_state left) StoreFailed) { acknowledged = acknowledged; failed = Some entry }
 
 abbrev pub drawing : {A : Type 0} → List ℕ → Outcome A → Outcome A
 drawing bytes outcome = record outcome { drawn = bytes ++ outcome.drawn }
@@ -130,15 +130,15 @@ refuse_if fault wrong state rest = if wrong then refused state fault else rest t
 abbrev pub answer_if : {B : Type 0} → B → Bool → Step B (Unit {0})
 answer_if answer done state rest = if done then answered state answer else rest tt state
 
-abbrev pub refuse_with : {B : Type 0} → Option SignFault → Step B (Unit {0})
-refuse_with (Some fault) state rest = refused state fault
-refuse_with None state rest = rest tt state
+abbrev pub refuse_any : {B : Type 0} → Option SignFault → Step B (Unit {0})
+refuse_any (Some fault) state rest = refused state fault
+refuse_any None state rest = rest tt state
 
 abbrev pub close : {B : Type 0} → Step B (Unit {0})
-close state rest = rest tt (closed_on state.records)
+close state rest = rest tt (closed_state state.records)
 
 abbrev pub open_signer : {B : Type 0} → Step B (Unit {0})
-open_signer state rest = rest tt (open_on state.records)
+open_signer state rest = rest tt (open_state state.records)
 
 -- Fields are drawn and made into a value; there is none where the source failed.
 abbrev pub draw : {B A : Type 0} → (made : Option A) → (fields : List (List ℕ)) → Step B A
@@ -150,7 +150,7 @@ read (Some message) state rest = reading (rest message state)
 
 -- a record is appended, and the signer is open on the new records
 abbrev pub append : {B : Type 0} → Record → Fate → Step B (Unit {0})
-append entry fate state rest = appended state entry fate (λ records. rest tt (open_on records))
+append entry fate state rest = appended state entry fate (λ records. rest tt (open_state records))
 
 -- ---- create
 
@@ -164,15 +164,15 @@ pub record Creation : Type 0 where
   pub fate : Fate
 
 -- a key's secret: I and SEED, or the three seeds of XMSS, in the order of their draws
-abbrev pub secret_from : Spec → (fields : List (List ℕ)) → Option Secret
-secret_from (LmsSpec pair) (identifier ∷ seed ∷ []) = Some (Lms (lms_secret pair identifier seed))
-secret_from (HssSpec levels) (identifier ∷ seed ∷ []) = Some (Hss levels identifier seed)
-secret_from (XmssSpec tree) (secret_seed ∷ prf_key ∷ public_seed ∷ []) =
+abbrev pub secret_of_fields : Spec → (fields : List (List ℕ)) → Option Secret
+secret_of_fields (LmsSpec pair) (identifier ∷ seed ∷ []) = Some (Lms (lms_secret pair identifier seed))
+secret_of_fields (HssSpec levels) (identifier ∷ seed ∷ []) = Some (Hss levels identifier seed)
+secret_of_fields (XmssSpec tree) (secret_seed ∷ prf_key ∷ public_seed ∷ []) =
     Some (Xmss (record { tree = tree; secret_seed = secret_seed; prf_key = prf_key; public_seed = public_seed }))
-secret_from _ _ = None
+secret_of_fields _ _ = None
 
 abbrev pub new_key : Version → Secret → Key
-new_key version secret = record { version = version; secret = secret; root = root_by secret }
+new_key version secret = record { version = version; secret = secret; root = key_root secret }
 
 -- The public key of record 0 is answered, and the signer is open; where record 0 is no key, the signer is closed.
 abbrev pub publish : Option AnyPublic → Step AnyPublic AnyPublic
@@ -185,14 +185,14 @@ publish public = do
 -- A create: it begins a key where no record stands.
 abbrev pub created : State → Spec → Creation → Outcome AnyPublic
 created state spec chance = event (do
-  refuse_with chance.failed_load
+  refuse_any chance.failed_load
   records ← the_records
   refuse_if KeyThere (nat_le 1 (length records))
-  secret ← draw (secret_from spec chance.fields) chance.fields
+  secret ← draw (secret_of_fields spec chance.fields) chance.fields
   refuse_if OutOfMemory (not chance.has_room)
   key ← give (new_key chance.version secret)
   append (KeyRecord key) chance.fate
-  publish (public_in key)) state
+  publish (any_public_of key)) state
 
 -- ---- open
 
@@ -211,8 +211,8 @@ first_refusal (Some (slot, fault)) (Some k) = Some (if nat_lt k slot then Illega
 abbrev pub opened : State → Opening → Outcome AnyPublic
 opened state chance = event (do
   records ← the_records
-  refuse_with (first_refusal chance (first_illegal records))
-  publish (public_of_key (key_in records))) state
+  refuse_any (first_refusal chance (first_illegal records))
+  publish (public_of_key (the_key records))) state
 
 -- ---- requests
 
@@ -238,7 +238,7 @@ first_draw (draw ∷ draws) = draw
 abbrev pub signing_key : {B : Type 0} → Step B Key
 signing_key = do
   state ← the_state
-  key ← some_or Stopped (key_in state.records)
+  key ← some_or Stopped (the_key state.records)
   refuse_if Stopped (not state.is_open)
   refuse_if Moved (has_moved state.records)
   give key
@@ -251,13 +251,13 @@ repeat key k bound chance = do
   refuse_if Changed (not (are_same (digest_at key records k bound.leaf bound.randomizer message) bound.digest))
   refuse_if OutOfMemory (not chance.has_room)
   bottom ← give (bottom_of key.secret)
-  refuse_with (option_map Damaged (damaged_in key bottom records (tree_before bottom records k)))
+  refuse_any (option_map Damaged (damaged_at key bottom records (current_at bottom records k)))
   give (signature_at key records k bound)
 
 -- a new tree of a level, whose public key a leaf of its parent tree signs
 abbrev pub extend_record : Trees → List Record → (level : ℕ) → LmsSecret → (randomizer : List ℕ) → (leaf : ℕ) → Record
 extend_record trees records level secret randomizer leaf =
-    let parent = secret_at trees records (tree_before (level - 1) records (length records)) in
+    let parent = secret_at trees records (current_at (level - 1) records (length records)) in
     let public = public_of secret in
     ExtendRecord (record {
       level = level;
@@ -298,16 +298,16 @@ begin_trees key (suc below) draws = do
   begin_trees key below (drop 1 draws)
 
 -- C; XMSS draws none, since it makes it from the leaf's number
-abbrev pub randomizer_from : Secret → (fields : List (List ℕ)) → Option (List ℕ)
-randomizer_from (Xmss secret) [] = Some (replicate 32 0)
-randomizer_from (Xmss secret) fields = None
-randomizer_from _ (randomizer ∷ []) = Some randomizer
-randomizer_from _ _ = None
+abbrev pub randomizer_of_fields : Secret → (fields : List (List ℕ)) → Option (List ℕ)
+randomizer_of_fields (Xmss secret) [] = Some (replicate 32 0)
+randomizer_of_fields (Xmss secret) fields = None
+randomizer_of_fields _ (randomizer ∷ []) = Some randomizer
+randomizer_of_fields _ _ = None
 
 abbrev pub bind : Key → (name : List ℕ) → Chance → Step (List ℕ) (List ℕ)
 bind key name chance = do
   old ← the_records
-  randomizer ← draw (randomizer_from key.secret chance.bound.fields) chance.bound.fields
+  randomizer ← draw (randomizer_of_fields key.secret chance.bound.fields) chance.bound.fields
   message ← read chance.given
   leaf ← give (next_at key.secret old (bottom_of key.secret))
   digest ← give (digest_at key old (length old) leaf randomizer message)
@@ -317,28 +317,28 @@ bind key name chance = do
   give (signature_at key records (length old) bound)
 
 -- A new name: new trees for the levels below the deepest one with a free leaf, and then the binding.
-abbrev pub bind_anew : (limit : ℕ) → Key → (name : List ℕ) → Chance → Step (List ℕ) (List ℕ)
-bind_anew limit key name chance = do
+abbrev pub bind_new_name : (limit : ℕ) → Key → (name : List ℕ) → Chance → Step (List ℕ) (List ℕ)
+bind_new_name limit key name chance = do
   refuse_if LongName (is_long key name)
   records ← the_records
   level ← some_or Exhausted (deepest key.secret records)
   refuse_if LedgerFull (nat_lt limit (length records + wanted_count key.secret level))
   refuse_if OutOfMemory (not chance.has_room)
-  refuse_with (option_map Damaged (damaged_in key level records (tree_before level records (length records))))
+  refuse_any (option_map Damaged (damaged_at key level records (current_at level records (length records))))
   open_signer
   begin_trees key (bottom_of key.secret - level) chance.trees
   bind key name chance
 
-abbrev pub sign_as : (limit : ℕ) → Key → (name : List ℕ) → Chance → Option (ℕ × Bound) → Step (List ℕ) (List ℕ)
-sign_as limit key name chance (Some (k, bound)) = repeat key k bound chance
-sign_as limit key name chance None = bind_anew limit key name chance
+abbrev pub repeat_or_bind : (limit : ℕ) → Key → (name : List ℕ) → Chance → Option (ℕ × Bound) → Step (List ℕ) (List ℕ)
+repeat_or_bind limit key name chance (Some (k, bound)) = repeat key k bound chance
+repeat_or_bind limit key name chance None = bind_new_name limit key name chance
 
 -- A request to sign a message under a name.
 abbrev pub requested : (limit : ℕ) → State → (name : List ℕ) → Chance → Outcome (List ℕ)
 requested limit state name chance = event (do
   key ← signing_key
   records ← the_records
-  sign_as limit key name chance (binding_in records name)) state
+  repeat_or_bind limit key name chance (binding_at records name)) state
 
 -- ---- retire
 
@@ -365,7 +365,7 @@ pub record World : Type 0 where
   pub handed : List Handed
 
 abbrev pub beginning : World
-beginning = record { state = closed_on []; handed = [] }
+beginning = record { state = closed_state []; handed = [] }
 
 -- What becomes of a migration: the records stay; a Moved follows them; or, where it is Ok, they are carried over
 -- without it, in version 2.
@@ -374,16 +374,16 @@ pub data Migration : Type 0 where
   sealed : Migration
   carried_over : Migration
 
-abbrev pub migrated_to : List Record → Migration → List Record
-migrated_to records left_alone = records
-migrated_to records sealed = with_moved records
-migrated_to records carried_over = carried records
+abbrev pub migrated_list : List Record → Migration → List Record
+migrated_list records left_alone = records
+migrated_list records sealed = with_moved records
+migrated_list records carried_over = carried records
 
 -- A migration of records of version 1, while no signer is open. Else nothing changes.
 abbrev pub migrated : State → Migration → State
 migrated state fate =
-    let can = option_map_or (λ key. can_move key.version) (key_in state.records) false in
-    if can && not state.is_open then closed_on (migrated_to state.records fate) else state
+    let can = option_map_or (λ key. can_move key.version) (the_key state.records) false in
+    if can && not state.is_open then closed_state (migrated_list state.records fate) else state
 
 pub data Event : Type 0 where
   create : Spec → Creation → Event
@@ -393,9 +393,9 @@ pub data Event : Type 0 where
   migrate : Migration → Event
   stop : Event
 
-abbrev pub handed_with : (name : List ℕ) → (given : Option (List ℕ)) → Result (List ℕ) SignFault → List Handed
-handed_with name (Some message) (Ok signature) = record { name = name; message = message; signature = signature } ∷ []
-handed_with name _ _ = []
+abbrev pub newly_handed : (name : List ℕ) → (given : Option (List ℕ)) → Result (List ℕ) SignFault → List Handed
+newly_handed name (Some message) (Ok signature) = record { name = name; message = message; signature = signature } ∷ []
+newly_handed name _ _ = []
 
 -- an event in a world whose store takes `limit` records
 abbrev pub after : (limit : ℕ) → World → Event → World
@@ -403,10 +403,10 @@ after limit world (create spec chance) = record world { state = (created world.s
 after limit world (reopen chance) = record world { state = (opened world.state chance).state }
 after limit world (request name chance) =
     let outcome = requested limit world.state name chance in
-    record { state = outcome.state; handed = world.handed ++ handed_with name chance.given outcome.answer }
+    record { state = outcome.state; handed = world.handed ++ newly_handed name chance.given outcome.answer }
 after limit world (retire upto fate) = record world { state = (retired limit world.state upto fate).state }
 after limit world (migrate fate) = record world { state = migrated world.state fate }
-after limit world stop = record world { state = closed_on world.state.records }
+after limit world stop = record world { state = closed_state world.state.records }
 
 abbrev pub run : (limit : ℕ) → World → List Event → World
 run limit world [] = world

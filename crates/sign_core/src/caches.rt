@@ -8,7 +8,7 @@ ghost use Rattle.state_file.specs.declared.record.Record.{Record as R};
 ghost use Rattle.state_file.specs.declared.record.Key.{Key as K};
 ghost use Rattle.state_file.specs.declared.record.Record.TheVariants.{Key as KeyRecord};
 ghost use Rattle.sign_core.specs.Signing.{IsXmssKey};
-ghost use Rattle.sign_core.specs.Textbook.{damaged_in};
+ghost use Rattle.sign_core.specs.Textbook.{damaged_at};
 
 use crate::fault::SignFault;
 use crate::progress::{TreeLeaves, TreeProgress};
@@ -62,7 +62,7 @@ impl<X: TreeSecret> Model for TreeCache<X> {
 
     ghost view = { λ s. s.secret };
 
-    ghost invariant = { λ s. IsTreeCache (X.height_in s.secret) (X.leaves_in s.secret) (X.joins_in s.secret)
+    ghost invariant = { λ s. IsTreeCache (X.height_in s.secret) (X.tree_leaves_at s.secret) (X.joins_in s.secret)
         s.cache.height (X.Tree.leaf_of s.cache.tree) (X.Tree.join_of s.cache.tree) };
 }
 
@@ -113,10 +113,10 @@ impl<X: TreeSecret, P: TreeProgress> TreeRequest<'_, X, P> {
         requires inside { self.leaf < 2 ^ X.height_in self.secret }
         requires room { length into.old ≡ X.height_in self.secret }
         ensures path { let secret = self.entry.secret in
-            into.new ≡ path_of (X.leaves_in secret) (X.joins_in secret) (X.height_in secret) self.entry.leaf }
+            into.new ≡ path_of (X.tree_leaves_at secret) (X.joins_in secret) (X.height_in secret) self.entry.leaf }
         ensures length { length into.new ≡ X.height_in self.entry.secret }
         ensures root { let secret = self.entry.secret in
-            result ≡ root_of (X.leaves_in secret) (X.joins_in secret) (X.height_in secret) }
+            result ≡ root_of (X.tree_leaves_at secret) (X.joins_in secret) (X.height_in secret) }
         ensures same { kept.new ≡ kept.old }
     {
         if let Some(cache) = kept {
@@ -152,8 +152,8 @@ impl Model for Caches {
 impl Caches {
     ghost use Rattle.sign_core.specs.Caches.{HasLevel, cache_at};
     ghost use Rattle.sign_core.specs.inner.Links.{IsMade};
-    ghost use Rattle.lms.specs.Secret.{root_in as lms_root_in};
-    ghost use Rattle.xmss.specs.Secret.{path_in as xmss_path_in};
+    ghost use Rattle.lms.specs.Secret.{root_of_secret as lms_root_of};
+    ghost use Rattle.xmss.specs.Secret.{leaf_path as xmss_leaf_path};
 
     /// No cache for any level.
     pub(crate) fn new(alloc: Global) -> Self
@@ -191,7 +191,7 @@ impl Caches {
         requires { asked.level < 8 }
         ensures fault { IfErr result (λ fault. fault ≡ SignFault.OutOfMemory) }
         ensures stays { OnErr result (self.new ≡ self.old) }
-        ensures root { IfOk result (λ root. root ≡ lms_root_in asked.entry.secret) }
+        ensures root { IfOk result (λ root. root ≡ lms_root_of asked.entry.secret) }
     {
         let level = usize::from(asked.level);
         let cache = TreeCache::new(self.alloc, asked)?;
@@ -263,12 +263,12 @@ impl Caches {
     ) -> Result<(), u32>
         requires inside { asked.leaf < 2 ^ xmss_height_of asked.secret.tree }
         requires room { length into.old ≡ xmss_height_of asked.secret.tree }
-        ensures path { into.new ≡ xmss_path_in asked.entry.secret asked.entry.leaf }
+        ensures path { into.new ≡ xmss_leaf_path asked.entry.secret asked.entry.leaf }
         ensures length { length into.new ≡ xmss_height_of asked.entry.secret.tree }
         ensures sound { (key : K) (rest : List R) → IsXmssKey asked.entry.secret key → key.root ≡ root.now
-            → OnOk result (damaged_in key 0 (KeyRecord key ∷ rest) 0 ≡ None) }
+            → OnOk result (damaged_at key 0 (KeyRecord key ∷ rest) 0 ≡ None) }
         ensures damaged { (key : K) (rest : List R) → IsXmssKey asked.entry.secret key → key.root ≡ root.now
-            → IfErr result (λ place. damaged_in key 0 (KeyRecord key ∷ rest) 0 ≡ Some place) }
+            → IfErr result (λ place. damaged_at key 0 (KeyRecord key ∷ rest) 0 ≡ Some place) }
         ensures same { self.new ≡ self.old }
     {
         let made = asked.root_and_path(&mut self.xmss, into);

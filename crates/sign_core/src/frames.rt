@@ -1,7 +1,7 @@
 //! Frames of requests, read from an input: the head before a message.
 
 ghost use Rattle.std.specs.Prelude.{◌<◌};
-ghost use Rattle.sign_core.specs.inner.Frames.{FillsBuffer, ReadsField, ReadsHead, bytes_of, said_by};
+ghost use Rattle.sign_core.specs.inner.Frames.{FillsBuffer, ReadsField, ReadsHead, bytes_of, head_fields};
 ghost use Rattle.sign_core.specs.Frames.{after_size};
 ghost use Rattle.typecodes.specs.Fields.{block};
 
@@ -42,7 +42,7 @@ fn read_name<I: Message>(input: &mut I, size: u8) -> Result<ArrayVec<u8, 255>, S
 
 // Reads the rest of a head, after the size of the name.
 fn read_after<I: Message>(input: &mut I, size: u8) -> Result<Head, ServeFault>
-    ensures { ReadsField I.Message (after_size size) said_by input.old input.new result }
+    ensures { ReadsField I.Message (after_size size) head_fields input.old input.new result }
 {
     let name = read_name(input, size)?;
     let mut bytes = [0; 4];

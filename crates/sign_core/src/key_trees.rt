@@ -7,7 +7,7 @@ ghost use Rattle.arrayvec.specs.ArrayVec.{array_vec_len};
 ghost use Rattle.typecodes.specs.Types.{height_of};
 ghost use Rattle.state_file.specs.Laws.{levels_of};
 ghost use Rattle.sign_core.specs.Records.{free_at};
-ghost use Rattle.sign_core.specs.Textbook.{damaged_in, tree_before};
+ghost use Rattle.sign_core.specs.Textbook.{damaged_at, current_at};
 
 use crate::caches::{Caches, TreeRequest};
 use crate::fault::SignFault;
@@ -72,10 +72,10 @@ impl SecretTrees {
         requires level { level < levels_of ledger.now.key.secret }
         requires few { level < 8 }
         requires free { 0 < free_at ledger.now.key.secret ledger.now.records level }
-        ensures sound { OnOk result (damaged_in ledger.now.key level ledger.now.records
-            (tree_before level ledger.now.records (length ledger.now.records)) ≡ None) }
-        ensures damaged { IfErr result (λ k. damaged_in ledger.now.key level ledger.now.records
-            (tree_before level ledger.now.records (length ledger.now.records)) ≡ Some k) }
+        ensures sound { OnOk result (damaged_at ledger.now.key level ledger.now.records
+            (current_at level ledger.now.records (length ledger.now.records)) ≡ None) }
+        ensures damaged { IfErr result (λ k. damaged_at ledger.now.key level ledger.now.records
+            (current_at level ledger.now.records (length ledger.now.records)) ≡ Some k) }
         ensures caches { caches.new ≡ caches.old }
     {
         let key = ledger.key();
@@ -101,14 +101,14 @@ impl SecretTrees {
 
 impl KeyTrees {
     ghost use Rattle.state_file.specs.Laws.{IsLegal};
-    ghost use Rattle.sign_core.specs.Records.{key_in};
+    ghost use Rattle.sign_core.specs.Records.{the_key};
     ghost use Rattle.sign_core.specs.inner.Links.{AreMade, AreTreesOf, IsMade, IsTreeAt, IsTreeBy, signings_of};
-    ghost use Rattle.sign_core.specs.inner.Links.{trees_in};
-    ghost use Rattle.sign_core.specs.Textbook.{damaged_in, is_sound_at, secret_at, signings_above};
+    ghost use Rattle.sign_core.specs.inner.Links.{chain_trees};
+    ghost use Rattle.sign_core.specs.Textbook.{damaged_at, is_sound_at, secret_at, chain_signings};
 
     /// The types of a level's trees; the top tree's, where there is no such level.
     pub(crate) fn pair(&self, level: u8) -> LmsPair
-        ensures { result ≡ slice_index_or (trees_in self.now).pairs level (trees_in self.now).top.pair }
+        ensures { result ≡ slice_index_or (chain_trees self.now).pairs level (chain_trees self.now).top.pair }
     {
         let pairs = self.levels.as_slice();
         *pairs.get(usize::from(level)).unwrap_or(&self.top.pair)
@@ -116,7 +116,7 @@ impl KeyTrees {
 
     /// The secret of the tree at a place; the top tree's, where no Extend stands.
     pub(crate) fn secret_at(&self, ledger: &Ledger, place: u32) -> LmsSecret
-        ensures { result ≡ secret_at (trees_in self.now) ledger.now.records place }
+        ensures { result ≡ secret_at (chain_trees self.now) ledger.now.records place }
     {
         let Some(Made { extend, .. }) = ledger.made(place) else {
             return self.top;
@@ -128,7 +128,7 @@ impl KeyTrees {
     fn is_sound(&self, ledger: &Ledger, level: u8, place: u32, tree: &SigningTree) -> bool
         requires trees { AreTreesOf self.now ledger.now.key }
         requires stands { IsTreeAt ledger.now.records level place }
-        requires secret { tree.now.secret ≡ secret_at (trees_in self.now) ledger.now.records place }
+        requires secret { tree.now.secret ≡ secret_at (chain_trees self.now) ledger.now.records place }
         requires made { IsMade tree.now }
         ensures { result ≡ is_sound_at ledger.now.key ledger.now.records place }
     {
@@ -155,19 +155,19 @@ impl KeyTrees {
         progress: &P,
     ) -> Result<SigningTree, u32>
         requires legal { IsLegal ledger.now.records }
-        requires keyed { key_in ledger.now.records ≡ Some ledger.now.key }
+        requires keyed { the_key ledger.now.records ≡ Some ledger.now.key }
         requires trees { AreTreesOf self.now ledger.now.key }
         requires stands { IsTreeAt ledger.now.records level place }
-        requires inside { let secret = secret_at (trees_in self.now) ledger.now.records place in
+        requires inside { let secret = secret_at (chain_trees self.now) ledger.now.records place in
             leaf < 2 ^ height_of secret.pair.tree }
         requires room { array_vec_len above.old + level < 8 }
-        ensures sound { OnOk result (damaged_in ledger.now.key level ledger.now.records place ≡ None) }
-        ensures damaged { IfErr result (λ k. damaged_in ledger.now.key level ledger.now.records place ≡ Some k) }
+        ensures sound { OnOk result (damaged_at ledger.now.key level ledger.now.records place ≡ None) }
+        ensures damaged { IfErr result (λ k. damaged_at ledger.now.key level ledger.now.records place ≡ Some k) }
         ensures signings { OnOk result (signings_of above.new.items ≡ signings_of above.old.items
-            ++ signings_above (trees_in self.now) level ledger.now.records place) }
+            ++ chain_signings (chain_trees self.now) level ledger.now.records place) }
         ensures len { OnOk result (array_vec_len above.new ≡ array_vec_len above.old + level) }
         ensures made { AreMade above.old.items → OnOk result (AreMade above.new.items) }
-        ensures tree { IfOk result (IsTreeBy (secret_at (trees_in self.now) ledger.now.records place) leaf) }
+        ensures tree { IfOk result (IsTreeBy (secret_at (chain_trees self.now) ledger.now.records place) leaf) }
         ensures caches { caches.new ≡ caches.old }
     {
         if let Some(made) = ledger.made(place) {

@@ -10,8 +10,8 @@ ghost use Rattle.state_file.specs.declared.record.Record.TheVariants.{Bound as B
 ghost use Rattle.state_file.specs.declared.record.Secret.{Secret};
 ghost use Rattle.state_file.specs.Laws.{IsCurrent, IsLegal, bottom_of, identifier_of, levels_of};
 ghost use Rattle.sign_core.specs.declared.key.AnyPublic.{AnyPublic};
-ghost use Rattle.sign_core.specs.Records.{IsNext, binding_in, current, deepest, first_illegal, free_at};
-ghost use Rattle.sign_core.specs.Records.{has_identifier, key_in, next_in};
+ghost use Rattle.sign_core.specs.Records.{IsNext, binding_at, current, deepest, first_illegal, free_at};
+ghost use Rattle.sign_core.specs.Records.{has_identifier, the_key, next_leaf};
 ghost use Rattle.sign_core.specs.Cuts.{CutLaw, StopLaw};
 ghost use Rattle.sign_core.specs.Headline.{HeadlineLaw, IsBoundTo, IsValidUnder};
 ghost use Rattle.sign_core.specs.Key.{KeyVerdict};
@@ -25,7 +25,7 @@ ghost use Rattle.sign_core.specs.Moves.{MovesLaw};
 ghost use Rattle.sign_core.specs.Opened.{OpenedLaw};
 ghost use Rattle.sign_core.specs.RefusalOrder.{RefusalLaw};
 ghost use Rattle.sign_core.specs.SignerCalls.{SignerLaw};
-ghost use Rattle.sign_core.specs.Textbook.{AllHaveSizes, AreSound, damaged_in, public_in, signature_at, tree_before};
+ghost use Rattle.sign_core.specs.Textbook.{AllHaveSizes, AreSound, damaged_at, any_public_of, signature_at, current_at};
 
 use crate::source::Source;
 use state_file::{Disk, FileStore, Store};
@@ -44,7 +44,7 @@ pub fn ledger_laws()
     ensures current { (records : List Record) (level tree : ℕ) →
         (current level records ≡ Some tree) ↔ IsCurrent records (length records) level tree }
     ensures next { (secret : Secret) (records : List Record) (tree : ℕ) →
-        IsNext secret records tree (next_in secret records tree) }
+        IsNext secret records tree (next_leaf secret records tree) }
     ensures legal { (records : List Record) → 0 < length records →
         (first_illegal records ≡ None) ↔ IsLegal records }
     ensures first { (records : List Record) (k : ℕ) → first_illegal records ≡ Some k →
@@ -55,10 +55,10 @@ pub fn ledger_laws()
     ensures exhausted { (secret : Secret) (records : List Record) → deepest secret records ≡ None →
         (level : ℕ) → level < levels_of secret → free_at secret records level ≡ 0 }
     ensures bound { (records : List Record) (name : List ℕ) (k : ℕ) (bound : Bound) →
-        binding_in records name ≡ Some (k, bound) →
+        binding_at records name ≡ Some (k, bound) →
         (slice_get records k ≡ Some (BoundRecord bound)) × (bound.name ≡ name) }
     ensures unbound { (records : List Record) (name : List ℕ) (k : ℕ) (bound : Bound) →
-        binding_in records name ≡ None → slice_get records k ≡ Some (BoundRecord bound) → bound.name ≢ name }
+        binding_at records name ≡ None → slice_get records k ≡ Some (BoundRecord bound) → bound.name ≢ name }
     ensures identifier { (records : List Record) (identifier : List ℕ) →
         (has_identifier records identifier ≡ true)
         ↔ ((k : ℕ) × (entry : Record) × (slice_get records k ≡ Some entry) × (identifier_of entry ≡ Some identifier)) }
@@ -74,13 +74,13 @@ pub fn textbook_laws()
     ensures valid { (records : List Record) (key : Key) (name message : List ℕ) (k : ℕ) (bound : Bound)
         (public : AnyPublic) →
         AreSound records → AllHaveSizes records → IsBoundTo records key name message k bound →
-        public_in key ≡ Some public → IsValidUnder public message (signature_at key records k bound) }
+        any_public_of key ≡ Some public → IsValidUnder public message (signature_at key records k bound) }
     ensures checked { (records : List Record) (key : Key) (name message : List ℕ) (k : ℕ) (bound : Bound)
         (public : AnyPublic) → IsLegal records → AllHaveSizes records → IsBoundTo records key name message k bound →
-        damaged_in key (bottom_of key.secret) records (tree_before (bottom_of key.secret) records k) ≡ None →
-        public_in key ≡ Some public → IsValidUnder public message (signature_at key records k bound) }
+        damaged_at key (bottom_of key.secret) records (current_at (bottom_of key.secret) records k) ≡ None →
+        any_public_of key ≡ Some public → IsValidUnder public message (signature_at key records k bound) }
     ensures undamaged { (records : List Record) (key : Key) (level tree : ℕ) → AreSound records →
-        key_in records ≡ Some key → damaged_in key level records tree ≡ None }
+        the_key records ≡ Some key → damaged_at key level records tree ≡ None }
     ensures accepted { (public : AnyPublic) (message bytes : List ℕ) →
         IsValidUnder public message bytes ↔ KeyVerdict public message bytes (Ok (tt {0})) }
 {}

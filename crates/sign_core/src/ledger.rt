@@ -3,7 +3,7 @@
 ghost use Rattle.std.specs.Prelude.{◌≡◌, ◌<◌, ◌≤◌, ◌+◌, ◌-◌, ◌∷◌, [], Some, None, true, length};
 ghost use Rattle.std.specs.Prelude.{OnOk, OnErr, IfOk, IfErr};
 ghost use Rattle.sign_core.specs.Records.{can_follow, deepest, free_at};
-ghost use Rattle.sign_core.specs.Records.{has_identifier, has_moved, is_free, key_in};
+ghost use Rattle.sign_core.specs.Records.{has_identifier, has_moved, is_free, the_key};
 ghost use Rattle.sign_core.specs.Ledger.{TakesMemory};
 
 use crate::key::AnyPublic;
@@ -156,7 +156,7 @@ impl Ledger {
     ///   record was reached.
     pub fn replay(alloc: Global, records: &[Record]) -> Result<Self, LedgerFault>
         ensures records { IfOk result (λ ledger. ledger.records ≡ records.now) }
-        ensures key { IfOk result (λ ledger. key_in records.now ≡ Some ledger.key) }
+        ensures key { IfOk result (λ ledger. the_key records.now ≡ Some ledger.key) }
         ensures legal { OnOk result (IsLegal records.now) }
         ensures refused { IfErr result (IsRefused records.now) }
     {
@@ -173,7 +173,7 @@ impl Ledger {
 
     pub(crate) fn key(&self) -> &Key
         ensures key { result.now ≡ self.now.key }
-        ensures first { key_in self.now.records ≡ Some result.now }
+        ensures first { the_key self.now.records ≡ Some result.now }
         ensures legal { IsLegal self.now.records }
         ensures sizes { AllHaveSizes self.now.records }
     {
@@ -182,7 +182,7 @@ impl Ledger {
 
     /// The public key of record 0. It takes no memory.
     pub fn public_key(&self) -> AnyPublic
-        ensures { public_of_key (key_in self.now.records) ≡ Some result }
+        ensures { public_of_key (the_key self.now.records) ≡ Some result }
     {
         let root = self.key.root;
         match &self.key.secret {
@@ -254,7 +254,7 @@ impl Ledger {
     /// The number of free leaves in each level's current tree, from the top down; 0 for a level without one. It takes
     /// no memory.
     pub fn left(&self) -> ArrayVec<u32, 8>
-        ensures { (key : K) → key_in self.now.records ≡ Some key →
+        ensures { (key : K) → the_key self.now.records ≡ Some key →
             result.items ≡ free_counts key.secret self.now.records }
     {
         let mut counts = ArrayVec::new();

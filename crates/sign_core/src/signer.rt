@@ -7,7 +7,7 @@ ghost use Rattle.state_file.specs.Store.{CanFollow};
 ghost use Rattle.sign_core.specs.inner.Signer.{DrawsSecret, Hinders, IsAppended, IsTakenUp};
 ghost use Rattle.sign_core.specs.Signer.{IsTied, LoadsAll, MakesKey};
 ghost use Rattle.sign_core.specs.inner.Signer.{LoadsRecord, LooksForKey, TakesUpLoaded};
-ghost use Rattle.sign_core.specs.Textbook.{HasSizes, root_by};
+ghost use Rattle.sign_core.specs.Textbook.{HasSizes, key_root};
 ghost use Rattle.typecodes.specs.Spec.{IsSpec};
 
 mod bind;
@@ -42,7 +42,7 @@ pub struct Signer<S: Store, R: Source> {
 
 impl<S: Store, R: Source> Model for Signer<S, R> {
     ghost use Rattle.std.specs.Prelude.{◌≡◌, Some};
-    ghost use Rattle.sign_core.specs.Records.{key_in};
+    ghost use Rattle.sign_core.specs.Records.{the_key};
     ghost use Rattle.sign_core.specs.Signer.{IsSigner, View, view_of};
 
     ghost Value = { View S R };
@@ -50,7 +50,7 @@ impl<S: Store, R: Source> Model for Signer<S, R> {
     ghost view = { λ s. view_of s.store s.random s.ledger s.caches s.is_open };
 
     ghost invariant = { λ s. IsSigner S.Store (view_of s.store s.random s.ledger s.caches s.is_open)
-        × (key_in s.ledger.records ≡ Some s.ledger.key) };
+        × (the_key s.ledger.records ≡ Some s.ledger.key) };
 }
 
 // Appends a record: 29 where memory is refused, else 25.
@@ -101,7 +101,7 @@ fn draw_secret<R: Source>(spec: &Spec, random: &mut R) -> Result<Secret, SignFau
 
 // The root of a key's top tree.
 fn root_of<P: TreeProgress>(secret: &Secret, progress: &P) -> [u8; 32]
-    ensures { result ≡ root_by secret.now }
+    ensures { result ≡ key_root secret.now }
 {
     match SecretTrees::of(secret) {
         SecretTrees::Chain(KeyTrees { top, .. }) => top_root(top, progress),
@@ -111,7 +111,7 @@ fn root_of<P: TreeProgress>(secret: &Secret, progress: &P) -> [u8; 32]
 
 // The root of a secret's tree, of which `progress` is told as a top tree.
 fn top_root<X: TreeSecret, P: TreeProgress>(secret: X, progress: &P) -> [u8; 32]
-    ensures { result ≡ tree_root (X.leaves_in secret) (X.joins_in secret) (X.height_in secret) }
+    ensures { result ≡ tree_root (X.tree_leaves_at secret) (X.joins_in secret) (X.height_in secret) }
 {
     let height = secret.height();
     let leaves = TreeLeaves::begin(progress, 0, height);
@@ -188,13 +188,13 @@ fn load_all<S: Store>(alloc: Global, store: &mut S) -> Result<Ledger, SignFault>
 }
 
 impl<S: Store, R: Source> Signer<S, R> {
-    ghost use Rattle.sign_core.specs.Records.{can_follow, free_counts, has_moved, key_in};
+    ghost use Rattle.sign_core.specs.Records.{can_follow, free_counts, has_moved, the_key};
     ghost use Rattle.state_file.specs.declared.record.Key.{Key as K};
     ghost use Rattle.sign_core.specs.Textbook.{public_of_key};
     ghost use Rattle.sign_core.specs.inner.Signer.{Adds, Holds, IsBottom};
     ghost use Rattle.sign_core.specs.Signer.{Creates, Opens, Retires};
     ghost use Rattle.sign_core.specs.Ledger.{TakesMemory};
-    ghost use Rattle.state_file.specs.Slot.{FitsVersion, version_in};
+    ghost use Rattle.state_file.specs.Slot.{FitsVersion, file_version};
     ghost use Rattle.state_file.specs.declared.record.Version.TheVariants.{One};
 
     /// Makes a key of version 1 in a store that has none, and its signer, as `create_telling`. The store must take at
@@ -274,7 +274,7 @@ impl<S: Store, R: Source> Signer<S, R> {
 
     /// The public key of record 0. It takes no memory.
     pub fn public_key(&self) -> AnyPublic
-        ensures { public_of_key (key_in self.now.records) ≡ Some result }
+        ensures { public_of_key (the_key self.now.records) ≡ Some result }
     {
         self.ledger.public_key()
     }
@@ -282,7 +282,7 @@ impl<S: Store, R: Source> Signer<S, R> {
     /// The number of free leaves in each level's current tree, from the top down; 0 for a level without one. It takes
     /// no memory.
     pub fn left(&self) -> ArrayVec<u32, 8>
-        ensures { (key : K) → key_in self.now.records ≡ Some key →
+        ensures { (key : K) → the_key self.now.records ≡ Some key →
             result.items ≡ free_counts key.secret self.now.records }
     {
         self.ledger.left()
@@ -305,8 +305,8 @@ impl<S: Store, R: Source> Signer<S, R> {
 
     fn add(&mut self, entry: Record) -> Result<(), SignFault>
         requires open { self.old.is_open ≡ true }
-        requires follows { can_follow (key_in self.old.records) self.old.records entry ≡ true }
-        requires fits { FitsVersion (version_in self.old.records) entry }
+        requires follows { can_follow (the_key self.old.records) self.old.records entry ≡ true }
+        requires fits { FitsVersion (file_version self.old.records) entry }
         requires sizes { HasSizes entry }
         requires few { length self.old.records < S.most self.old.store }
         requires counted { length self.old.records < 2 ^ 32 - 1 }

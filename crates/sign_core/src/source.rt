@@ -60,11 +60,11 @@ pub struct TapeSource<'a> {
 }
 
 impl<'a> TapeSource<'a> {
-    ghost use Rattle.sign_core.specs.Source.{tape_failures_of, left_in};
+    ghost use Rattle.sign_core.specs.Source.{tape_failures_of, tape_rest_of};
 
     /// The source of these bytes.
     pub fn new(bytes: &'a [u8]) -> Self
-        ensures bytes { left_in result ≡ bytes.entry.now }
+        ensures bytes { tape_rest_of result ≡ bytes.entry.now }
         ensures failures { tape_failures_of result ≡ 0 }
     {
         TapeSource {
@@ -75,17 +75,17 @@ impl<'a> TapeSource<'a> {
 }
 
 impl Source for TapeSource<'_> {
-    ghost use Rattle.sign_core.specs.Source.{tape_failures_of, left_in};
+    ghost use Rattle.sign_core.specs.Source.{tape_failures_of, tape_rest_of};
 
     ghost failures = { tape_failures_of };
 
-    ghost upcoming = { λ source. Some (left_in source) };
+    ghost upcoming = { λ source. Some (tape_rest_of source) };
 
     /// Fills `into` with the next bytes; answers 23 if fewer are left.
     fn fill(&mut self, into: &mut [u8]) -> Result<(), SourceFault>
         ensures gives { Fills (tape_failures_of self.old) (tape_failures_of self.new)
-            (Some (left_in self.old)) (Some (left_in self.new)) into.new result }
-        ensures refuses { IsErr result ↔ length (left_in self.old) < length into.old }
+            (Some (tape_rest_of self.old)) (Some (tape_rest_of self.new)) into.new result }
+        ensures refuses { IsErr result ↔ length (tape_rest_of self.old) < length into.old }
     {
         if self.bytes.len() < into.len() {
             self.failures.add_one();

@@ -16,7 +16,7 @@ pub(crate) trait TreeSecret: Copy {
     // the tree's height, leaves and joins
     ghost height_in: { Self → ℕ };
 
-    ghost leaves_in: { Self → Leaves };
+    ghost tree_leaves_at: { Self → Leaves };
 
     ghost joins_in: { Self → Joins };
 
@@ -27,7 +27,7 @@ pub(crate) trait TreeSecret: Copy {
 
     /// The tree, with no leaf made yet.
     fn tree(self) -> Self::Tree
-        ensures leaves { Self.Tree.leaf_of result ≡ leaves_in self }
+        ensures leaves { Self.Tree.leaf_of result ≡ tree_leaves_at self }
         ensures joins { Self.Tree.join_of result ≡ joins_in self }
         ensures fresh { Self.Tree.made result ≡ 0 };
 
@@ -44,7 +44,7 @@ impl TreeSecret for LmsSecret {
 
     ghost height_in = { λ secret. height_of secret.pair.tree };
 
-    ghost leaves_in = { leaves_of };
+    ghost tree_leaves_at = { leaves_of };
 
     ghost joins_in = { joins_of };
 
@@ -69,7 +69,7 @@ impl TreeSecret for XmssSecret {
 
     ghost height_in = { λ secret. xmss_height_of secret.tree };
 
-    ghost leaves_in = { leaves_of };
+    ghost tree_leaves_at = { leaves_of };
 
     ghost joins_in = { joins_of };
 

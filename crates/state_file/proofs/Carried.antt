@@ -6,7 +6,7 @@ use Rattle.std.proofs.lemmas.List.{get_or-take, length-map, take_more}
 use Rattle.std.proofs.lemmas.Option.{slice_get-get_or, slice_get-map, slice_get_within, get_or_from_slice_get}
 use Rattle.state_file.specs.Carried.{carried, in_version, unmoved}
 use Rattle.state_file.specs.Laws.{has_moved}
-use Rattle.state_file.specs.Slot.{version_in}
+use Rattle.state_file.specs.Slot.{file_version}
 use Rattle.state_file.specs.Filling.{LoadsCarried}
 use Rattle.state_file.specs.Store.{IsRecordAt, Loads, begins_with_key}
 use Rattle.state_file.specs.declared.record.Key.{Key}
@@ -64,15 +64,15 @@ carried_list (BoundRecord bound ∷ more) moved keyed = absurd (let is : false �
 carried_list (Retire upto ∷ more) moved keyed = absurd (let is : false ≡ true = keyed in cc)
 carried_list (Moved ∷ more) moved keyed = absurd (let is : false ≡ true = keyed in cc)
 
-front_begins : (list : List Record) (n : ℕ) → IsCarriedList list → (version_in (take (suc n) list) ≡ Two) × (begins_with_key (take (suc n) list) ≡ true)
-front_begins list n carries = subst (λ (l : List Record). (version_in (take (suc n) l) ≡ Two) × (begins_with_key (take (suc n) l) ≡ true)) (sym carries.is) (carries.two, refl)
+front_begins : (list : List Record) (n : ℕ) → IsCarriedList list → (file_version (take (suc n) list) ≡ Two) × (begins_with_key (take (suc n) list) ≡ true)
+front_begins list n carries = subst (λ (l : List Record). (file_version (take (suc n) l) ≡ Two) × (begins_with_key (take (suc n) l) ≡ true)) (sym carries.is) (carries.two, refl)
 
 pub front_more : (list : List Record) (k : ℕ) (entry : Record) → slice_get list k ≡ Some entry → take (k + 1) list ≡ take k list ++ entry ∷ []
 front_more list k entry is = take_more list k entry (slice_get_within list k entry is) ∙ ap (λ (e : Record). take k list ++ e ∷ []) (get_or_from_slice_get list k entry entry is)
 
-pub front_version : (list : List Record) (k : ℕ) (entry : Record) → IsCarriedList list → slice_get list k ≡ Some entry → version_in (take k list ++ entry ∷ []) ≡ Two
+pub front_version : (list : List Record) (k : ℕ) (entry : Record) → IsCarriedList list → slice_get list k ≡ Some entry → file_version (take k list ++ entry ∷ []) ≡ Two
 front_version list k entry carries is =
-    ap version_in (sym (front_more list k entry is) ∙ ap (λ n. take n list) (add-one k)) ∙ (front_begins list k carries).0
+    ap file_version (sym (front_more list k entry is) ∙ ap (λ n. take n list) (add-one k)) ∙ (front_begins list k carries).0
 
 pub front_keyed : (list : List Record) (k : ℕ) (entry : Record) → IsCarriedList list → slice_get list k ≡ Some entry → begins_with_key (take k list ++ entry ∷ []) ≡ true
 front_keyed list k entry carries is =

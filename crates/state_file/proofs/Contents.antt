@@ -16,7 +16,7 @@ use Rattle.state_file.specs.File.{Begins, HasNoKey, Holds, IsClosed, IsDamagedAt
 use Rattle.state_file.specs.Opening.{ContentKind, OpensAs, damaged, no_key, no_key_file, spelled, unknown_version}
 use Rattle.state_file.specs.FileStore.{not_both}
 use Rattle.state_file.specs.Laws.{CanSign}
-use Rattle.state_file.specs.Slot.{slot_record, version_in}
+use Rattle.state_file.specs.Slot.{slot_record, file_version}
 use Rattle.state_file.specs.Shown.{key-begins, key-first, version_first}
 
 -- ---- slots
@@ -112,7 +112,7 @@ begins-whole version content records k begins below =
 
 -- if the first slot is a Key's, its version is the records'
 begins-version : (version : Version) (content : List ℕ) (records : List Record) (entry : Record) → Begins version content records → begins_key (fields_at content 0) ≡ true → slice_get records 0 ≡ Some entry
-    → (key : Key) × (slice_get records 0 ≡ Some (KeyRecord key)) × (version ≡ version_in records)
+    → (key : Key) × (slice_get records 0 ≡ Some (KeyRecord key)) × (version ≡ file_version records)
 begins-version version content records entry begins key is =
     let spelled = (begins.holds 0 entry is).spelled in
     let (first, same) = key-first version entry (fields_at content 0) spelled key in
@@ -122,7 +122,7 @@ begins-version version content records entry begins key is =
 
 -- if the next gate is closed, these are all records
 pub begins-all : (version : Version) (content : List ℕ) (records : List Record) → Begins version content records → MayHaveKey content → begins_key (fields_at content 0) ≡ true → IsClosed content (length records)
-    → SpellsRecords content records × (version ≡ version_in records)
+    → SpellsRecords content records × (version ≡ file_version records)
 begins-all version content records begins may key closed =
     elim (slice_get_cases records 0).1 [
       | inl (entry, _, is, _) ↦
@@ -141,7 +141,7 @@ begins-all version content records begins may key closed =
           absurd (not_both content 0 may.opened (subst (IsClosed content) none closed))
     ]
 
-pub spelled-begins : (content : List ℕ) (records : List Record) → SpellsRecords content records → Begins (version_in records) content records
+pub spelled-begins : (content : List ℕ) (records : List Record) → SpellsRecords content records → Begins (file_version records) content records
 spelled-begins content records is = record {
   few = is.few;
   ends = closed-reaches content (length records) is.closed;
@@ -214,9 +214,9 @@ spelled-may content records is =
     let some = slice_get_within records 0 (KeyRecord is.first.0) is.first.1 in
     record { long = omega (arith, some, closed-reaches content (length records) is.closed); opened = is.opened 0 some }
 
-spelled-key : (content : List ℕ) (records : List Record) → SpellsRecords content records → (begins_key (fields_at content 0) ≡ true) × (version_of (fields_at content 0) ≡ Some (version_in records))
+spelled-key : (content : List ℕ) (records : List Record) → SpellsRecords content records → (begins_key (fields_at content 0) ≡ true) × (version_of (fields_at content 0) ≡ Some (file_version records))
 spelled-key content records is =
-    let (begins, known, _) = key-begins (version_in records) is.first.0 (fields_at content 0) (is.holds 0 (KeyRecord is.first.0) is.first.1).spelled in (begins, known)
+    let (begins, known, _) = key-begins (file_version records) is.first.0 (fields_at content 0) (is.holds 0 (KeyRecord is.first.0) is.first.1).spelled in (begins, known)
 
 same_version : (content : List ℕ) (a b : Version) → version_of (fields_at content 0) ≡ Some a → version_of (fields_at content 0) ≡ Some b → a ≡ b
 same_version content a b first second = same_Some a b (sym first ∙ second)
@@ -235,18 +235,18 @@ one_length content xs ys first second =
 pub one_list : (content : List ℕ) (xs ys : List Record) → SpellsRecords content xs → SpellsRecords content ys → xs ≡ ys
 one_list content xs ys first second =
     let count = one_length content xs ys first second in
-    let version = same_version content (version_in xs) (version_in ys) (spelled-key content xs first).1 (spelled-key content ys second).1 in
+    let version = same_version content (file_version xs) (file_version ys) (spelled-key content xs first).1 (spelled-key content ys second).1 in
     same_lists xs ys count (λ k d below.
-    one_record_at (version_in ys) content k (get_or xs k d) (get_or ys k d)
+    one_record_at (file_version ys) content k (get_or xs k d) (get_or ys k d)
     (subst (λ v. Holds v content k (get_or xs k d)) version (first.holds k (get_or xs k d) (slice_get-get_or xs k d below)))
     (second.holds k (get_or ys k d) (slice_get-get_or ys k d (omega (arith, below, count)))))
 
 spelled-whole : (content : List ℕ) (records : List Record) (k : ℕ) → SpellsRecords content records → IsDamagedAt content k → ⊥
 spelled-whole content records k is is_damaged =
-    let version = same_version content (version_in records) is_damaged.version (spelled-key content records is).1 is_damaged.known in
+    let version = same_version content (file_version records) is_damaged.version (spelled-key content records is).1 is_damaged.known in
     elim (cases_order k (length records)) [
       | inl same ↦ not_both content k is_damaged.opened (subst (IsClosed content) (sym same) is.closed)
-      | inr (inl below) ↦ is_damaged.damaged (subst (λ v. IsWhole v content k) version (begins-whole (version_in records) content records k (spelled-begins content records is) below))
+      | inr (inl below) ↦ is_damaged.damaged (subst (λ v. IsWhole v content k) version (begins-whole (file_version records) content records k (spelled-begins content records is) below))
       | inr (inr above) ↦ not_both content (length records) (is_damaged.before (length records) above).opened is.closed
     ]
 
@@ -266,7 +266,7 @@ pub one_opening : (content : List ℕ) (opening other : ContentKind) → OpensAs
 one_opening content (spelled xs) (spelled ys) a b = ap spelled (one_list content xs ys a b)
 one_opening content (spelled xs) no_key a b = absurd (no_key_may content b (spelled-may content xs a))
 one_opening content (spelled xs) no_key_file a b = absurd (true≢false (sym (spelled-key content xs a).0 ∙ b.other))
-one_opening content (spelled xs) unknown_version a b = absurd (known_or_not _ (version_in xs) (spelled-key content xs a).1 b.other)
+one_opening content (spelled xs) unknown_version a b = absurd (known_or_not _ (file_version xs) (spelled-key content xs a).1 b.other)
 one_opening content (spelled xs) (damaged k) a b = absurd (spelled-whole content xs k a b)
 one_opening content no_key (spelled ys) a b = absurd (no_key_may content a (spelled-may content ys b))
 one_opening content no_key no_key a b = refl
@@ -278,7 +278,7 @@ one_opening content no_key_file no_key a b = absurd (no_key_may content b a.may)
 one_opening content no_key_file no_key_file a b = refl
 one_opening content no_key_file unknown_version a b = absurd (true≢false (sym b.key ∙ a.other))
 one_opening content no_key_file (damaged k) a b = absurd (true≢false (sym b.key ∙ a.other))
-one_opening content unknown_version (spelled ys) a b = absurd (known_or_not _ (version_in ys) (spelled-key content ys b).1 a.other)
+one_opening content unknown_version (spelled ys) a b = absurd (known_or_not _ (file_version ys) (spelled-key content ys b).1 a.other)
 one_opening content unknown_version no_key a b = absurd (no_key_may content b a.may)
 one_opening content unknown_version no_key_file a b = absurd (true≢false (sym a.key ∙ b.other))
 one_opening content unknown_version unknown_version a b = refl

@@ -6,7 +6,7 @@ use Rattle.typecodes.specs.Layout.{Spells}
 use Rattle.state_file.specs.File.{IsClosed, IsFileOf, first_tag, most_records, open_value, previous_tag, tag_of}
 use Rattle.state_file.specs.Filling.{IsCopied, opened}
 use Rattle.state_file.specs.Gates.{IsClosedAfter}
-use Rattle.state_file.specs.Slot.{slot_record, version_in}
+use Rattle.state_file.specs.Slot.{slot_record, file_version}
 use Rattle.state_file.specs.declared.record.Record.{Record}
 use Rattle.state_file.specs.declared.record.Version.TheVariants.{Two}
 use Rattle.typecodes.specs.Cursor.{read}
@@ -29,7 +29,7 @@ copied_none list k tag content zero_is first closed = record { none = λ is. (cl
 
 module _ (list : List Record) (carries : IsCarriedList list) (entry : Record) (content new fields tag next : List ℕ) (fields_len : length fields ≡ 223) (next_len : length next ≡ 32) (few : length list ≤ most_records) (spelled : Spells (slot_record Two) entry fields)
     (tagged : next ≡ tag_of tag fields) where
-  reads : (k : ℕ) → slice_get list k ≡ Some entry → read (slot_record (version_in (take k list ++ entry ∷ []))) fields 0 ≡ Ok (entry, 223)
+  reads : (k : ℕ) → slice_get list k ≡ Some entry → read (slot_record (file_version (take k list ++ entry ∷ []))) fields 0 ≡ Ok (entry, 223)
   reads k is = ap (λ v. read (slot_record v) fields 0) (front_version list k entry carries is) ∙ read_record Two entry fields fields_len spelled
 
   pub copied_first : slice_get list 0 ≡ Some entry → IsCopied list 0 tag content → IsClosedAfter (open_value ∷ (fields ++ next)) (opened new) → IsCopied list 1 next new

@@ -5,20 +5,20 @@ use Rattle.state_file.specs.Carried.{carried}
 use Rattle.state_file.specs.Disk.{ChangesOnly}
 use Rattle.state_file.specs.File.{HasNoKey, IsClosed, IsFileOf, SpellsRecords}
 use Rattle.state_file.specs.FileStore.{file_stands}
-use Rattle.state_file.specs.Filling.{LeftByFill, after_first_gate, offsets_below, opened}
+use Rattle.state_file.specs.Filling.{LeftByFill, after_first_gate, first_offsets, opened}
 use Rattle.state_file.specs.declared.record.Record.{Record}
 use Rattle.state_file.specs.declared.record.Record.TheVariants.{Key as KeyRecord}
 use Rattle.state_file.proofs.Carried.{IsCarriedList}
 use Rattle.state_file.proofs.Filling.{still_closed, widened}
 
-wider : (end : ℕ) (a c : List ℕ) → 1 ≤ end → ChangesOnly (offsets_below 1 ∷ []) a c → ChangesOnly (offsets_below end ∷ []) a c
+wider : (end : ℕ) (a c : List ℕ) → 1 ≤ end → ChangesOnly (first_offsets 1 ∷ []) a c → ChangesOnly (first_offsets end ∷ []) a c
 wider end a c some changes = record {
   kept = λ offset inside outside. changes.kept offset inside (⊎_elim (λ (low : offset < 0). inl low) (λ (high : end ≤ offset). inr (omega (arith, high, some))) outside.0, tt);
   no_shorter = changes.no_shorter;
   no_longer = omega (arith, some, changes.no_longer);
 }
 
-both : (end : ℕ) (a b c : List ℕ) → 1 ≤ end → ChangesOnly (offsets_below 1 ∷ []) a b → ChangesOnly (offsets_below end ∷ []) b c → ChangesOnly (offsets_below end ∷ []) a c
+both : (end : ℕ) (a b c : List ℕ) → 1 ≤ end → ChangesOnly (first_offsets 1 ∷ []) a b → ChangesOnly (first_offsets end ∷ []) b c → ChangesOnly (first_offsets end ∷ []) a c
 both end a b c some first second = record {
   kept = λ offset inside outside.
       second.kept offset (omega (arith, inside, first.no_shorter)) outside
@@ -33,18 +33,18 @@ carried_spelled list content carries file =
 
 module _ (honest : Bool) (records : List Record) (end : ℕ) (some : 1 ≤ end) (first : List ℕ) where
   -- while the place is prepared
-  pub left_prepared : (c : List ℕ) → HasNoKey c × ChangesOnly (offsets_below 1 ∷ []) first c → LeftByFill honest records end first c
+  pub left_prepared : (c : List ℕ) → HasNoKey c × ChangesOnly (first_offsets 1 ∷ []) first c → LeftByFill honest records end first c
   left_prepared c left = record { changes = wider end first c some left.1; kind = λ is. inl left.0 }
 
   -- while slots are written
-  pub left_copied : (base c : List ℕ) → IsClosed base 0 → ChangesOnly (offsets_below 1 ∷ []) first base → ChangesOnly (after_first_gate end ∷ []) base c → LeftByFill honest records end first c
+  pub left_copied : (base c : List ℕ) → IsClosed base 0 → ChangesOnly (first_offsets 1 ∷ []) first base → ChangesOnly (after_first_gate end ∷ []) base c → LeftByFill honest records end first c
   left_copied base c closed before changes = record {
     changes = both end first base c some before (widened end base c changes);
     kind = λ is. inl (inr (still_closed end base c closed changes));
   }
 
   -- while the first gate is opened
-  pub left_finished : (base content c : List ℕ) → ChangesOnly (offsets_below 1 ∷ []) first base → (IsTrue honest → SpellsRecords (opened content) (carried records)) → (HasNoKey c ⊎ (c ≡ opened content)) × ChangesOnly (offsets_below end ∷ []) base c
+  pub left_finished : (base content c : List ℕ) → ChangesOnly (first_offsets 1 ∷ []) first base → (IsTrue honest → SpellsRecords (opened content) (carried records)) → (HasNoKey c ⊎ (c ≡ opened content)) × ChangesOnly (first_offsets end ∷ []) base c
       → LeftByFill honest records end first c
   left_finished base content c before spelled left = record {
     changes = both end first base c some before left.1;

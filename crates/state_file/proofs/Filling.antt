@@ -8,7 +8,7 @@ use Rattle.std.proofs.lemmas.List.Prefix.{front_from_reads, front_reads}
 use Rattle.std.proofs.lemmas.Bool.{cases_eq}
 use Rattle.state_file.specs.Disk.{ChangesOnly, DiskState, IsOutside, MayLeave, Range, greatest_end, range_of}
 use Rattle.state_file.specs.File.{HasNoKey, IsClosed, open_value}
-use Rattle.state_file.specs.Filling.{AreWithin, IsUnfinished, after_first_gate, offsets_below, opened}
+use Rattle.state_file.specs.Filling.{AreWithin, IsUnfinished, after_first_gate, first_offsets, opened}
 use Rattle.state_file.specs.Gates.{IsClosedAfter}
 use Rattle.state_file.proofs.SlotWrites.{Stages, split, join, stage_done}
 
@@ -154,14 +154,14 @@ put_next front body content new bytes at after len holds some is changes put =
 
 -- ---- all changes
 
-pub widened : (end : ℕ) (base c : List ℕ) → ChangesOnly (after_first_gate end ∷ []) base c → ChangesOnly (offsets_below end ∷ []) base c
+pub widened : (end : ℕ) (base c : List ℕ) → ChangesOnly (after_first_gate end ∷ []) base c → ChangesOnly (first_offsets end ∷ []) base c
 widened end base c changes = record {
   kept = λ offset inside outside. changes.kept offset inside (⊎_elim (λ (low : offset < 0). inl (omega (arith, low))) (λ (high : end ≤ offset). inr high) outside.0, tt);
   no_shorter = changes.no_shorter;
   no_longer = changes.no_longer;
 }
 
-gate_widened : (end : ℕ) (base content c bytes : List ℕ) → 1 ≤ end → length bytes ≡ 1 → ChangesOnly (after_first_gate end ∷ []) base content → ChangesOnly (range_of 0 bytes ∷ []) content c → ChangesOnly (offsets_below end ∷ []) base c
+gate_widened : (end : ℕ) (base content c bytes : List ℕ) → 1 ≤ end → length bytes ≡ 1 → ChangesOnly (after_first_gate end ∷ []) base content → ChangesOnly (range_of 0 bytes ∷ []) content c → ChangesOnly (first_offsets end ∷ []) base c
 gate_widened end base content c bytes some one first second = record {
   kept = λ offset inside outside.
       let high : end ≤ offset = ⊎_elim (λ (low : offset < 0). absurd (omega (arith, low))) (λ (above : end ≤ offset). above) outside.0 in
@@ -171,12 +171,12 @@ gate_widened end base content c bytes some one first second = record {
 }
 
 -- what a crash leaves before the first gate is opened
-pub before_gate : (end : ℕ) (base content c : List ℕ) → IsClosed base 0 → ChangesOnly (after_first_gate end ∷ []) base c → (HasNoKey c ⊎ (c ≡ opened content)) × ChangesOnly (offsets_below end ∷ []) base c
+pub before_gate : (end : ℕ) (base content c : List ℕ) → IsClosed base 0 → ChangesOnly (after_first_gate end ∷ []) base c → (HasNoKey c ⊎ (c ≡ opened content)) × ChangesOnly (first_offsets end ∷ []) base c
 before_gate end base content c closed changes = (inl (inr (still_closed end base c closed changes)), widened end base c changes)
 
 -- and meanwhile
 pub at_gate : (end : ℕ) (base content mid c bytes : List ℕ) → IsClosed base 0 → 1 ≤ end → bytes ≡ open_value ∷ [] → mid ≡ content → ChangesOnly (after_first_gate end ∷ []) base content → ChangesOnly (range_of 0 bytes ∷ []) mid c
-    → (HasNoKey c ⊎ (c ≡ opened content)) × ChangesOnly (offsets_below end ∷ []) base c
+    → (HasNoKey c ⊎ (c ≡ opened content)) × ChangesOnly (first_offsets end ∷ []) base c
 at_gate end base content mid c bytes closed some is same first second =
     let one : length bytes ≡ 1 = ap length is in
     let changes = subst (λ (l : List ℕ). ChangesOnly (range_of 0 bytes ∷ []) l c) same second in (

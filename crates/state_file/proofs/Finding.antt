@@ -8,7 +8,7 @@ use Rattle.state_file.specs.Disk.{DiskState, MayLeave, settled, Elapses, LeavesO
 use Rattle.state_file.specs.FileStore.{closed_gate, fields_length, open_by_byte}
 use Rattle.state_file.specs.DiskCalls.{OnlyReads}
 use Rattle.state_file.specs.Opening.{HasEntry, HasSlot, IsFound, StartsWithKey, ReportsContent, ReportsSlot}
-use Rattle.state_file.specs.Slot.{slot_record, version_in}
+use Rattle.state_file.specs.Slot.{slot_record, file_version}
 use Rattle.state_file.specs.declared.record.Version.{Version}
 use Rattle.state_file.specs.Store.{begins_with_key}
 use Rattle.state_file.specs.declared.file.opening.OpenFault.{OpenFault}
@@ -154,7 +154,7 @@ spelled_file records content is =
       closed = is.closed;
       spelled = λ k entry there.
           let below : k < length records = slice_get_within records k entry there in
-          read_record (version_in records) entry (fields_at content k) (fields_length content k (omega (arith, within, below))) (is.holds k entry there).spelled;
+          read_record (file_version records) entry (fields_at content k) (fields_length content k (omega (arith, within, below))) (is.holds k entry there).spelled;
       tagged = λ k below. elim (slice_get records k) as (λ (found : Option Record). slice_get records k ≡ found → tag_at content k ≡ tag_of (previous_tag content k) (fields_at content k)) [
         | Some entry ↦ λ there. (is.holds k entry there).tagged
         | None ↦ λ past. absurd (missing records k below past)

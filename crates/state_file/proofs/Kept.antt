@@ -12,13 +12,13 @@ use Rattle.state_file.specs.FileStore.{fields_length, file_stands, open_byte, op
 use Rattle.state_file.specs.Store.{CanFollow, begins_with_key}
 use Rattle.state_file.specs.Disk.{DiskState, LeavesOnly}
 use Rattle.state_file.specs.Gates.{IsClosedAfter, IsAtRest}
-use Rattle.state_file.specs.Slot.{slot_record, version_in}
+use Rattle.state_file.specs.Slot.{slot_record, file_version}
 use Rattle.state_file.specs.declared.record.Version.{Version}
 use Rattle.state_file.specs.declared.record.Record.{Record}
 use Rattle.state_file.proofs.Moments.{weaker}
 
 -- a longer list has the same version
-pub version_stays : (records more : List Record) → 0 < length records → version_in (records ++ more) ≡ version_in records
+pub version_stays : (records more : List Record) → 0 < length records → file_version (records ++ more) ≡ file_version records
 version_stays [] more some = absurd (omega (arith, some))
 version_stays (entry ∷ rest) more some = refl
 
@@ -55,7 +55,7 @@ file_stays records content c file ends =
       closed = (omega (arith, len, ends.closed.0), λ is_open. ends.closed.1 (ap (λ m. slice_index c m) len ∙ is_open));
       spelled = λ k entry is.
           let below : k < length records = slice_get_within records k entry is in
-          ap (λ (l : List ℕ). read (slot_record (version_in records)) l 0) (same_part n (256 * k + 1) 223 c content same (omega arith)) ∙ file.spelled k entry is;
+          ap (λ (l : List ℕ). read (slot_record (file_version records)) l 0) (same_part n (256 * k + 1) 223 c content same (omega arith)) ∙ file.spelled k entry is;
       tagged = λ k below.
           let fields : fields_at c k ≡ fields_at content k = same_part n (256 * k + 1) 223 c content same (omega arith) in
           let previous : previous_tag c k ≡ previous_tag content k = same_previous n c content k same (omega arith) in
@@ -166,10 +166,10 @@ module _ (records : List Record) (content c : List ℕ) (entry : Record) (fields
       ∙ sym (ap (λ (l : List ℕ). tag_of l (fields_at c (length records))) (old_previous (length records) (omega arith)) ∙ ap (λ (l : List ℕ). tag_of (previous_tag content (length records)) l) last_fields)
 
   -- the old slots keep their version
-  old_version : (k : ℕ) → k < length records → version_in records ≡ version_in (records ++ entry ∷ [])
+  old_version : (k : ℕ) → k < length records → file_version records ≡ file_version (records ++ entry ∷ [])
   old_version k old = sym (version_stays records (entry ∷ []) (omega (arith, old)))
 
-  pub file_grows : length records < most_records → begins_with_key (records ++ entry ∷ []) ≡ true → read (slot_record (version_in (records ++ entry ∷ []))) fields 0 ≡ Ok (entry, 223) → tag ≡ tag_of (previous_tag content (length records)) fields
+  pub file_grows : length records < most_records → begins_with_key (records ++ entry ∷ []) ≡ true → read (slot_record (file_version (records ++ entry ∷ []))) fields 0 ≡ Ok (entry, 223) → tag ≡ tag_of (previous_tag content (length records)) fields
       → IsFileOf (records ++ entry ∷ []) c
   file_grows room key spelled tagged = record {
     few = omega (arith, count);
@@ -181,12 +181,12 @@ module _ (records : List Record) (content c : List ℕ) (entry : Record) (fields
     closed = (omega (arith, new_within, count, n-is), λ is_open. let same : 256 * length (records ++ entry ∷ []) ≡ n + 256 = omega (arith, count, n-is) in new_closed (ap (λ m. slice_index c m) (sym same) ∙ is_open));
     spelled = λ k one is. elim (old_or_new k (slice_get_within (records ++ entry ∷ []) k one is)) [
       | inl old ↦
-          ap (λ (l : List ℕ). read (slot_record (version_in (records ++ entry ∷ []))) l 0) (old_fields k old)
+          ap (λ (l : List ℕ). read (slot_record (file_version (records ++ entry ∷ []))) l 0) (old_fields k old)
           ∙ sym (ap (λ v. read (slot_record v) (fields_at content k) 0) (old_version k old)) ∙ file.spelled k one (old_entry k one old is)
       | inr new ↦
           let fields_are : fields_at c k ≡ fields = ap (λ m. take 223 (drop (256 * m + 1) c)) new ∙ ap (λ m. take 223 (drop (m + 1) c)) (sym n-is) ∙ new_fields in
           let entry_is : one ≡ entry = new_entry one (ap (λ m. slice_get (records ++ entry ∷ []) m) (sym new) ∙ is) in
-          ap (λ (l : List ℕ). read (slot_record (version_in (records ++ entry ∷ []))) l 0) fields_are ∙ spelled ∙ ap (λ (e : Record). Ok (e, 223)) (sym entry_is)
+          ap (λ (l : List ℕ). read (slot_record (file_version (records ++ entry ∷ []))) l 0) fields_are ∙ spelled ∙ ap (λ (e : Record). Ok (e, 223)) (sym entry_is)
     ];
     tagged = λ k below. elim (old_or_new k below) [
       | inl old ↦
@@ -215,7 +215,7 @@ kept_size records tag state count kept counted = length-take-le (256 * length re
 
 -- one slot is added to a kept file
 module _ (records : List Record) (last : List ℕ) (state : DiskState) (count : ℕ) (entry : Record) (fields tag body : List ℕ) (counted : count ≡ length records) (room : count < most_records)
-    (key : begins_with_key (records ++ entry ∷ []) ≡ true) (fields_len : length fields ≡ 223) (tag_len : length tag ≡ 32) (body_is : body ≡ fields ++ tag) (spelled : Spells (slot_record (version_in (records ++ entry ∷ []))) entry fields)
+    (key : begins_with_key (records ++ entry ∷ []) ≡ true) (fields_len : length fields ≡ 223) (tag_len : length tag ≡ 32) (body_is : body ≡ fields ++ tag) (spelled : Spells (slot_record (file_version (records ++ entry ∷ []))) entry fields)
     (tagged : tag ≡ tag_of last fields) (kept : IsSyncedFile records last state) where
   tag_is : tag ≡ tag_of (previous_tag state.content (length records)) fields
   tag_is = tagged ∙ ap (λ (l : List ℕ). tag_of l fields) kept.last
@@ -225,7 +225,7 @@ module _ (records : List Record) (last : List ℕ) (state : DiskState) (count : 
 
   grown : (c : List ℕ) → IsClosedAfter (take (256 * length records) state.content ++ open_value ∷ body) c → IsFileOf (records ++ entry ∷ []) c
   grown c ends =
-      file_grows records state.content c entry fields tag fields_len tag_len kept.file (ends_are c ends) (omega arith) key (read_record (version_in (records ++ entry ∷ [])) entry fields fields_len spelled) tag_is
+      file_grows records state.content c entry fields tag fields_len tag_len kept.file (ends_are c ends) (omega arith) key (read_record (file_version (records ++ entry ∷ [])) entry fields fields_len spelled) tag_is
 
   pub added_leaves : (c : List ℕ) → IsClosedAfter (take (256 * length records) state.content) c ⊎ IsClosedAfter (take (256 * length records) state.content ++ open_value ∷ body) c
       → StandsFor records c ⊎ StandsFor (records ++ entry ∷ []) c
@@ -240,14 +240,14 @@ module _ (records : List Record) (last : List ℕ) (state : DiskState) (count : 
   }
 
 pub kept_grows : (records after : List Record) (last : List ℕ) (state new : DiskState) (count : ℕ) (entry : Record) (fields tag body : List ℕ) → after ≡ records ++ entry ∷ [] → count ≡ length records → count < most_records
-    → begins_with_key (records ++ entry ∷ []) ≡ true → length fields ≡ 223 → length tag ≡ 32 → body ≡ fields ++ tag → Spells (slot_record (version_in (records ++ entry ∷ []))) entry fields → tag ≡ tag_of last fields → IsSyncedFile records last state
+    → begins_with_key (records ++ entry ∷ []) ≡ true → length fields ≡ 223 → length tag ≡ 32 → body ≡ fields ++ tag → Spells (slot_record (file_version (records ++ entry ∷ []))) entry fields → tag ≡ tag_of last fields → IsSyncedFile records last state
     → IsAtRest (take (256 * length records) state.content ++ open_value ∷ body) new → IsSyncedFile after tag new
 kept_grows records after last state new count entry fields tag body is counted room key fields_len tag_len body_is spelled tagged kept rest =
     subst (λ (l : List Record). IsSyncedFile l tag new) (sym is) (grown_kept records last state count entry fields tag body counted room key fields_len tag_len body_is spelled tagged kept new rest)
 
 -- what an append leaves at any moment, from what adding its slot leaves
 pub appended_leaves : {D : Type 0} (moment : D → ℕ) (left_since : D → ℕ → List ℕ → Type 0) (old new : D) (records : List Record) (last : List ℕ) (state : DiskState) (count : ℕ) (entry : Record) (fields tag : List ℕ) → count ≡ length records → count < most_records
-    → begins_with_key (records ++ entry ∷ []) ≡ true → length fields ≡ 223 → length tag ≡ 32 → Spells (slot_record (version_in (records ++ entry ∷ []))) entry fields → tag ≡ tag_of last fields → IsSyncedFile records last state
+    → begins_with_key (records ++ entry ∷ []) ≡ true → length fields ≡ 223 → length tag ≡ 32 → Spells (slot_record (file_version (records ++ entry ∷ []))) entry fields → tag ≡ tag_of last fields → IsSyncedFile records last state
     → ((front : List ℕ) → IsAtRest front state → length front ≡ 256 * count → LeavesOnly moment left_since old new (λ c. IsClosedAfter front c ⊎ IsClosedAfter (front ++ open_value ∷ (fields ++ tag)) c))
     → LeavesOnly moment left_since old new (λ c. StandsFor records c ⊎ StandsFor (records ++ entry ∷ []) c)
 appended_leaves moment left_since old new records last state count entry fields tag counted room key fields_len tag_len spelled tagged kept leaves =
@@ -255,7 +255,7 @@ appended_leaves moment left_since old new records last state count entry fields 
     (added_leaves records last state count entry fields tag (fields ++ tag) counted room key fields_len tag_len refl spelled tagged kept)
     (leaves (take (256 * length records) state.content) (kept_rests records last state kept) (kept_size records last state count kept counted))
 
-pub kept_holds : (records : List Record) (tag : List ℕ) (state : DiskState) (k : ℕ) → IsSyncedFile records tag state → k < length records → (entry : Record) × (slice_get records k ≡ Some entry) × Holds (version_in records) state.content k entry
+pub kept_holds : (records : List Record) (tag : List ℕ) (state : DiskState) (k : ℕ) → IsSyncedFile records tag state → k < length records → (entry : Record) × (slice_get records k ≡ Some entry) × Holds (file_version records) state.content k entry
 kept_holds [] tag state k kept below = absurd (omega arith)
 kept_holds (first ∷ rest) tag state k kept below =
     let entry = get_or (first ∷ rest) k first in
@@ -263,7 +263,7 @@ kept_holds (first ∷ rest) tag state k kept below =
       entry,
       is,
       record {
-        spelled = ends-spelled (slot_record (version_in (first ∷ rest))) (fields_at state.content k) entry 223 (kept.file.spelled k entry is) (fields_length state.content k (omega (arith, kept.file.closed.0)));
+        spelled = ends-spelled (slot_record (file_version (first ∷ rest))) (fields_at state.content k) entry 223 (kept.file.spelled k entry is) (fields_length state.content k (omega (arith, kept.file.closed.0)));
         tagged = kept.file.tagged k below;
       },
     )

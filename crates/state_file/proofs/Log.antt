@@ -7,7 +7,7 @@ use Rattle.std.proofs.lemmas.Bool.Decides.{nat_tests}
 use Rattle.typecodes.specs.Layout.{AreBytes}
 use Rattle.typecodes.proofs.Bytes.{AreBytes-front}
 use Rattle.state_file.specs.Disk.{range_of, ChangesOnly, OpensRange, Elapses}
-use Rattle.state_file.specs.Log.{base_of, ranges_of, state_of, LeftBy, LeftSince, Overlays}
+use Rattle.state_file.specs.Log.{base_of, ranges_of, logged_state, LeftBy, LeftSince, Overlays}
 use Rattle.state_file.proofs.Ranges.{changes_more}
 use Rattle.state_file.specs.declared.disk.log.Entry.{Entry}
 use Rattle.state_file.specs.declared.disk.log.Entry.TheVariants.{Wrote}
@@ -61,7 +61,7 @@ overlays_bytes at (b ∷ bytes) old new overlaid =
     ap (λ n. take n (drop at new)) width ∙ ap (λ (l : List ℕ). take (length (b ∷ bytes)) l) (at_from_reads 0 new (b ∷ bytes) at fits overlaid.put) ∙ take_at (b ∷ bytes) (drop (at + length (b ∷ bytes)) new) (length (b ∷ bytes)) refl
 
 pub opens : (first : List ℕ) (log log_new : List Entry) (at : ℕ) (bytes old new : List ℕ) → Overlays at bytes old new → log_new ≡ log ++ Wrote at (at + length bytes) ∷ []
-    → OpensRange (range_of at bytes) (state_of old first log) (state_of new first log_new)
+    → OpensRange (range_of at bytes) (logged_state old first log) (logged_state new first log_new)
 opens first log log_new at bytes old new overlaid is = record {
   changes = overlays_range at bytes old new overlaid;
   more = ap ranges_of (ap reverse is ∙ newest_first log (Wrote at (at + length bytes)));

@@ -20,7 +20,7 @@ use Rattle.state_file.specs.declared.record.Record.TheVariants.{Key as KeyRecord
 use Rattle.state_file.specs.declared.record.Secret.{Secret}
 use Rattle.state_file.specs.declared.record.Secret.TheVariants.{Lms, Hss, Xmss}
 use Rattle.state_file.specs.declared.record.Version.{Version}
-use Rattle.state_file.specs.Slot.{after_parent_leaf, are_visible, bound_fields, byte, byte_within, exactly, extend_fields, fields_of, hss_fields, key_fields, levels_field, lms_fields, magic, moved_fields, name_field, name_most, no_record, only_if, pair_field, pairs, retire_fields, secret_fields, slot_record, version_code, version_field, xmss_fields, zeros, kind_of, scheme_of}
+use Rattle.state_file.specs.Slot.{after_parent_leaf, are_visible, bound_fields, byte, bounded_byte, exactly, extend_fields, fields_of, hss_fields, key_fields, levels_field, lms_fields, magic, moved_fields, name_field, name_most, no_record, only_if, pair_field, pairs, retire_fields, secret_fields, slot_record, version_code, version_field, xmss_fields, zeros, kind_of, scheme_of}
 use Rattle.state_file.specs.Shown.{byte-is, exactly-is, fields-show, only_if-is, schemes-show}
 
 -- ---- fields
@@ -38,9 +38,9 @@ shows-only_if : {V X : Type 0} (test : Bool) (n : ℕ) (v : V) (of : V → X) �
 shows-only_if true n v of w bytes spelled = ap of (sym spelled.0)
 shows-only_if false n v of w bytes spelled = absurd spelled
 
-one_way-byte_within : (least most : ℕ) → OneSpelling (byte_within least most)
-unfolding byte_within
-one_way-byte_within least most =
+one_way-bounded_byte : (least most : ℕ) → OneSpelling (bounded_byte least most)
+unfolding bounded_byte
+one_way-bounded_byte least most =
     one_way-bind byte (λ n. only_if (nat_le least n && nat_le n most) 1 n) (λ n. n) one_way-byte
     (λ n. one_way-only_if (nat_le least n && nat_le n most) 1 n) (λ n. shows-only_if (nat_le least n && nat_le n most) 1 n (λ m. m))
 
@@ -106,7 +106,7 @@ after_count count = pairs count >>= after_levels count
 one_way-levels : OneSpelling levels_field
 unfolding levels_field after_levels after_count
 one_way-levels =
-    one_way-bind (byte_within 1 8) after_count length (one_way-byte_within 1 8)
+    one_way-bind (bounded_byte 1 8) after_count length (one_way-bounded_byte 1 8)
     (λ count. one_way-bind (pairs count) (after_levels count) (λ all. all) (one_way-pairs count)
     (λ levels. one_way-bind (zeros (64 - 8 * count)) (λ rest. done levels) (λ _. tt) (one_way-zeros (64 - 8 * count)) (λ rest. one_way-done levels) (λ rest. shows-done levels (λ _. tt)))
     (λ levels. shows-bind (zeros (64 - 8 * count)) (λ rest. done levels) (λ all. all) levels (λ rest. shows-done levels (λ all. all))))
@@ -150,7 +150,7 @@ one_way-named most count bytes =
 one_way-name : (most : ℕ) → OneSpelling (name_field most)
 unfolding name_field after_length after_name after_visible
 one_way-name most =
-    one_way-bind (byte_within 1 most) (after_length most) length (one_way-byte_within 1 most)
+    one_way-bind (bounded_byte 1 most) (after_length most) length (one_way-bounded_byte 1 most)
     (λ count. one_way-bind (block count) (after_name most count) (λ v. v) (one_way-block count) (one_way-named most count) (shows-name most count))
     (λ count name bytes spelled.
     let (all, a, b, _, (front, _, _, len, (same, _)), after) = in_turn (block count) (after_name most count) name bytes spelled in
@@ -163,10 +163,10 @@ pair_in (Lms secret) = secret.pair
 pair_in (Hss levels identifier seed) = a_pair
 pair_in (Xmss secret) = a_pair
 
-levels_in : Secret → List LmsPair
-levels_in (Lms secret) = []
-levels_in (Hss levels identifier seed) = levels
-levels_in (Xmss secret) = []
+all_levels : Secret → List LmsPair
+all_levels (Lms secret) = []
+all_levels (Hss levels identifier seed) = levels
+all_levels (Xmss secret) = []
 
 tree_in : Secret → XmssType
 tree_in (Lms secret) = X10
@@ -174,10 +174,10 @@ tree_in (Hss levels identifier seed) = X10
 tree_in (Xmss secret) = secret.tree
 
 -- the first, second and third block of a secret's bytes
-first_in : Secret → List ℕ
-first_in (Lms secret) = secret.identifier
-first_in (Hss levels identifier seed) = identifier
-first_in (Xmss secret) = secret.secret_seed
+first_bytes_at : Secret → List ℕ
+first_bytes_at (Lms secret) = secret.identifier
+first_bytes_at (Hss levels identifier seed) = identifier
+first_bytes_at (Xmss secret) = secret.secret_seed
 
 second_in : Secret → List ℕ
 second_in (Lms secret) = secret.seed
@@ -190,38 +190,38 @@ third_in (Hss levels identifier seed) = []
 third_in (Xmss secret) = secret.public_seed
 
 one_way-lms : OneSpelling lms_fields
-unfolding lms_fields pair_in first_in second_in
+unfolding lms_fields pair_in first_bytes_at second_in
 one_way-lms =
     let way : Way lms_fields (λ _. Unit {0}) =
     way-bind (exactly 1 (1 ∷ [])) _ (λ _. tt) _ (one_way-exactly 1 (1 ∷ [])) (λ level.
     way-bind pair_field _ pair_in _ one_way-pair (λ pair.
     way-bind (zeros 56) _ (λ _. tt) _ (one_way-zeros 56) (λ others.
-    way-bind (block 16) _ first_in _ (one_way-block 16) (λ identifier.
+    way-bind (block 16) _ first_bytes_at _ (one_way-block 16) (λ identifier.
     way-bind (block 32) _ second_in _ (one_way-block 32) (λ seed.
     way-bind (zeros 64) _ (λ _. tt) _ (one_way-zeros 64) (λ seeds.
     way-done _ _ (refl, (refl, (refl, (refl, (refl, (refl, tt)))))))))))) in
     way.one
 
 one_way-hss : OneSpelling hss_fields
-unfolding hss_fields levels_in first_in second_in
+unfolding hss_fields all_levels first_bytes_at second_in
 one_way-hss =
     let way : Way hss_fields (λ _. Unit {0}) =
-    way-bind levels_field _ levels_in _ one_way-levels (λ levels.
-    way-bind (block 16) _ first_in _ (one_way-block 16) (λ identifier.
+    way-bind levels_field _ all_levels _ one_way-levels (λ levels.
+    way-bind (block 16) _ first_bytes_at _ (one_way-block 16) (λ identifier.
     way-bind (block 32) _ second_in _ (one_way-block 32) (λ seed.
     way-bind (zeros 64) _ (λ _. tt) _ (one_way-zeros 64) (λ seeds.
     way-done _ _ (refl, (refl, (refl, (refl, tt)))))))) in
     way.one
 
 one_way-xmss : OneSpelling xmss_fields
-unfolding xmss_fields tree_in first_in second_in third_in
+unfolding xmss_fields tree_in first_bytes_at second_in third_in
 one_way-xmss =
     let way : Way xmss_fields (λ _. Unit {0}) =
     way-bind (exactly 1 (1 ∷ [])) _ (λ _. tt) _ (one_way-exactly 1 (1 ∷ [])) (λ level.
     way-bind xmss_type _ tree_in _ one_way-xmss_type (λ tree.
     way-bind (zeros 60) _ (λ _. tt) _ (one_way-zeros 60) (λ others.
     way-bind (zeros 16) _ (λ _. tt) _ (one_way-zeros 16) (λ identifier.
-    way-bind (block 32) _ first_in _ (one_way-block 32) (λ secret_seed.
+    way-bind (block 32) _ first_bytes_at _ (one_way-block 32) (λ secret_seed.
     way-bind (block 32) _ second_in _ (one_way-block 32) (λ prf_key.
     way-bind (block 32) _ third_in _ (one_way-block 32) (λ public_seed.
     way-done _ _ (refl, (refl, (refl, (refl, (refl, (refl, (refl, tt)))))))))))))) in
@@ -243,19 +243,19 @@ secret_in (BoundRecord bound) = no_secret
 secret_in (Retire upto) = no_secret
 secret_in Moved = no_secret
 
-root_in : Record → List ℕ
-root_in (KeyRecord key) = key.root
-root_in (ExtendRecord extend) = extend.root
-root_in (BoundRecord bound) = []
-root_in (Retire upto) = []
-root_in Moved = []
+root_of_secret : Record → List ℕ
+root_of_secret (KeyRecord key) = key.root
+root_of_secret (ExtendRecord extend) = extend.root
+root_of_secret (BoundRecord bound) = []
+root_of_secret (Retire upto) = []
+root_of_secret Moved = []
 
-level_in : Record → ℕ
-level_in (KeyRecord key) = 0
-level_in (ExtendRecord extend) = extend.level
-level_in (BoundRecord bound) = 0
-level_in (Retire upto) = 0
-level_in Moved = 0
+level_at : Record → ℕ
+level_at (KeyRecord key) = 0
+level_at (ExtendRecord extend) = extend.level
+level_at (BoundRecord bound) = 0
+level_at (Retire upto) = 0
+level_at Moved = 0
 
 -- the parent leaf, the leaf, or the number below which leaves are retired
 leaf_in : Record → ℕ
@@ -265,12 +265,12 @@ leaf_in (BoundRecord bound) = bound.leaf
 leaf_in (Retire upto) = upto
 leaf_in Moved = 0
 
-identifier_in : Record → List ℕ
-identifier_in (KeyRecord key) = []
-identifier_in (ExtendRecord extend) = extend.identifier
-identifier_in (BoundRecord bound) = []
-identifier_in (Retire upto) = []
-identifier_in Moved = []
+identifier_of_secret : Record → List ℕ
+identifier_of_secret (KeyRecord key) = []
+identifier_of_secret (ExtendRecord extend) = extend.identifier
+identifier_of_secret (BoundRecord bound) = []
+identifier_of_secret (Retire upto) = []
+identifier_of_secret Moved = []
 
 seed_in : Record → List ℕ
 seed_in (KeyRecord key) = []
@@ -286,12 +286,12 @@ randomizer_in (BoundRecord bound) = bound.randomizer
 randomizer_in (Retire upto) = []
 randomizer_in Moved = []
 
-digest_in : Record → List ℕ
-digest_in (KeyRecord key) = []
-digest_in (ExtendRecord extend) = extend.digest
-digest_in (BoundRecord bound) = bound.digest
-digest_in (Retire upto) = []
-digest_in Moved = []
+digest_at : Record → List ℕ
+digest_at (KeyRecord key) = []
+digest_at (ExtendRecord extend) = extend.digest
+digest_at (BoundRecord bound) = bound.digest
+digest_at (Retire upto) = []
+digest_at Moved = []
 
 name_in : Record → List ℕ
 name_in (KeyRecord key) = []
@@ -314,9 +314,9 @@ after_version : Version → Layout Record
 after_version version = byte >>= after_scheme version
 
 way-secret : (version : Version) (secret : Secret) → Way (after_secret version secret) (λ entry. secret_in entry ≡ secret)
-unfolding after_secret secret_in root_in
+unfolding after_secret secret_in root_of_secret
 way-secret version secret =
-    way-bind (block 32) _ root_in _ (one_way-block 32) (λ root.
+    way-bind (block 32) _ root_of_secret _ (one_way-block 32) (λ root.
     way-bind (zeros 2) _ (λ _. tt) _ (one_way-zeros 2) (λ rest.
     way-done _ _ (refl, (refl, refl))))
 
@@ -344,16 +344,16 @@ one_way-key version =
     way.one
 
 one_way-extend : OneSpelling extend_fields
-unfolding extend_fields level_in leaf_in identifier_in seed_in randomizer_in digest_in root_in
+unfolding extend_fields level_at leaf_in identifier_of_secret seed_in randomizer_in digest_at root_of_secret
 one_way-extend =
     let way : Way extend_fields (λ _. Unit {0}) =
-    way-bind byte _ level_in _ one_way-byte (λ level.
+    way-bind byte _ level_at _ one_way-byte (λ level.
     way-bind number (after_parent_leaf level) leaf_in _ one_way-number (λ parent_leaf.
-    way-bind (block 16) _ identifier_in _ (one_way-block 16) (λ identifier.
+    way-bind (block 16) _ identifier_of_secret _ (one_way-block 16) (λ identifier.
     way-bind (block 32) _ seed_in _ (one_way-block 32) (λ seed.
     way-bind (block 32) _ randomizer_in _ (one_way-block 32) (λ randomizer.
-    way-bind (block 32) _ digest_in _ (one_way-block 32) (λ digest.
-    way-bind (block 32) _ root_in _ (one_way-block 32) (λ root.
+    way-bind (block 32) _ digest_at _ (one_way-block 32) (λ digest.
+    way-bind (block 32) _ root_of_secret _ (one_way-block 32) (λ root.
     way-bind (zeros 73) _ (λ _. tt) _ (one_way-zeros 73) (λ rest.
     way-done _ _ (refl, (refl, (refl, (refl, (refl, (refl, (refl, (refl, tt)))))))))))))))) in
     way.one
@@ -366,13 +366,13 @@ after_leaf version name leaf = do
   done (BoundRecord (record { name = name; leaf = leaf; randomizer = randomizer; digest = digest }))
 
 one_way-bound : (version : Version) → OneSpelling (bound_fields version)
-unfolding bound_fields after_leaf name_in leaf_in randomizer_in digest_in
+unfolding bound_fields after_leaf name_in leaf_in randomizer_in digest_at
 one_way-bound version =
     let way : Way (bound_fields version) (λ _. Unit {0}) =
     way-bind (name_field (name_most version)) _ name_in _ (one_way-name (name_most version)) (λ name.
     way-bind number (after_leaf version name) leaf_in _ one_way-number (λ leaf.
     way-bind (block 32) _ randomizer_in _ (one_way-block 32) (λ randomizer.
-    way-bind (block 32) _ digest_in _ (one_way-block 32) (λ digest.
+    way-bind (block 32) _ digest_at _ (one_way-block 32) (λ digest.
     way-bind (zeros (153 - name_most version)) _ (λ _. tt) _ (one_way-zeros (153 - name_most version)) (λ rest.
     way-done _ _ (refl, (refl, (refl, (refl, (refl, tt)))))))))) in
     way.one

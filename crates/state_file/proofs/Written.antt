@@ -20,7 +20,7 @@ use Rattle.typecodes.specs.Fields.{block, lms_type, number, ots_type, typed, xms
 use Rattle.typecodes.proofs.Spelling.{from_turn, in_turn}
 use Rattle.typecodes.specs.Name.{IsName}
 use Rattle.state_file.proofs.Visible.{visible-name}
-use Rattle.state_file.specs.Slot.{are_visible, byte, byte_within, exactly, name_field, only_if, pair_field, pairs, version_code, version_field, zeros}
+use Rattle.state_file.specs.Slot.{are_visible, byte, bounded_byte, exactly, name_field, only_if, pair_field, pairs, version_code, version_field, zeros}
 use Rattle.state_file.specs.Fields.{AppendsSpelling}
 use Rattle.typecodes.proofs.Codes.{known}
 
@@ -82,9 +82,9 @@ writes-byte n old new is = record {
 pub writes-only_if : {V : Type 0} (test : Bool) (n : ℕ) (v : V) (at : List ℕ) → test ≡ true → AppendsSpelling (only_if test n v) v at at
 writes-only_if test n v at passes = let P : Bool → Type 0 = λ t. AppendsSpelling (only_if t n v) v at at in subst P (sym passes) (writes-done v at)
 
-pub writes-byte_within : (least most n : ℕ) (old new : List ℕ) → least ≤ n → n ≤ most → AppendsSpelling byte n old new → AppendsSpelling (byte_within least most) n old new
-unfolding byte_within
-writes-byte_within least most n old new low high written =
+pub writes-bounded_byte : (least most n : ℕ) (old new : List ℕ) → least ≤ n → n ≤ most → AppendsSpelling byte n old new → AppendsSpelling (bounded_byte least most) n old new
+unfolding bounded_byte
+writes-bounded_byte least most n old new low high written =
     writes-bind byte (λ m. only_if (nat_le least m && nat_le m most) 1 m) n n old new new written
     (writes-only_if (nat_le least n && nat_le n most) 1 n new (and_from _ _ (le-leb _ _ low) (le-leb _ _ high)))
 
@@ -143,10 +143,10 @@ pub writes-none : (at : List ℕ) → AppendsSpelling (pairs 0) [] at at
 unfolding pairs
 writes-none at = writes-done [] at
 
-pub writes-name : (most : ℕ) (name : List ℕ) (old a b c : List ℕ) → IsName name → AppendsSpelling (byte_within 1 most) (length name) old a → b ≡ a ++ name → AppendsSpelling (zeros (most - length name)) tt b c → AppendsSpelling (name_field most) name old c
+pub writes-name : (most : ℕ) (name : List ℕ) (old a b c : List ℕ) → IsName name → AppendsSpelling (bounded_byte 1 most) (length name) old a → b ≡ a ++ name → AppendsSpelling (zeros (most - length name)) tt b c → AppendsSpelling (name_field most) name old c
 unfolding name_field
 writes-name most name old a b c is count bytes rest =
-    writes-bind (byte_within 1 most) _ (length name) name old a c count
+    writes-bind (bounded_byte 1 most) _ (length name) name old a c count
     (writes-bind (block (length name)) _ name name a b c (record { part = name; after = bytes; spelled = (name, [], sym (append-nil name), refl, (refl, refl)) })
     (writes-bind (only_if (are_visible name) (length name) name) _ name name b b c (writes-only_if (are_visible name) (length name) name b (visible-name name is))
     (writes-bind (zeros (most - length name)) _ tt name b c c rest

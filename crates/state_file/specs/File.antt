@@ -12,7 +12,7 @@ use Rattle.state_file.specs.declared.record.Key.{Key}
 use Rattle.state_file.specs.declared.record.Record.{Record}
 use Rattle.state_file.specs.declared.record.Record.TheVariants.{Key as KeyRecord}
 use Rattle.state_file.specs.declared.record.Version.{Version}
-use Rattle.state_file.specs.Slot.{magic, slot_record, version_code, version_in, versions}
+use Rattle.state_file.specs.Slot.{magic, slot_record, version_code, file_version, versions}
 use Rattle.std.proofs.Props.{props}
 use Rattle.typecodes.specs.Cursor.{read}
 use Rattle.state_file.specs.Disk.{DiskState, IsSynced}
@@ -78,7 +78,7 @@ pub record SpellsRecords (content : List ℕ) (records : List Record) : Type 0 w
   pub closed : IsClosed content (length records)
   pub first : (key : Key) × (slice_get records 0 ≡ Some (KeyRecord key))
   pub holds : (k : ℕ) (entry : Record) → slice_get records k ≡ Some entry
-      → Holds (version_in records) content k entry
+      → Holds (file_version records) content k entry
 
 -- ---- contents without a key
 
@@ -150,7 +150,7 @@ pub record IsFileOf (records : List Record) (content : List ℕ) : Type 0 where
   pub opened : (k : ℕ) → k < length records → IsOpen content k
   pub closed : IsClosed content (length records)
   pub spelled : (k : ℕ) (entry : Record) → slice_get records k ≡ Some entry
-      → read (slot_record (version_in records)) (fields_at content k) 0 ≡ Ok (entry, 223)
+      → read (slot_record (file_version records)) (fields_at content k) 0 ≡ Ok (entry, 223)
   pub tagged : (k : ℕ) → k < length records → tag_at content k ≡ tag_of (previous_tag content k) (fields_at content k)
 
 -- The lists that the contents left since a moment stand for. A content that stands for none counts as every list.

@@ -17,7 +17,7 @@ use Rattle.state_file.specs.Disk.{DiskState, LeavesOnly, MayLeave, settled}
 use Rattle.state_file.specs.DiskCalls.{CountsFailures}
 use Rattle.state_file.specs.Format.{Formats, LeftByFormat, is_failed_format}
 use Rattle.state_file.specs.Opening.{ReportsContent, Settles, is_failed_opening}
-use Rattle.state_file.specs.Slot.{slot_record, version_in}
+use Rattle.state_file.specs.Slot.{slot_record, file_version}
 use Rattle.state_file.specs.Store.{WhileRunning, is_key}
 use Rattle.state_file.specs.Shown.{spelled_version}
 use Rattle.typecodes.specs.Layout.{Spells}
@@ -59,9 +59,9 @@ abbrev pub given_of : {D : Type 0} {bound : _} → FileStore D bound → List Re
 given_of store = store.given
 
 -- the disk afterwards: the store's, or the one that a refusal hands back
-abbrev pub disk_after : {D F : Type 0} {bound : _} → Result (FileStore D bound) (Refused D F) → D
-disk_after (Ok store) = store.disk
-disk_after (Err refused) = refused.given
+abbrev pub disk_of_result : {D F : Type 0} {bound : _} → Result (FileStore D bound) (Refused D F) → D
+disk_of_result (Ok store) = store.disk
+disk_of_result (Err refused) = refused.given
 
 -- the answer, without what a refusal hands back
 abbrev pub outcome_of : {A T F : Type 0} → Result A (Refused T F) → Result A F
@@ -79,10 +79,10 @@ pub record FindsRecords {D : Type 0} {bound : _} (d : disk.Ghosts D) (given : D)
   pub fault : IsTrue (d.honest given)
       → IfErr result (λ refused. ReportsContent (d.state given).content refused.fault)
   pub moments : IsTrue (d.honest given)
-      → LeavesOnly d.moment d.left_since given (disk_after result) (MayLeave (d.state given))
+      → LeavesOnly d.moment d.left_since given (disk_of_result result) (MayLeave (d.state given))
   pub settled : IsTrue (d.honest given)
-      → Settles (d.state given).content (d.state (disk_after result)) (outcome_of result)
-  pub failures : CountsFailures d is_failed_opening given (disk_after result) (outcome_of result)
+      → Settles (d.state given).content (d.state (disk_of_result result)) (outcome_of result)
+  pub failures : CountsFailures d is_failed_opening given (disk_of_result result) (outcome_of result)
 
 -- A disk was prepared for a key, or refused. An honest one then has no slot, and a closed gate. Meanwhile a crash
 -- leaves what it could leave before, or no key.
@@ -92,12 +92,12 @@ pub record PreparesDisk {D : Type 0} {bound : _} (d : disk.Ghosts D) (given : D)
   pub running : IfOk result (λ prepared. has_stopped prepared ≡ false)
   pub unreadable : IfOk result (λ prepared. unreadable_of prepared ≡ [])
   pub answer : IsTrue (d.honest given)
-      → Formats (d.state given).content (d.state (disk_after result)) (outcome_of result)
+      → Formats (d.state given).content (d.state (disk_of_result result)) (outcome_of result)
   pub len : IsTrue (d.honest given)
-      → OnOk result (length (d.state (disk_after result)).content ≡ max (length (d.state given).content) 1)
+      → OnOk result (length (d.state (disk_of_result result)).content ≡ max (length (d.state given).content) 1)
   pub moments : IsTrue (d.honest given)
-      → LeavesOnly d.moment d.left_since given (disk_after result) (LeftByFormat (d.state given))
-  pub failures : CountsFailures d is_failed_format given (disk_after result) (outcome_of result)
+      → LeavesOnly d.moment d.left_since given (disk_of_result result) (LeftByFormat (d.state given))
+  pub failures : CountsFailures d is_failed_format given (disk_of_result result) (outcome_of result)
 
 -- ---- what contents stand for
 
@@ -134,7 +134,7 @@ file_stands (entry ∷ entries) content file = record {
       let below : k < length (entry ∷ entries) = slice_get_within (entry ∷ entries) k one is in
       record {
         spelled =
-            ends-spelled (slot_record (version_in (entry ∷ entries))) (fields_at content k) one 223
+            ends-spelled (slot_record (file_version (entry ∷ entries))) (fields_at content k) one 223
             (file.spelled k one is) (fields_length content k (omega (arith, file.closed.0)));
         tagged = file.tagged k below;
       };
@@ -148,13 +148,14 @@ pub not_both : (content : List ℕ) (k : ℕ) → IsOpen content k → IsClosed 
 not_both content k is_open shut = shut.1 (open_byte content k is_open)
 
 spells_version : (a b : List Record) (content : List ℕ) → SpellsRecords content a → SpellsRecords content b
-    → version_in a ≡ version_in b
+    → file_version a ≡ file_version b
 spells_version a b content first second =
-    same_Some (version_in a) (version_in b) (sym (spelled_version a content first) ∙ spelled_version b content second)
+    same_Some (file_version a) (file_version b)
+    (sym (spelled_version a content first) ∙ spelled_version b content second)
 
 spells_one : (a b : List Record) (content : List ℕ) → SpellsRecords content a → SpellsRecords content b → a ≡ b
 spells_one a b content first second =
-    let version : version_in a ≡ version_in b = spells_version a b content first second in
+    let version : file_version a ≡ file_version b = spells_version a b content first second in
     let len : length a ≡ length b = elim (cases_order (length a) (length b)) [
       | inl same ↦ same
       | inr (inl below) ↦ absurd (not_both content (length a) (second.opened (length a) below) first.closed)
@@ -163,7 +164,7 @@ spells_one a b content first second =
     same_lists a b len (λ k d below.
     let in_a = first.holds k (get_or a k d) (slice_get-get_or a k d below) in
     let in_b = second.holds k (get_or b k d) (slice_get-get_or b k d (omega arith)) in
-    one_value (slot_record (version_in b)) (get_or a k d) (get_or b k d) (fields_at content k)
+    one_value (slot_record (file_version b)) (get_or a k d) (get_or b k d) (fields_at content k)
     (subst (λ v. Spells (slot_record v) (get_or a k d) (fields_at content k)) version in_a.spelled) in_b.spelled)
 
 no_key_spells : (content : List ℕ) (entry : Record) (entries : List Record) → HasNoKey content

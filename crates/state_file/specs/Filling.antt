@@ -12,8 +12,8 @@ use Rattle.state_file.specs.declared.record.Record.{Record}
 -- ---- what is written
 
 -- all offsets below this one
-abbrev pub offsets_below : ℕ → Range
-offsets_below end = record { from = 0; to = end }
+abbrev pub first_offsets : ℕ → Range
+first_offsets end = record { from = 0; to = end }
 
 -- the same without the first gate's
 abbrev pub after_first_gate : ℕ → Range
@@ -41,7 +41,7 @@ pub record IsCopied (list : List Record) (k : ℕ) (tag content : List ℕ) : Ty
 -- What a crash leaves while a place is filled. Bytes from `end` on stay. If the old disk is honest, the place has no
 -- key, or spells all that is carried over.
 pub record LeftByFill (old_honest : Bool) (records : List Record) (end : ℕ) (content c : List ℕ) : Type 0 where
-  pub changes : ChangesOnly (offsets_below end ∷ []) content c
+  pub changes : ChangesOnly (first_offsets end ∷ []) content c
   pub kind : IsTrue old_honest → HasNoKey c ⊎ SpellsRecords c (carried records)
 
 -- ---- the answers

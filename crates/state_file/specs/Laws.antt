@@ -26,25 +26,25 @@ levels_of _ = 1
 abbrev pub bottom_of : Secret → ℕ
 bottom_of secret = levels_of secret - 1
 
-abbrev pub leaves_in : List LmsPair → ℕ → ℕ
-leaves_in [] level = 0
-leaves_in (pair ∷ rest) zero = 2 ^ height_of pair.tree
-leaves_in (pair ∷ rest) (suc level) = leaves_in rest level
+abbrev pub tree_leaves_at : List LmsPair → ℕ → ℕ
+tree_leaves_at [] level = 0
+tree_leaves_at (pair ∷ rest) zero = 2 ^ height_of pair.tree
+tree_leaves_at (pair ∷ rest) (suc level) = tree_leaves_at rest level
 
 abbrev pub leaves_at : Secret → ℕ → ℕ
 leaves_at (Lms secret) level = 2 ^ height_of secret.pair.tree
-leaves_at (Hss levels identifier seed) level = leaves_in levels level
+leaves_at (Hss levels identifier seed) level = tree_leaves_at levels level
 leaves_at (Xmss secret) level = 2 ^ xmss_height_of secret.tree
 
 -- the I of a key's tree; XMSS has none
-abbrev pub identifier_in : Secret → Option (List ℕ)
-identifier_in (Lms secret) = Some secret.identifier
-identifier_in (Hss levels identifier seed) = Some identifier
-identifier_in (Xmss secret) = None
+abbrev pub identifier_of_secret : Secret → Option (List ℕ)
+identifier_of_secret (Lms secret) = Some secret.identifier
+identifier_of_secret (Hss levels identifier seed) = Some identifier
+identifier_of_secret (Xmss secret) = None
 
 -- the I that a record brings, if any
 abbrev pub identifier_of : Record → Option (List ℕ)
-identifier_of (KeyRecord key) = identifier_in key.secret
+identifier_of (KeyRecord key) = identifier_of_secret key.secret
 identifier_of (ExtendRecord extend) = Some extend.identifier
 identifier_of _ = None
 

@@ -20,8 +20,8 @@ ranges_of (Wrote from to ∷ earlier) = record { from = from; to = to } ∷ rang
 ranges_of (Synced content ∷ earlier) = []
 
 -- the disk's state after this log, which has its oldest entry first
-abbrev pub state_of : (content first : List ℕ) (log : List Entry) → DiskState
-state_of content first log =
+abbrev pub logged_state : (content first : List ℕ) (log : List Entry) → DiskState
+logged_state content first log =
     record { content = content; base = base_of first (reverse log); ranges = ranges_of (reverse log) }
 
 -- what a crash right after this log may leave

@@ -8,13 +8,13 @@ use Rattle.state_file.specs.declared.disk.memory_disk.Fate.{Fate}
 use Rattle.state_file.specs.declared.disk.memory_disk.Fate.TheVariants.{Runs, Fails, Stopped}
 use Rattle.state_file.specs.declared.disk.memory_disk.Pick.{Pick}
 use Rattle.state_file.specs.declared.disk.memory_disk.Pick.TheVariants.{Old, New, Fill}
-use Rattle.state_file.specs.Log.{LeftSince, state_of, IsLongestLeft, Overlays}
+use Rattle.state_file.specs.Log.{LeftSince, logged_state, IsLongestLeft, Overlays}
 use Rattle.state_file.specs.declared.disk.memory_disk.MemoryDisk.{MemoryDisk}
 
 -- the n-th call from now, as the number of calls before it; for 0 there is none
-abbrev pub calls_before : ℕ → Option ℕ
-calls_before zero = None
-calls_before (suc before) = Some before
+abbrev pub nth_call : ℕ → Option ℕ
+nth_call zero = None
+nth_call (suc before) = Some before
 
 -- what happens to the next call, by the calls before the stop and before the failure
 abbrev pub fate_of : (stop fail : Option ℕ) → Fate
@@ -27,15 +27,15 @@ fate_of None (Some (suc later)) = Runs
 fate_of None None = Runs
 
 -- A call came: the stop is one call nearer, and then lasts.
-abbrev pub stop_after : Option ℕ → Option ℕ
-stop_after None = None
-stop_after (Some before) = Some (before - 1)
+abbrev pub next_stop : Option ℕ → Option ℕ
+next_stop None = None
+next_stop (Some before) = Some (before - 1)
 
 -- A call came: the failure is one call nearer, or over.
-abbrev pub fail_after : Option ℕ → Option ℕ
-fail_after None = None
-fail_after (Some zero) = None
-fail_after (Some (suc before)) = Some before
+abbrev pub next_fail : Option ℕ → Option ℕ
+next_fail None = None
+next_fail (Some zero) = None
+next_fail (Some (suc before)) = Some before
 
 -- the answer of a call that only reads, from its answer where it runs
 abbrev pub answer_of : {A : Type 0} → Fate → Result A DiskFault → Result A DiskFault
@@ -71,49 +71,49 @@ Picks New state c = c ≡ state.content
 Picks (Fill byte) state c = IsLongestLeft byte state.base state.ranges c
 
 -- what a read gives, and what a crash may leave
-abbrev pub state_in : MemoryDisk → DiskState
-state_in disk = state_of disk.content.items disk.first.items disk.log.items
+abbrev pub state_of : MemoryDisk → DiskState
+state_of disk = logged_state disk.content.items disk.first.items disk.log.items
 
 -- this moment: the number of writes and syncs
-abbrev pub moment_in : MemoryDisk → ℕ
-moment_in disk = length disk.log.items
+abbrev pub moment_of : MemoryDisk → ℕ
+moment_of disk = length disk.log.items
 
 -- what a crash since a moment may have left
-abbrev pub left_since_in : MemoryDisk → ℕ → List ℕ → Type 0
-left_since_in disk = LeftSince disk.first.items disk.log.items
+abbrev pub left_since_of : MemoryDisk → ℕ → List ℕ → Type 0
+left_since_of disk = LeftSince disk.first.items disk.log.items
 
 -- calls before the stop
-abbrev pub stop_in : MemoryDisk → Option ℕ
-stop_in disk = disk.plan.stop
+abbrev pub stop_of : MemoryDisk → Option ℕ
+stop_of disk = disk.plan.stop
 
 -- calls before the one that fails
-abbrev pub fail_in : MemoryDisk → Option ℕ
-fail_in disk = disk.plan.fail
+abbrev pub fail_of : MemoryDisk → Option ℕ
+fail_of disk = disk.plan.fail
 
 pub record PlanAfterCall (old new : MemoryDisk) : Type 0 where
-  pub stop : stop_in new ≡ stop_after (stop_in old)
-  pub fail : fail_in new ≡ fail_after (fail_in old)
+  pub stop : stop_of new ≡ next_stop (stop_of old)
+  pub fail : fail_of new ≡ next_fail (fail_of old)
 
 -- what happens to the next call
 abbrev pub next_fate : MemoryDisk → Fate
 next_fate disk = fate_of disk.plan.stop disk.plan.fail
 
-abbrev pub failures_in : MemoryDisk → ℕ
-failures_in disk = disk.failures
+abbrev pub failures_of : MemoryDisk → ℕ
+failures_of disk = disk.failures
 
-abbrev pub past_ends_in : MemoryDisk → ℕ
-past_ends_in disk = disk.past_ends
+abbrev pub past_ends_of : MemoryDisk → ℕ
+past_ends_of disk = disk.past_ends
 
 -- What every call does: time passes, a refusal is counted, stop and failure are one call nearer.
 pub record CallComes {A : Type 0} (old new : MemoryDisk) (answer : Result A DiskFault) : Type 0 where
-  pub time : TimePasses state_in moment_in left_since_in old new
-  pub failures : Counts is_failure (failures_in old) (failures_in new) answer
+  pub time : TimePasses state_of moment_of left_since_of old new
+  pub failures : Counts is_failure (failures_of old) (failures_of new) answer
   pub plan : PlanAfterCall old new
 
 -- No call came in between: state, moment, what a crash leaves, and the counts are as they were.
 pub record SameMoment (old new : MemoryDisk) : Type 0 where
-  pub state : state_in new ≡ state_in old
-  pub moment : moment_in new ≡ moment_in old
-  pub left : (t : ℕ) (c : List ℕ) → left_since_in new t c ↔ left_since_in old t c
-  pub failures : failures_in new ≡ failures_in old
-  pub past_ends : past_ends_in new ≡ past_ends_in old
+  pub state : state_of new ≡ state_of old
+  pub moment : moment_of new ≡ moment_of old
+  pub left : (t : ℕ) (c : List ℕ) → left_since_of new t c ↔ left_since_of old t c
+  pub failures : failures_of new ≡ failures_of old
+  pub past_ends : past_ends_of new ≡ past_ends_of old

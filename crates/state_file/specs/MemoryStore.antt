@@ -11,8 +11,8 @@ use Rattle.state_file.specs.declared.store.StoreFault.TheVariants.{DeviceFailed,
 use Rattle.std.proofs.Common.{sym, ◌∙◌, arith}
 use Rattle.std.proofs.lemmas.List.{take_all}
 
-abbrev pub records_in : MemoryStore → List Record
-records_in store = store.records.items
+abbrev pub records_of : MemoryStore → List Record
+records_of store = store.records.items
 
 -- its greatest number of records
 abbrev pub limit_of : MemoryStore → ℕ
@@ -33,21 +33,21 @@ abbrev pub refusals_of : MemoryStore → ℕ
 refusals_of store = store.refusals
 
 -- slots that load was asked for, the last one first
-abbrev pub loads_in : MemoryStore → List ℕ
-loads_in store = store.loads
+abbrev pub loads_of : MemoryStore → List ℕ
+loads_of store = store.loads
 
 -- records that load gave, the first one first
-abbrev pub given_in : MemoryStore → List Record
-given_in store = store.given
+abbrev pub given_of : MemoryStore → List Record
+given_of store = store.given
 
 pub record KeepsRecords (old new : MemoryStore) : Type 0 where
-  pub records : records_in new ≡ records_in old
+  pub records : records_of new ≡ records_of old
   pub limit : limit_of new ≡ limit_of old
   pub refusals : refusals_of new ≡ refusals_of old
 
 pub record KeepsLoads (old new : MemoryStore) : Type 0 where
-  pub loads : loads_in new ≡ loads_in old
-  pub given : given_in new ≡ given_in old
+  pub loads : loads_of new ≡ loads_of old
+  pub given : given_of new ≡ given_of old
 
 -- the memory that it has takes one more record
 abbrev pub HasRoom : MemoryStore → Type 0
@@ -59,9 +59,9 @@ cut_of_append zero cut = None
 cut_of_append (suc before) cut = Some (before, cut)
 
 -- the records after a cut append: the old ones, or these and the new one
-abbrev pub left_by : Cut → List Record → Record → List Record
-left_by Old old entry = old
-left_by New old entry = old ++ entry ∷ []
+abbrev pub cut_records : Cut → List Record → Record → List Record
+cut_records Old old entry = old
+cut_records New old entry = old ++ entry ∷ []
 
 -- The cut after an append. A stored record brings it one append nearer. The cut append answers 45, leaves what the cut
 -- says, and uses it up. Any other answer leaves it as it is. A cut that leaves the old records needs no memory.
@@ -71,7 +71,7 @@ abbrev pub Cuts : {A : Type 0} (old_cut : Option (ℕ
 Cuts None old entry new new_cut (Ok _) = new_cut ≡ None
 Cuts (Some (before, cut)) old entry new new_cut (Ok _) = (next : ℕ) × (before ≡ next + 1) × (new_cut ≡ Some (next, cut))
 Cuts None old entry new new_cut (Err DeviceFailed) = ⊥
-Cuts (Some (before, cut)) old entry new new_cut (Err DeviceFailed) = (before ≡ 0) × (new ≡ left_by cut old entry)
+Cuts (Some (before, cut)) old entry new new_cut (Err DeviceFailed) = (before ≡ 0) × (new ≡ cut_records cut old entry)
     × (new_cut ≡ None)
 Cuts (Some (zero, Old)) old entry new new_cut (Err OutOfMemory) = ⊥
 Cuts old_cut old entry new new_cut (Err _) = new_cut ≡ old_cut
@@ -85,7 +85,7 @@ HadBeen records t left = (k : ℕ) × (t ≤ k) × (k ≤ length records) × (le
 -- What a crash leaves at any moment from the old store on is a list that has P.
 abbrev pub LeavesInMemory : (old new : MemoryStore) (P : List Record → Type 0) → Type 0
 LeavesInMemory old new P =
-    LeavesOnly (λ store. length (records_in store)) (λ store. HadBeen (records_in store)) old new P
+    LeavesOnly (λ store. length (records_of store)) (λ store. HadBeen (records_of store)) old new P
 
 pub had_been_all : (records : List Record) (t : ℕ) → t ≤ length records → HadBeen records t records
 had_been_all records t early =

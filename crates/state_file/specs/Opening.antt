@@ -5,7 +5,7 @@ use Rattle.state_file.specs.File.{Holds, IsWhole, MayHaveKey, SpellsRecords, beg
 use Rattle.state_file.specs.File.{previous_tag, tag_at, version_of, HasNoKey, HasUnknownVersion, IsDamagedAt}
 use Rattle.state_file.specs.File.{IsNoKeyFile}
 use Rattle.state_file.specs.Disk.{DiskState, settled}
-use Rattle.state_file.specs.Slot.{version_in}
+use Rattle.state_file.specs.Slot.{file_version}
 use Rattle.state_file.specs.declared.disk.Disk as disk
 use Rattle.state_file.specs.declared.file.opening.OpenFault.{OpenFault}
 use Rattle.state_file.specs.declared.file.opening.OpenFault.TheVariants.{NoKey, NotKeyFile, Version as VersionFault}
@@ -99,6 +99,6 @@ ReportsSlot version content slot (Damaged k) = (k ≡ slot) × (IsWhole version 
 ReportsSlot version content slot DeviceFailed = Unit {0}
 
 pub record IsFound (version : Version) (content : List ℕ) (records : List Record) (tag : List ℕ) : Type 0 where
-  pub of_version : version ≡ version_in records
+  pub of_version : version ≡ file_version records
   pub spelled : SpellsRecords content records
   pub last : tag ≡ previous_tag content (length records)

@@ -21,7 +21,7 @@ use Rattle.state_file.specs.declared.record.Version.TheVariants.{One, Two}
 use Rattle.state_file.specs.Slot.{hss_fields, levels_field, lms_fields, pair_field, xmss_fields, bound_fields, byte}
 use Rattle.state_file.specs.Slot.{exactly, extend_fields, fields_of, key_fields, magic, moved_fields, name_field}
 use Rattle.state_file.specs.Slot.{name_most, only_if, retire_fields, secret_fields, slot_record, version_begun}
-use Rattle.state_file.specs.Slot.{version_code, version_field, version_in, versions, zeros, kind_of, scheme_of}
+use Rattle.state_file.specs.Slot.{version_code, version_field, file_version, versions, zeros, kind_of, scheme_of}
 
 -- ---- kinds
 
@@ -212,12 +212,12 @@ key-first version entry fields spelled begins =
     of_kind Moved same = absurd (omega (arith, same))
 
 pub version_first : (records : List Record) (key : Key) → slice_get records 0 ≡ Some (KeyRecord key)
-    → version_in records ≡ key.version
+    → file_version records ≡ key.version
 version_first [] key is = absurd cc
 version_first (entry ∷ rest) key is = ap version_begun (same_Some entry (KeyRecord key) is)
 
 pub spelled_version : (records : List Record) (content : List ℕ) → SpellsRecords content records
-    → version_of (fields_at content 0) ≡ Some (version_in records)
+    → version_of (fields_at content 0) ≡ Some (file_version records)
 spelled_version records content is =
     let first = is.holds 0 (KeyRecord is.first.0) is.first.1 in
-    (key-begins (version_in records) is.first.0 (fields_at content 0) first.spelled).1
+    (key-begins (file_version records) is.first.0 (fields_at content 0) first.spelled).1

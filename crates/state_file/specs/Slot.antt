@@ -29,8 +29,8 @@ only_if test n value = if test then done value else no_record n
 unfoldable pub byte : Layout ℕ
 byte = field 1 (λ bytes. done (big_number 1 bytes))
 
-unfoldable pub byte_within : ℕ → ℕ → Layout ℕ
-byte_within least most = byte >>= λ n. only_if (nat_le least n && nat_le n most) 1 n
+unfoldable pub bounded_byte : ℕ → ℕ → Layout ℕ
+bounded_byte least most = byte >>= λ n. only_if (nat_le least n && nat_le n most) 1 n
 
 unfoldable pub exactly : ℕ → List ℕ → Layout (Unit {0})
 exactly n bytes = block n >>= λ read. only_if (pointwise (λ a b. a == b) read bytes) n tt
@@ -72,7 +72,7 @@ pairs (suc n) = do
 -- the number of levels, 1 to 8, their pairs, and zeros up to the eighth
 unfoldable pub levels_field : Layout (List LmsPair)
 levels_field = do
-  count ← byte_within 1 8
+  count ← bounded_byte 1 8
   levels ← pairs count
   rest ← zeros (64 - 8 * count)
   done levels
@@ -166,7 +166,7 @@ name_most Two = 128
 -- a name of 1 to `most` visible characters: its length, its bytes, and zeros up to `most`
 unfoldable pub name_field : ℕ → Layout (List ℕ)
 name_field most = do
-  count ← byte_within 1 most
+  count ← bounded_byte 1 most
   bytes ← block count
   name ← only_if (are_visible bytes) count bytes
   rest ← zeros (most - count)
@@ -235,9 +235,9 @@ version_begun (Retire upto) = One
 version_begun Moved = One
 
 -- the version of a file of these records, which its Key says; 1 without a Key
-abbrev pub version_in : List Record → Version
-version_in [] = One
-version_in (entry ∷ rest) = version_begun entry
+abbrev pub file_version : List Record → Version
+file_version [] = One
+file_version (entry ∷ rest) = version_begun entry
 
 -- A file of this version can hold the record: a Key has this version, and a name isn't too long.
 abbrev pub FitsVersion : Version → Record → Type 0

@@ -3,7 +3,7 @@ use Rattle.std.specs.Prelude.{◌≡◌, ◌⊎◌, ℕ, ◌+◌, ◌<◌, ◌�
 use Rattle.std.specs.Prelude.{slice_get, Option, Some, None, Result, Ok, Err, if◌then◌else◌}
 use Rattle.state_file.specs.declared.record.Record.{Record}
 use Rattle.state_file.specs.declared.record.Record.TheVariants.{Key as KeyRecord, Extend, Bound, Retire, Moved}
-use Rattle.state_file.specs.Slot.{FitsVersion, version_in}
+use Rattle.state_file.specs.Slot.{FitsVersion, file_version}
 use Rattle.state_file.specs.declared.store.StoreFault.{StoreFault}
 use Rattle.state_file.specs.declared.store.StoreFault.TheVariants.{Stopped, Damaged, DeviceFailed, OutOfMemory, Full}
 
@@ -21,7 +21,7 @@ begins_with_key (entry ∷ entries) = is_key entry
 -- The record can be written after this list: the first is a Key, and a file of its version can hold the others.
 abbrev pub CanFollow : List Record → Record → Type 0
 CanFollow [] entry = is_key entry ≡ true
-CanFollow (first ∷ rest) entry = FitsVersion (version_in (first ∷ rest)) entry
+CanFollow (first ∷ rest) entry = FitsVersion (file_version (first ∷ rest)) entry
 
 -- What holds while a store runs: its device is honest, and no call has failed since it was opened.
 abbrev pub WhileRunning : (honest stopped : Bool) → Type 0 → Type 0

@@ -6,7 +6,7 @@ use Rattle.byteorder.specs.Endian.{big_number}
 use Rattle.typecodes.specs.declared.fault.ReadFault.{ReadFault}
 use Rattle.typecodes.specs.Types.{named}
 use Rattle.typecodes.specs.Layout.{Layout, field, done, ◌>>=◌}
-use Rattle.typecodes.specs.Fields.{block, number, typed, values, values_in}
+use Rattle.typecodes.specs.Fields.{block, number, typed, values, first_values}
 use Rattle.typecodes.specs.Cursor.{and_then, read}
 use Rattle.typecodes.proofs.Read.{read-bind, read-cut, read-fits, read-stands, spelled-read}
 use Rattle.typecodes.proofs.Values.{values-cut, values-fit}
@@ -45,42 +45,42 @@ array_at place bytes all part from end same at found =
     block_read 32 all from part end found ∙ ap₂ (λ p b. take 32 (drop p b)) at same
 
 -- the first values of 32 bytes end with their bytes
-values_in-take : (n : ℕ) (bytes : List ℕ) → values_in n (take (32 * n) bytes) ≡ values_in n bytes
-values_in-take zero bytes = refl
-values_in-take (suc n) bytes =
+first_values-take : (n : ℕ) (bytes : List ℕ) → first_values n (take (32 * n) bytes) ≡ first_values n bytes
+first_values-take zero bytes = refl
+first_values-take (suc n) bytes =
     let size : 32 * suc n ≡ 32 + 32 * n = omega arith in
-    rw (size, take-take 32 (32 + 32 * n) bytes (omega arith), drop-take 32 (32 * n) bytes, values_in-take n (drop 32 bytes)) refl
+    rw (size, take-take 32 (32 + 32 * n) bytes (omega arith), drop-take 32 (32 * n) bytes, first_values-take n (drop 32 bytes)) refl
 
 -- value i of them
-values_in-at : (n : ℕ) (bytes : List ℕ) (i : ℕ) → i < n → get_or (values_in n bytes) i [] ≡ take 32 (drop (32 * i) bytes)
-values_in-at zero bytes i within = absurd (omega arith)
-values_in-at (suc n) bytes zero within = refl
-values_in-at (suc n) bytes (suc i) within =
+first_values-at : (n : ℕ) (bytes : List ℕ) (i : ℕ) → i < n → get_or (first_values n bytes) i [] ≡ take 32 (drop (32 * i) bytes)
+first_values-at zero bytes i within = absurd (omega arith)
+first_values-at (suc n) bytes zero within = refl
+first_values-at (suc n) bytes (suc i) within =
     let size : 32 + 32 * i ≡ 32 * suc i = omega arith in
-    values_in-at n (drop 32 bytes) i (omega arith) ∙ ap (take 32) (drop-drop (32 * i) 32 bytes ∙ ap (λ k. drop k bytes) size)
+    first_values-at n (drop 32 bytes) i (omega arith) ∙ ap (take 32) (drop-drop (32 * i) 32 bytes ∙ ap (λ k. drop k bytes) size)
 
 -- Value i of the values at a place, by its own place.
-pub values_at : (n place : ℕ) (bytes : List ℕ) (vs : List (List ℕ)) (j i : ℕ) → vs ≡ values_in n (drop place bytes) → i < n → j ≡ i
+pub values_at : (n place : ℕ) (bytes : List ℕ) (vs : List (List ℕ)) (j i : ℕ) → vs ≡ first_values n (drop place bytes) → i < n → j ≡ i
     → get_or vs j [] ≡ take 32 (drop (place + 32 * i) bytes)
 values_at n place bytes vs j i vs_are within same =
-    ap₂ (λ vs j. get_or vs j []) vs_are same ∙ values_in-at n (drop place bytes) i within ∙ ap (take 32) (drop-drop (32 * i) place bytes)
+    ap₂ (λ vs j. get_or vs j []) vs_are same ∙ first_values-at n (drop place bytes) i within ∙ ap (take 32) (drop-drop (32 * i) place bytes)
 
 -- values that are read stand at the place, and reading ends after them
 pub values_read : (n : ℕ) (bytes : List ℕ) (place : ℕ) (vs : List (List ℕ)) (end : ℕ) → place ≤ length bytes → read (values n) bytes place ≡ Ok (vs, end)
-    → (vs ≡ values_in n (drop place bytes)) × (end ≡ place + 32 * n)
+    → (vs ≡ first_values n (drop place bytes)) × (end ≡ place + 32 * n)
 values_read n bytes place vs end within found =
     elim (cases_lt (length bytes) (place + 32 * n)) [
       | inl cut ↦ absurd (let e = sym (values-cut n bytes place within cut) ∙ found in cc)
       | inr fits ↦
-          let same : ◌≡◌ {A = List (List ℕ) × ℕ} (values_in n (take (32 * n) (drop place bytes)), place + 32 * n) (vs, end) = let e = sym (values-fit n bytes place fits) ∙ found in cc in
-          (sym (ap (λ x. x.0) same) ∙ values_in-take n (drop place bytes), sym (ap (λ x. x.1) same))
+          let same : ◌≡◌ {A = List (List ℕ) × ℕ} (first_values n (take (32 * n) (drop place bytes)), place + 32 * n) (vs, end) = let e = sym (values-fit n bytes place fits) ∙ found in cc in
+          (sym (ap (λ x. x.0) same) ∙ first_values-take n (drop place bytes), sym (ap (λ x. x.1) same))
     ]
 
 -- values that are read at a place
 pub values_read_at : (n place : ℕ) (bytes all : List ℕ) (vs : List (List ℕ)) (m from end : ℕ) → all ≡ bytes → from ≡ place → m ≡ n → from ≤ length all
-    → read (values m) all from ≡ Ok (vs, end) → vs ≡ values_in n (drop place bytes)
+    → read (values m) all from ≡ Ok (vs, end) → vs ≡ first_values n (drop place bytes)
 values_read_at n place bytes all vs m from end same at count within found =
-    (values_read m all from vs end within found).0 ∙ ap₂ (λ k b. values_in k b) count (ap₂ (λ p b. drop p b) at same)
+    (values_read m all from vs end within found).0 ∙ ap₂ (λ k b. first_values k b) count (ap₂ (λ p b. drop p b) at same)
 
 -- a type that its code named takes no more bytes
 known_read : {T : Type 0} (found : Option T) (bytes : List ℕ) (place : ℕ) (x : T × ℕ) → read (known found) bytes place ≡ Ok x → x.1 ≡ place

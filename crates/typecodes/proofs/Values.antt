@@ -7,13 +7,13 @@ use Rattle.typecodes.specs.declared.fault.Cause.TheVariants.{Truncated}
 use Rattle.typecodes.specs.declared.fault.ReadFault.{ReadFault}
 use Rattle.typecodes.specs.Fault.{fault_at}
 use Rattle.typecodes.specs.Layout.{Layout, done, ◌>>=◌}
-use Rattle.typecodes.specs.Fields.{block, values, values_in}
+use Rattle.typecodes.specs.Fields.{block, values, first_values}
 use Rattle.typecodes.specs.Cursor.{and_then, read, Gives}
 use Rattle.typecodes.proofs.Read.{read-fits, read-cut, read-bind}
 
 -- the first value of a block of them, and the others
-values_in-more : (n place : ℕ) (bytes : List ℕ) → take 32 (drop place bytes) ∷ values_in n (take (32 * n) (drop (place + 32) bytes)) ≡ values_in (suc n) (take (32 * suc n) (drop place bytes))
-values_in-more n place bytes =
+first_values-more : (n place : ℕ) (bytes : List ℕ) → take 32 (drop place bytes) ∷ first_values n (take (32 * n) (drop (place + 32) bytes)) ≡ first_values (suc n) (take (32 * suc n) (drop place bytes))
+first_values-more n place bytes =
     let size : 32 * suc n ≡ 32 + 32 * n = omega arith in
     rw (size, take-take 32 (32 + 32 * n) (drop place bytes) (omega arith), drop-take 32 (32 * n) (drop place bytes), drop-drop 32 place bytes) refl
 
@@ -21,7 +21,7 @@ values_in-more n place bytes =
 abbrev pub more_values : ℕ → List ℕ → Layout (List (List ℕ))
 more_values n first = values n >>= λ rest. done (first ∷ rest)
 
-pub values-fit : (n : ℕ) (bytes : List ℕ) (place : ℕ) → place + 32 * n ≤ length bytes → read (values n) bytes place ≡ Ok (values_in n (take (32 * n) (drop place bytes)), place + 32 * n)
+pub values-fit : (n : ℕ) (bytes : List ℕ) (place : ℕ) → place + 32 * n ≤ length bytes → read (values n) bytes place ≡ Ok (first_values n (take (32 * n) (drop place bytes)), place + 32 * n)
 unfolding values
 values-fit zero bytes place h = ap (λ at. Ok ([], at)) (sym (add-zero place))
 values-fit (suc n) bytes place h =
@@ -32,7 +32,7 @@ values-fit (suc n) bytes place h =
     read-fits 32 (more_values n) bytes place fits
     ∙ read-bind (values n) (λ rest. done (first ∷ rest)) bytes (place + 32)
     ∙ ap (λ rest. and_then rest (λ x. Ok (first ∷ x.0, x.1))) (values-fit n bytes (place + 32) others_fit)
-    ∙ ap₂ (λ all at. Ok (all, at)) (values_in-more n place bytes) end
+    ∙ ap₂ (λ all at. Ok (all, at)) (first_values-more n place bytes) end
 
 -- values that don't all fit are cut at the start of the first that doesn't
 pub values-cut : (n : ℕ) (bytes : List ℕ) (place : ℕ) → place ≤ length bytes → length bytes < place + 32 * n → read (values n) bytes place ≡ Err (fault_at (place + 32 * ((length bytes - place) / 32)) Truncated)

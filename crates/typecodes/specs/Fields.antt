@@ -26,8 +26,8 @@ values (suc n) = do
   done (first ∷ rest)
 
 -- the first n values of 32 bytes in the bytes
-abbrev pub values_in : ℕ → List ℕ → List (List ℕ)
-values_in n bytes = first_chunks 32 n bytes
+abbrev pub first_values : ℕ → List ℕ → List (List ℕ)
+first_values n bytes = first_chunks 32 n bytes
 
 -- a type of a table, by its code in 4 bytes
 abbrev pub typed : {T : Type 0} → (T → ℕ) → List T → Layout T

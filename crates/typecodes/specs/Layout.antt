@@ -23,8 +23,8 @@ abbrev pub ◌>>=◌ : {A B : Type 0} → Layout A → (A → Layout B) → Layo
 (field n rest) >>= next = field n (λ bytes. rest bytes >>= next)
 
 -- the same, under a name that contracts can use
-abbrev pub followed_by : {A B : Type 0} → Layout A → (A → Layout B) → Layout B
-followed_by first next = first >>= next
+abbrev pub sequenced : {A B : Type 0} → Layout A → (A → Layout B) → Layout B
+sequenced first next = first >>= next
 
 -- The bytes spell the value: they are its fields, one after the other, and nothing else.
 abbrev pub Spells : {V : Type 0} → Layout V → V → List ℕ → Type 0

@@ -3,7 +3,7 @@
 
 ghost use Rattle.std.specs.Prelude.{◌≡◌, ◌≤◌, ◌+◌, ◌↔◌, ◌⊎◌, ℕ, List, [], ◌++◌, length, Result, Ok, Err};
 ghost use Rattle.typecodes.specs.declared.fault.ReadFault.{ReadFault};
-ghost use Rattle.typecodes.specs.Layout.{Layout, Spells, HasFault, InTurn, followed_by, OneSpelling, Shows};
+ghost use Rattle.typecodes.specs.Layout.{Layout, Spells, HasFault, InTurn, sequenced, OneSpelling, Shows};
 ghost use Rattle.typecodes.specs.Cursor.{read, read_all, and_then, Gives, Reads, StandsAt};
 
 /// Laws of every layout of values V.
@@ -41,12 +41,12 @@ pub fn layout_laws<V>()
 /// - A reader whose answer, seen as a V, is the answer of reading to the end reads the layout (`reader`).
 pub fn following_laws<V, W>()
     ensures in_turn { (first : Layout V) (next : V → Layout W) (w : W) (bytes : List ℕ) →
-        Spells (followed_by first next) w bytes ↔ InTurn first next w bytes }
+        Spells (sequenced first next) w bytes ↔ InTurn first next w bytes }
     ensures read_on { (first : Layout V) (next : V → Layout W) (bytes : List ℕ) (place : ℕ) →
-        read (followed_by first next) bytes place
+        read (sequenced first next) bytes place
         ≡ and_then (read first bytes place) (λ x. read (next x.0) bytes x.1) }
     ensures one_spelling { (first : Layout V) (next : V → Layout W) (of : W → V) → OneSpelling first →
-        ((v : V) → OneSpelling (next v)) → ((v : V) → Shows (next v) of v) → OneSpelling (followed_by first next) }
+        ((v : V) → OneSpelling (next v)) → ((v : V) → Shows (next v) of v) → OneSpelling (sequenced first next) }
     ensures reader { (layout : Layout V) (view : W → V) (bytes : List ℕ) (result : Result W ReadFault) →
         Gives view result (read_all layout bytes) → Reads layout view bytes result }
 {}

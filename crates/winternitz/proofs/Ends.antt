@@ -4,23 +4,23 @@ use Rattle.std.specs.List.{range_with_len}
 use Rattle.std.proofs.lemmas.Bool.{cases_lt}
 use Rattle.std.proofs.lemmas.List.{get_or-take, length-take-le}
 use Rattle.std.proofs.lemmas.List.FromFn.{length-map-range_with_len, get_or-map-range_with_len, fill_by_all}
-use Rattle.winternitz.specs.Chain.{Steps, AreEnds, end_of, ends_of}
+use Rattle.winternitz.specs.Chain.{Steps, AreEnds, end_at, ends_of}
 use Rattle.winternitz.specs.Lanes.{lanes}
 
 -- the list of the ends is a list of ends
 pub are_ends : (step : Steps) (w : ℕ) (digits : List ℕ) (values : List (List ℕ))
     → AreEnds step w digits values (ends_of step w digits values)
 are_ends step w digits values = record {
-  count = length-map-range_with_len (end_of step w digits values) 0 (length digits);
+  count = length-map-range_with_len (end_at step w digits values) 0 (length digits);
   each = λ i within.
-      get_or-map-range_with_len (end_of step w digits values) 0 (length digits) i i [] within (omega arith);
+      get_or-map-range_with_len (end_at step w digits values) 0 (length digits) i i [] within (omega arith);
 }
 
 -- and no other list is
 pub same_ends : (step : Steps) (w : ℕ) (digits : List ℕ) (values ends : List (List ℕ))
     → AreEnds step w digits values ends → ends ≡ ends_of step w digits values
 same_ends step w digits values ends are =
-    fill_by_all (end_of step w digits values) ends (length digits) [] are.count are.each
+    fill_by_all (end_at step w digits values) ends (length digits) [] are.count are.each
 
 -- the first n values, each its chain's
 pub first_are : (value : ℕ → List ℕ) (n : ℕ) (values : List (List ℕ)) → n ≤ length values

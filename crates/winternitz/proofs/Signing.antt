@@ -4,8 +4,8 @@ use Rattle.std.proofs.Common.{◌≡◌, ◌∙◌, sym, ap, ap₂, subst, ℕ, 
 use Rattle.std.specs.List.{concat, range_with_len}
 use Rattle.std.proofs.lemmas.List.FromFn.{get_or-map-range_with_len, length-map-range_with_len}
 use Rattle.std.proofs.lemmas.List.{length-take-le}
-use Rattle.typecodes.specs.Fields.{values_in}
-use Rattle.winternitz.specs.Chain.{Steps, walk, walk_on, AreEnds, end_of, ends_of}
+use Rattle.typecodes.specs.Fields.{first_values}
+use Rattle.winternitz.specs.Chain.{Steps, walk, walk_steps, AreEnds, end_at, ends_of}
 use Rattle.winternitz.specs.Digest.{digit_count, digits_of}
 use Rattle.winternitz.proofs.Concatenated.{chunks_of_concat}
 use Rattle.winternitz.proofs.Ends.{first_are, first_at}
@@ -39,10 +39,10 @@ signed_climbs step start w n digest all =
 
 -- along its chain a value keeps 32 bytes
 walked_size : (step : Steps) (c a n : ℕ) (v : List ℕ) → ((i j : ℕ) (v : List ℕ) → length (step i j v) ≡ 32) → length v ≡ 32
-    → length (walk_on step c a n v) ≡ 32
-unfolding walk_on
+    → length (walk_steps step c a n v) ≡ 32
+unfolding walk_steps
 walked_size step c a zero v steps size = size
-walked_size step c a (suc n) v steps size = steps c (a + n) (walk_on step c a n v)
+walked_size step c a (suc n) v steps size = steps c (a + n) (walk_steps step c a n v)
 
 -- so do the values of a signature
 pub signed_sizes : (step : Steps) (start : ℕ → List ℕ) (digits : List ℕ) (n : ℕ)
@@ -57,14 +57,14 @@ signed_sizes step start digits n steps starts i within =
 pub bytes_climb : (step : Steps) (start : ℕ → List ℕ) (w n : ℕ) (digest bytes : List ℕ) → n ≡ digit_count w
     → ((i j : ℕ) (v : List ℕ) → length (step i j v) ≡ 32) → ((i : ℕ) → length (start i) ≡ 32)
     → bytes ≡ concat (signed step start (digits_of w digest) n)
-    → AreEnds step w (digits_of w digest) (values_in n bytes) (ends step start w n)
+    → AreEnds step w (digits_of w digest) (first_values n bytes) (ends step start w n)
 bytes_climb step start w n digest bytes all steps starts are =
     let digits = digits_of w digest in
     let value = λ (i : ℕ). walk step i 0 (get_or digits i 0) (start i) in
     let values = signed step start digits n in
     let sizes = signed_sizes step start digits n steps starts in
-    let contained : values_in n bytes ≡ values =
-    ap (values_in n) are ∙ chunks_of_concat n values (length-map-range_with_len value 0 n) sizes in
+    let contained : first_values n bytes ≡ values =
+    ap (first_values n) are ∙ chunks_of_concat n values (length-map-range_with_len value 0 n) sizes in
     subst (λ vs. AreEnds step w digits vs (ends step start w n)) (sym contained) (signed_climbs step start w n digest all)
 
 -- ---- what climbing all chains gives
@@ -87,7 +87,7 @@ pub ends_are : (step : Steps) (w last : ℕ) (read digits : List ℕ) (values en
     → ((i : ℕ) → i < length values → get_or ends i [] ≡ walk step i (get_or read i 0) last (get_or values i []))
     → take (length values) ends ≡ ends_of step w digits values
 ends_are step w last read digits values ends count room digits_are last_is climbed =
-    first_are (end_of step w read values) (length values) ends room
+    first_are (end_at step w read values) (length values) ends room
     (λ i within. climbed i within ∙ ap (λ last. walk step i (get_or read i 0) last (get_or values i [])) last_is)
-    ∙ ap (λ n. map (end_of step w read values) (range_with_len 0 n)) count
+    ∙ ap (λ n. map (end_at step w read values) (range_with_len 0 n)) count
     ∙ ap (λ digits. ends_of step w digits values) digits_are

@@ -2,7 +2,7 @@
 use Rattle.std.proofs.Common.{◌≡◌, ◌∙◌, ℕ, ◌<◌, ◌≤◌, List, [], length, set, take, slice_index, slice_index_or, arith, ap, sym, inl, inr}
 use Rattle.std.proofs.lemmas.Bool.{cases_eq}
 use Rattle.std.proofs.lemmas.List.{get_or-set_other, get_or-set_same, get_or-take}
-use Rattle.winternitz.specs.Chain.{Steps, walk, walk_of}
+use Rattle.winternitz.specs.Chain.{Steps, walk, walk_at}
 use Rattle.winternitz.specs.Groups.{IsOnItsWay}
 use Rattle.winternitz.proofs.Walks.{walk-walk, walk_none}
 
@@ -27,8 +27,8 @@ way_begun_of step from at to values ends n i low place value order =
 
 -- where the rest of its way is climbed, it is at its end
 pub way_finished : (step : Steps) (from at to : List ℕ) (values ends : List (List ℕ)) (n i : ℕ) (end : List ℕ) → i < n
-    → IsOnItsWay step from at (take n to) values ends i → end ≡ walk_of step at (take n to) ends i
-    → end ≡ walk_of step from to values i
+    → IsOnItsWay step from at (take n to) values ends i → end ≡ walk_at step at (take n to) ends i
+    → end ≡ walk_at step from to values i
 way_finished step from at to values ends n i end low way rest =
     let begun = way.begun in
     let within = way.within in

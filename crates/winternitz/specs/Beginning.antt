@@ -5,13 +5,13 @@ use Rattle.winternitz.specs.Lanes.{lane, lanes}
 use Rattle.winternitz.specs.declared.lanes.beginning.Beginning.{Beginning}
 
 -- its words, side by side
-abbrev pub words_in : Beginning → List (List ℕ)
-words_in b = b.word0 ∷ b.word1 ∷ b.word2 ∷ b.word3 ∷ b.word4 ∷ []
+abbrev pub all_words : Beginning → List (List ℕ)
+all_words b = b.word0 ∷ b.word1 ∷ b.word2 ∷ b.word3 ∷ b.word4 ∷ []
 
 -- the first 20 bytes of the messages in lane j
-abbrev pub first_in : Beginning → ℕ → List ℕ
-first_in beginning j = digest_bytes (lane j (words_in beginning)) 5
+abbrev pub first_bytes_at : Beginning → ℕ → List ℕ
+first_bytes_at beginning j = digest_bytes (lane j (all_words beginning)) 5
 
 -- the messages of each lane begin with these bytes
 abbrev pub BeginsWith : Beginning → (ℕ → List ℕ) → Type 0
-BeginsWith beginning first = (j : ℕ) → j < lanes → first_in beginning j ≡ first j
+BeginsWith beginning first = (j : ℕ) → j < lanes → first_bytes_at beginning j ≡ first j

@@ -7,27 +7,27 @@ abbrev pub Steps : Type 0
 Steps = ℕ → ℕ → List ℕ → List ℕ
 
 -- v after the n steps a, a + 1, .. of chain c, one after the other
-unfoldable pub walk_on : Steps → ℕ → ℕ → ℕ → List ℕ → List ℕ
-walk_on step c a zero v = v
-walk_on step c a (suc n) v = step c (a + n) (walk_on step c a n v)
+unfoldable pub walk_steps : Steps → ℕ → ℕ → ℕ → List ℕ → List ℕ
+walk_steps step c a zero v = v
+walk_steps step c a (suc n) v = step c (a + n) (walk_steps step c a n v)
 
 -- v after the steps a, .., b - 1 of chain c
 abbrev pub walk : Steps → ℕ → ℕ → ℕ → List ℕ → List ℕ
-walk step c a b v = walk_on step c a (b - a) v
+walk step c a b v = walk_steps step c a (b - a) v
 
 -- chain i's value, walked by the chain's own steps
-abbrev pub walk_of : Steps → List ℕ → List ℕ → List (List ℕ) → ℕ → List ℕ
-walk_of step from to values i = walk step i (slice_index from i) (slice_index to i) (slice_index_or values i [])
+abbrev pub walk_at : Steps → List ℕ → List ℕ → List (List ℕ) → ℕ → List ℕ
+walk_at step from to values i = walk step i (slice_index from i) (slice_index to i) (slice_index_or values i [])
 
 -- chain i's value, walked from the chain's digit to its end
-abbrev pub end_of : Steps → ℕ → List ℕ → List (List ℕ) → ℕ → List ℕ
-end_of step w digits values i = walk step i (slice_index digits i) (2 ^ w - 1) (slice_index_or values i [])
+abbrev pub end_at : Steps → ℕ → List ℕ → List (List ℕ) → ℕ → List ℕ
+end_at step w digits values i = walk step i (slice_index digits i) (2 ^ w - 1) (slice_index_or values i [])
 
 -- a list of the ends of all chains
 pub record AreEnds (step : Steps) (w : ℕ) (digits : List ℕ) (values ends : List (List ℕ)) : Type 0 where
   pub count : length ends ≡ length digits
-  pub each : (i : ℕ) → i < length digits → slice_index_or ends i [] ≡ end_of step w digits values i
+  pub each : (i : ℕ) → i < length digits → slice_index_or ends i [] ≡ end_at step w digits values i
 
 -- the ends, one for each digit
 abbrev pub ends_of : Steps → ℕ → List ℕ → List (List ℕ) → List (List ℕ)
-ends_of step w digits values = map (end_of step w digits values) (range_with_len 0 (length digits))
+ends_of step w digits values = map (end_at step w digits values) (range_with_len 0 (length digits))

@@ -23,8 +23,8 @@ lane_state x j =
     ∷ lane_at x 4 j ∷ lane_at x 5 j ∷ lane_at x 6 j ∷ lane_at x 7 j ∷ []
 
 -- the bytes of the hash value in lane j
-abbrev pub value_in : List (List ℕ) → ℕ → List ℕ
-value_in x j = digest_bytes (lane_state x j) 8
+abbrev pub value_at : List (List ℕ) → ℕ → List ℕ
+value_at x j = digest_bytes (lane_state x j) 8
 
 -- the four bytes of a list at byte i
 abbrev pub four_bytes : List ℕ → ℕ → List ℕ

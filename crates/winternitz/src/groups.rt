@@ -1,7 +1,7 @@
 //! All chains of a key, climbed side by side.
 
 ghost use Rattle.std.specs.Prelude.{◌≡◌, ◌≤◌, ◌<◌, ◌+◌, ℕ, List, [], length, slice_index, slice_index_or};
-ghost use Rattle.winternitz.specs.Chain.{walk, walk_of};
+ghost use Rattle.winternitz.specs.Chain.{walk, walk_at};
 ghost use Rattle.winternitz.specs.Groups.{IsOnItsWay, IsWithin};
 ghost use Rattle.winternitz.specs.Lanes.{lanes};
 
@@ -62,7 +62,7 @@ pub(crate) fn climb_each<S: Step>(step: &S, from: &[u8], to: &[u8], values: &[[u
     requires to { length values.now ≤ length to.now }
     requires order { (i : ℕ) → i < length values.now → slice_index from.now i ≤ slice_index to.now i }
     ensures { (i : ℕ) → i < length values.now
-        → slice_index_or result i [] ≡ walk_of (S.step_of step.now) from.now to.now values.now i }
+        → slice_index_or result i [] ≡ walk_at (S.step_of step.now) from.now to.now values.now i }
 {
     let count = values.len();
     let mut at = padded_places(&from[..count]);
@@ -145,7 +145,7 @@ fn finish_each<S: Step>(step: &S, to: &[u8], at: &[u8; MOST_CHAINS], ends: &mut 
     requires at_most_265 { length to.now ≤ 265 }
     requires order { (i : ℕ) → i < length to.now → slice_index at.now i ≤ slice_index to.now i }
     ensures { (i : ℕ) → i < length to.now
-        → slice_index_or ends.new i [] ≡ walk_of (S.step_of step.now) at.now to.now ends.old i }
+        → slice_index_or ends.new i [] ≡ walk_at (S.step_of step.now) at.now to.now ends.old i }
 {
     for i in 0..to.len() {
         ends[i] = climb(step, i as u16, at[i], to[i], &ends[i]);

@@ -5,7 +5,7 @@ ghost use Rattle.std.specs.Prelude.{slice_index, slice_index_or};
 ghost use Rattle.std.specs.Int.{w32, to_be_bytes};
 ghost use Rattle.sha2.specs.Sha256 as spec;
 ghost use Rattle.sha2.specs.Sha256.{digest_bytes, initial_hash_256, padding, sha256, word_at};
-ghost use Rattle.winternitz.specs.Lanes.{four_bytes, lanes, lane_state, value_in};
+ghost use Rattle.winternitz.specs.Lanes.{four_bytes, lanes, lane_state, value_at};
 
 use crate::lanes::constants::INITIAL;
 use crate::lanes::rounds::compress_words;
@@ -98,7 +98,7 @@ pub(crate) fn word(bytes: &[u8], i: usize) -> u32
 
 /// The bytes of the hash values.
 pub fn digests(states: &States) -> [[u8; 32]; LANES]
-    ensures { (j : ℕ) → j < lanes → slice_index_or result j [] ≡ value_in states.now j }
+    ensures { (j : ℕ) → j < lanes → slice_index_or result j [] ≡ value_at states.now j }
 {
     let mut digests = [[0; 32]; LANES];
     for lane in 0..LANES {
@@ -119,7 +119,7 @@ fn digest(state: &[u32; 8]) -> [u8; 32]
 
 /// The words of each lane's value of 32 bytes.
 pub fn in_words(values: &[[u8; 32]; LANES]) -> States
-    ensures { (j : ℕ) → j < lanes → value_in result j ≡ slice_index_or values.now j [] }
+    ensures { (j : ℕ) → j < lanes → value_at result j ≡ slice_index_or values.now j [] }
 {
     let mut words = [[0; 8]; LANES];
     for lane in 0..LANES {

@@ -2,7 +2,7 @@
 use Rattle.std.proofs.Common.{◌≡◌, refl, ℕ, ◌<◌, List, [], length, get_or}
 use Rattle.std.specs.List.{concat}
 use Rattle.sha2.proofs.Facts256.{length-sha256}
-use Rattle.typecodes.specs.Fields.{values_in}
+use Rattle.typecodes.specs.Fields.{first_values}
 use Rattle.winternitz.specs.Digest.{digits_of}
 use Rattle.winternitz.proofs.Signing as chains
 use Rattle.wots_plus.specs.Key.{ClimbTo, ends_of_secret, private_value, signed_values, step_of}
@@ -19,7 +19,7 @@ signed_sizes seed leaf secret digest =
     (λ i j v. length-sha256 _) (λ i. length-sha256 _)
 
 pub bytes_climb : (seed : List ℕ) (leaf : ℕ) (secret digest bytes : List ℕ) → bytes ≡ concat (signed_values seed leaf secret digest)
-    → ClimbTo seed leaf digest (values_in 67 bytes) (ends_of_secret seed leaf secret)
+    → ClimbTo seed leaf digest (first_values 67 bytes) (ends_of_secret seed leaf secret)
 bytes_climb seed leaf secret digest bytes are =
     chains.bytes_climb (step_of seed leaf) (private_value seed leaf secret) 4 67 digest bytes
     refl (λ i j v. length-sha256 _) (λ i. length-sha256 _) are

@@ -4,9 +4,9 @@ ghost use Rattle.std.specs.Prelude.{◌≡◌, ◌<◌, ◌≤◌, ℕ, ◌+◌,
 ghost use Rattle.std.specs.Prelude.{slice_index, slice_index_or, take};
 ghost use Rattle.std.specs.List.{concat};
 ghost use Rattle.sha2.specs.Sha256.{compress, initial_hash_256};
-ghost use Rattle.typecodes.specs.Fields.{values_in};
+ghost use Rattle.typecodes.specs.Fields.{first_values};
 ghost use Rattle.typecodes.specs.Types.{wots_chains};
-ghost use Rattle.winternitz.specs.Chain.{end_of};
+ghost use Rattle.winternitz.specs.Chain.{end_at};
 ghost use Rattle.winternitz.specs.Lanes.{lanes, lane_state};
 ghost use Rattle.wots_plus.specs.Address.{one_time};
 ghost use Rattle.wots_plus.specs.Hashes.{to_byte};
@@ -184,7 +184,7 @@ impl Wots<'_> {
         requires { length into.old ≡ 32 * wots_chains }
         ensures value { into.new ≡ concat (signed_values self.now.seed.now.key self.now.leaf secret.now digest.now) }
         ensures climbs { ClimbTo self.now.seed.now.key self.now.leaf digest.now
-            (values_in wots_chains into.new) (ends_of_secret self.now.seed.now.key self.now.leaf secret.now) }
+            (first_values wots_chains into.new) (ends_of_secret self.now.seed.now.key self.now.leaf secret.now) }
     {
         let starts = self.private_values(secret);
         let values = climb_to(self, &digits(WIDTH, digest), &starts[..WOTS_CHAINS]);
@@ -242,7 +242,7 @@ impl Wots<'_> {
         requires digits_at_most_15 { (i : ℕ) → i < wots_chains → slice_index digits.now i ≤ 15 }
         ensures keeps_length { length ends.new ≡ wots_chains }
         ensures each { (i : ℕ) → i < wots_chains → slice_index_or ends.new i []
-            ≡ end_of (step_of self.now.seed.now.key self.now.leaf) 4 digits.now values.now i }
+            ≡ end_at (step_of self.now.seed.now.key self.now.leaf) 4 digits.now values.now i }
     {
         for chain in 0..WOTS_CHAINS {
             ends[chain] = climb(self, chain as u16, digits[chain], STEPS, &values[chain]);

@@ -5,12 +5,12 @@ use Rattle.std.proofs.lemmas.List.FromFn.{get_or-map-range_with_len, length-map-
 use Rattle.sha2.proofs.Facts256.{length-sha256}
 use Rattle.typecodes.specs.Types.{xmss_height_of}
 use Rattle.typecodes.specs.Layout.{Spells}
-use Rattle.winternitz.specs.Chain.{Steps, walk_on}
+use Rattle.winternitz.specs.Chain.{Steps, walk_steps}
 use Rattle.merkle.specs.Tree.{node, sibling}
 use Rattle.wots_plus.specs.LTree.{LTreeJoins, at_height, l_tree_join, next_height}
 use Rattle.wots_plus.specs.Key.{chain_value, ends_of_secret, private_value, public_hash, step_of}
 use Rattle.typecodes.specs.declared.secret.XmssSecret.{XmssSecret}
-use Rattle.xmss.specs.Secret.{joins_of, leaves_of, path_in}
+use Rattle.xmss.specs.Secret.{joins_of, leaves_of, leaf_path}
 use Rattle.xmss.specs.Signature.{signature}
 use Rattle.xmss.specs.Writing.{signature_bytes, textbook}
 use Rattle.xmss.proofs.SigningBytes.{signed_spelled}
@@ -57,10 +57,10 @@ long_first (first ∷ rest) some are = are.0
 
 -- a walk ends in 32 bytes
 walk_size : (step : Steps) (c a n : ℕ) (value : List ℕ) → ((i j : ℕ) (v : List ℕ) → length (step i j v) ≡ 32) → length value ≡ 32
-    → length (walk_on step c a n value) ≡ 32
-unfolding walk_on
+    → length (walk_steps step c a n value) ≡ 32
+unfolding walk_steps
 walk_size step c a zero value each size = size
-walk_size step c a (suc n) value each size = each c (a + n) (walk_on step c a n value)
+walk_size step c a (suc n) value each size = each c (a + n) (walk_steps step c a n value)
 
 root_size : (join : LTreeJoins) (values : List (List ℕ)) (k : ℕ) → ((h n : ℕ) (a b : List ℕ) → length (join h n a b) ≡ 32) → 0 < length values → AreLong values
     → length (get_or (at_height join values k) 0 []) ≡ 32
@@ -81,7 +81,7 @@ unfolding node
 node_size secret zero j = leaf_size secret.public_seed j secret.secret_seed
 node_size secret (suc k) j = length-sha256 _
 
-path_size : (secret : XmssSecret) (q i : ℕ) → i < xmss_height_of secret.tree → length (get_or (path_in secret q) i []) ≡ 32
+path_size : (secret : XmssSecret) (q i : ℕ) → i < xmss_height_of secret.tree → length (get_or (leaf_path secret q) i []) ≡ 32
 path_size secret q i inside =
     let node_at : ℕ → List ℕ = λ k. node (leaves_of secret) (joins_of secret) k (sibling (q / 2 ^ k)) in
     ap length (get_or-map-range_with_len node_at 0 (xmss_height_of secret.tree) i i [] inside (omega arith)) ∙ node_size secret i (sibling (q / 2 ^ i))
@@ -89,4 +89,4 @@ path_size secret q i inside =
 pub textbook_spelled : (secret : XmssSecret) (q : ℕ) (digest : List ℕ) → q < 2 ^ xmss_height_of secret.tree
     → Spells (signature secret.tree) (textbook secret q digest) (signature_bytes (textbook secret q digest))
 textbook_spelled secret q digest inside =
-    signed_spelled secret q digest (path_in secret q) inside (length-map-range_with_len _ 0 (xmss_height_of secret.tree)) (path_size secret q)
+    signed_spelled secret q digest (leaf_path secret q) inside (length-map-range_with_len _ 0 (xmss_height_of secret.tree)) (path_size secret q)

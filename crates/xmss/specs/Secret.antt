@@ -21,26 +21,26 @@ leaves_of secret index =
 abbrev pub joins_of : XmssSecret → Joins
 joins_of secret = join_of secret.public_seed
 
-abbrev pub root_in : XmssSecret → List ℕ
-root_in secret = root_of (leaves_of secret) (joins_of secret) (xmss_height_of secret.tree)
+abbrev pub root_of_secret : XmssSecret → List ℕ
+root_of_secret secret = root_of (leaves_of secret) (joins_of secret) (xmss_height_of secret.tree)
 
 -- the public key of a secret's tree with this root, whether or not the root is the tree's
-abbrev pub public_with : XmssSecret → (root : List ℕ) → XmssPublic
-public_with secret root = record { tree = secret.tree; root = root; seed = secret.public_seed }
+abbrev pub rooted_public : XmssSecret → (root : List ℕ) → XmssPublic
+rooted_public secret root = record { tree = secret.tree; root = root; seed = secret.public_seed }
 
 abbrev pub public_of : XmssSecret → XmssPublic
-public_of secret = public_with secret (root_in secret)
+public_of secret = rooted_public secret (root_of_secret secret)
 
-abbrev pub path_in : XmssSecret → ℕ → List (List ℕ)
-path_in secret index = path_of (leaves_of secret) (joins_of secret) (xmss_height_of secret.tree) index
+abbrev pub leaf_path : XmssSecret → ℕ → List (List ℕ)
+leaf_path secret index = path_of (leaves_of secret) (joins_of secret) (xmss_height_of secret.tree) index
 
 -- r = PRF(SK_PRF, toByte(idx, 32)) (4.1.9)
 abbrev pub randomizer_of : List ℕ → ℕ → List ℕ
 randomizer_of prf_key index = prf prf_key (index_bytes index)
 
 -- M', the digest of a message that a leaf signs
-abbrev pub digest_in : XmssSecret → List ℕ → ℕ → List ℕ → List ℕ
-digest_in secret root index message = message_digest_of (randomizer_of secret.prf_key index) root index message
+abbrev pub digest_at : XmssSecret → List ℕ → ℕ → List ℕ → List ℕ
+digest_at secret root index message = message_digest_of (randomizer_of secret.prf_key index) root index message
 
 abbrev pub secret_of : XmssTree → XmssSecret
 secret_of tree = tree.secret

@@ -4,7 +4,7 @@ use Rattle.typecodes.specs.declared.fault.Cause.TheVariants.{LeafOutOfRange}
 use Rattle.typecodes.specs.declared.types.XmssType.{XmssType}
 use Rattle.typecodes.specs.Types.{wots_chains, xmss_height_of}
 use Rattle.typecodes.specs.Layout.{Layout, done, refuse, ◌>>=◌}
-use Rattle.typecodes.specs.Fields.{number, block, values, values_in}
+use Rattle.typecodes.specs.Fields.{number, block, values, first_values}
 
 -- a signature: idx, r, a value for each chain, and the authentication path
 pub record Signature : Type 0 where
@@ -14,8 +14,8 @@ pub record Signature : Type 0 where
   pub path : List (List ℕ)
 
 -- the values of all chains, 32 bytes each (3.1.1)
-unfoldable pub chains_in : List ℕ → List (List ℕ)
-chains_in bytes = values_in wots_chains bytes
+unfoldable pub chain_values : List ℕ → List (List ℕ)
+chain_values bytes = first_values wots_chains bytes
 
 -- A leaf's index in a tree of height h. Any other index is a fault at its own place.
 unfoldable pub leaf_index : ℕ → Layout ℕ
@@ -33,6 +33,6 @@ signature tree = do
   done (record { index = index; randomizer = randomizer; chains = chains; path = path })
 
 -- what a view shows: a signature of these parts
-abbrev pub signature_with : ℕ → List ℕ → List (List ℕ) → List (List ℕ) → Signature
-signature_with index randomizer chains path =
+abbrev pub whole_signature : ℕ → List ℕ → List (List ℕ) → List (List ℕ) → Signature
+whole_signature index randomizer chains path =
     record { index = index; randomizer = randomizer; chains = chains; path = path }

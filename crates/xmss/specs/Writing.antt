@@ -6,7 +6,7 @@ use Rattle.wots_plus.specs.Hashes.{to_byte}
 use Rattle.wots_plus.specs.Key.{signed_values}
 use Rattle.xmss.specs.declared.key.XmssPublic.{XmssPublic}
 use Rattle.typecodes.specs.declared.secret.XmssSecret.{XmssSecret}
-use Rattle.xmss.specs.Secret.{path_in, randomizer_of}
+use Rattle.xmss.specs.Secret.{leaf_path, randomizer_of}
 use Rattle.xmss.specs.Signature.{Signature}
 
 -- a leaf's signature of the digest M', with any path
@@ -17,7 +17,7 @@ signed secret index digest path =
 
 -- the textbook signature, with the leaf's own path
 abbrev pub textbook : XmssSecret → ℕ → List ℕ → Signature
-textbook secret index digest = signed secret index digest (path_in secret index)
+textbook secret index digest = signed secret index digest (leaf_path secret index)
 
 -- the bytes of a signature (4.1.8)
 abbrev pub signature_bytes : Signature → List ℕ

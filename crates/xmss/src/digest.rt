@@ -4,7 +4,7 @@ ghost use Rattle.std.specs.Prelude.{◌≡◌, ◌++◌};
 ghost use Rattle.typecodes.specs.Message.{Digests};
 ghost use Rattle.xmss.specs.Digest as spec;
 ghost use Rattle.xmss.specs.Digest.{message_digest_of, message_prefix_of};
-ghost use Rattle.xmss.specs.Secret.{digest_in, randomizer_of};
+ghost use Rattle.xmss.specs.Secret.{digest_at, randomizer_of};
 
 use typecodes::{Message, MessageFailed, XmssSecret, put};
 use wots_plus::{Prf, hash_message, hash_message_from};
@@ -42,7 +42,7 @@ pub fn randomizer(secret: &XmssSecret, leaf: u32) -> [u8; 32]
 
 /// M' of a message that this secret signs (RFC 8391 4.1.9): `message_digest` with the leaf's own randomizer.
 pub fn digest_to_sign(secret: &XmssSecret, root: &[u8; 32], leaf: u32, message: &[u8]) -> [u8; 32]
-    ensures { result ≡ digest_in secret.now root.now leaf message.now }
+    ensures { result ≡ digest_at secret.now root.now leaf message.now }
 {
     message_digest(&randomizer(secret, leaf), root, leaf, message)
 }

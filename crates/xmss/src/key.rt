@@ -18,11 +18,11 @@ pub struct XmssPublic {
 
 impl XmssPublic {
     ghost use Rattle.xmss.specs.Key.{public_key};
-    ghost use Rattle.xmss.specs.Secret.{public_with};
+    ghost use Rattle.xmss.specs.Secret.{rooted_public};
 
     /// The public key of a secret's tree. The root, 32 bytes, is taken as it is given.
     pub fn of(secret: &XmssSecret, root: [u8; 32]) -> Self
-        ensures { result ≡ public_with secret.now root }
+        ensures { result ≡ rooted_public secret.now root }
     {
         XmssPublic {
             tree: secret.tree,

@@ -4,11 +4,11 @@ ghost use Rattle.std.specs.Prelude.{◌≡◌, ◌+◌, ◌*◌, ◌<◌, ◌^�
 ghost use Rattle.std.specs.Prelude.{[], length, take, drop, slice_index_or};
 ghost use Rattle.byteorder.specs.Endian.{big_number};
 ghost use Rattle.typecodes.specs.Layout.{Spells};
-ghost use Rattle.typecodes.specs.Fields.{values_in};
+ghost use Rattle.typecodes.specs.Fields.{first_values};
 ghost use Rattle.typecodes.specs.Cursor.{Gives, Passes, Reads, read};
 ghost use Rattle.typecodes.specs.Types.{wots_chains, xmss_height_of, xmss_signature_len_of};
 ghost use Rattle.xmss.specs.Signature as spec;
-ghost use Rattle.xmss.specs.Signature.{chains_in, signature, signature_with};
+ghost use Rattle.xmss.specs.Signature.{chain_values, signature, whole_signature};
 
 use typecodes::{Cause, Cursor, ReadFault, WOTS_CHAINS, XmssType};
 
@@ -25,12 +25,12 @@ pub struct XmssSigView<'a> {
     ghost chain_count: { length chains.now ≡ wots_chains },
     ghost path_length: { length path.now ≡ xmss_height_of tree },
     ghost spelled: { read (signature tree) bytes.now 0
-        ≡ Ok (signature_with index randomizer.now chains.now path.now, length bytes.now) },
+        ≡ Ok (whole_signature index randomizer.now chains.now path.now, length bytes.now) },
     ghost size: { length bytes.now ≡ xmss_signature_len_of tree },
     ghost index_at: { index ≡ big_number 4 (take 4 bytes.now) },
     ghost randomizer_at: { randomizer.now ≡ take 32 (drop 4 bytes.now) },
-    ghost chains_at: { chains.now ≡ chains_in (drop 36 bytes.now) },
-    ghost path_at: { path.now ≡ values_in (xmss_height_of tree) (drop 2180 bytes.now) },
+    ghost chains_at: { chains.now ≡ chain_values (drop 36 bytes.now) },
+    ghost path_at: { path.now ≡ first_values (xmss_height_of tree) (drop 2180 bytes.now) },
 }
 
 impl<'a> XmssSigView<'a> {

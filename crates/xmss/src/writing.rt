@@ -5,7 +5,7 @@ ghost use Rattle.typecodes.specs.Layout.{Spells};
 ghost use Rattle.typecodes.specs.Types.{xmss_height_of, xmss_signature_len_of};
 ghost use Rattle.xmss.specs.Key.{public_key};
 ghost use Rattle.xmss.specs.Signature.{signature};
-ghost use Rattle.xmss.specs.Secret.{digest_in, path_in, public_of, randomizer_of, root_in};
+ghost use Rattle.xmss.specs.Secret.{digest_at, leaf_path, public_of, randomizer_of, root_of_secret};
 ghost use Rattle.xmss.specs.Writing.{public_bytes, signature_bytes, signed, textbook};
 ghost use Rattle.xmss.specs.Verification.{IsValid};
 
@@ -53,12 +53,12 @@ pub fn write_signature(
     ensures bytes { into.new ≡ signature_bytes (signed secret.now leaf digest.now path.now) }
     ensures spells { Spells (signature secret.now.tree) (signed secret.now leaf digest.now path.now) into.new }
     // With the leaf's own path it is the textbook signature.
-    ensures textbook { path.now ≡ path_in secret.now leaf →
+    ensures textbook { path.now ≡ leaf_path secret.now leaf →
         into.new ≡ signature_bytes (textbook secret.now leaf digest.now) }
     // With the leaf's own path and the digest of a message, it is valid for the message.
     ensures valid { (message : List ℕ) →
-        digest.now ≡ digest_in secret.now (root_in secret.now) leaf message →
-        path.now ≡ path_in secret.now leaf →
+        digest.now ≡ digest_at secret.now (root_of_secret secret.now) leaf message →
+        path.now ≡ leaf_path secret.now leaf →
         IsValid (public_of secret.now) message (signed secret.now leaf digest.now path.now) }
 {
     let offset = put(into, 0, &leaf.to_be_bytes());

@@ -61,15 +61,15 @@ conflict_of_use None digest = None
 conflict_of_use (Some first) digest =
     if first.one_digest && are_same first.digest digest then None else Some first.place
 
-abbrev pub conflict_in : ByText FirstUse → LeafUse → Option ℕ
-conflict_in entries used = conflict_of_use (of_text entries used.leaf) used.digest
+abbrev pub conflict_at : ByText FirstUse → LeafUse → Option ℕ
+conflict_at entries used = conflict_of_use (of_text entries used.leaf) used.digest
 
 -- The least such place for a list of uses, or none.
 abbrev pub IsFirstConflict : ByText FirstUse → List LeafUse → Option ℕ → Type 0
-IsFirstConflict entries uses None = (used : LeafUse) → Contains uses used → conflict_in entries used ≡ None
+IsFirstConflict entries uses None = (used : LeafUse) → Contains uses used → conflict_at entries used ≡ None
 IsFirstConflict entries uses (Some i) =
-    ((used : LeafUse) × Contains uses used × (conflict_in entries used ≡ Some i))
-    × ((used : LeafUse) (k : ℕ) → Contains uses used → conflict_in entries used ≡ Some k → i ≤ k)
+    ((used : LeafUse) × Contains uses used × (conflict_at entries used ≡ Some i))
+    × ((used : LeafUse) (k : ℕ) → Contains uses used → conflict_at entries used ≡ Some k → i ≤ k)
 
 -- the lesser of two places
 abbrev pub min_some : Option ℕ → Option ℕ → Option ℕ

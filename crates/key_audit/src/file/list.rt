@@ -1,7 +1,7 @@
 //! The listing of a state file: its types, and what its key has signed.
 
 ghost use Rattle.std.specs.Prelude.{◌≡◌, ◌<◌, IfErr, IfOk, length, map, option_map};
-ghost use Rattle.sign_core.specs.Records.{key_in};
+ghost use Rattle.sign_core.specs.Records.{the_key};
 ghost use Rattle.key_audit.specs.Listing.{Lists, entry_of, types_of};
 ghost use Rattle.key_audit.specs.inner.Listing.{ListsRecords};
 
@@ -24,7 +24,7 @@ fn types_of(secret: &Secret) -> Spec
 
 // The key, with which legal records begin.
 fn key_of(records: &[Record]) -> Option<&Key>
-    ensures { option_map (λ key. key.now) result ≡ key_in records.now }
+    ensures { option_map (λ key. key.now) result ≡ the_key records.now }
 {
     match records {
         [Record::Key(key), ..] => Some(key),

@@ -13,21 +13,21 @@ use Rattle.sign_core.specs.declared.fault.SignFault.{SignFault}
 use Rattle.sign_core.specs.declared.fault.SignFault.TheVariants.{Changed, Exhausted, RandomFailed, RandomRepeated}
 use Rattle.sign_core.specs.declared.fault.SignFault.TheVariants.{Stopped, OutOfMemory, LedgerFull}
 use Rattle.sign_core.specs.declared.fault.SignFault.TheVariants.{Damaged, Moved, RetireRange, KeyThere}
-use Rattle.sign_core.specs.Records.{are_same, binding_in, has_identifier, has_moved, key_in}
+use Rattle.sign_core.specs.Records.{are_same, binding_at, has_identifier, has_moved, the_key}
 use Rattle.sign_core.specs.Records.{leaves_of_current, next_at, wanted_count}
-use Rattle.sign_core.specs.Textbook.{Trees, damaged_in, digest_at, lms_secret, public_in, public_of_key}
-use Rattle.sign_core.specs.Textbook.{signature_at, tree_before}
+use Rattle.sign_core.specs.Textbook.{Trees, damaged_at, digest_at, lms_secret, any_public_of, public_of_key}
+use Rattle.sign_core.specs.Textbook.{signature_at, current_at}
 use Rattle.sign_core.specs.World.{◌>>=◌, ◌>>◌, Chance, Creation, Draw, Fate, Opening, Outcome, State, answer_if}
 use Rattle.sign_core.specs.World.{append, begin_trees, bind, draw, draw_identifier, draw_seed, event}
-use Rattle.sign_core.specs.World.{extend_record, first_refusal, give, new_key, open_on}
+use Rattle.sign_core.specs.World.{extend_record, first_refusal, give, new_key, open_state}
 use Rattle.sign_core.specs.World.{open_signer, publish, read, refuse_if}
-use Rattle.sign_core.specs.World.{refuse_with, secret_from, sign_as, some_or, the_records}
+use Rattle.sign_core.specs.World.{refuse_any, secret_of_fields, repeat_or_bind, some_or, the_records}
 
 -- ---- create and open
 
 -- record 0 was read as this key
 abbrev pub published : List Record → Option AnyPublic → Outcome AnyPublic
-published records public = event (publish public) (open_on records)
+published records public = event (publish public) (open_state records)
 
 -- these fields made this secret
 abbrev pub begun : State → Creation → Option Secret → Outcome AnyPublic
@@ -36,37 +36,37 @@ begun state chance made = event (do
   refuse_if OutOfMemory (not chance.has_room)
   key ← give (new_key chance.version secret)
   append (KeyRecord key) chance.fate
-  publish (public_in key)) state
+  publish (any_public_of key)) state
 
 -- record 0 could be loaded, or couldn't
-abbrev pub created_after : Option SignFault → State → Spec → Creation → Outcome AnyPublic
-created_after failed state spec chance = event (do
-  refuse_with failed
+abbrev pub created_load : Option SignFault → State → Spec → Creation → Outcome AnyPublic
+created_load failed state spec chance = event (do
+  refuse_any failed
   records ← the_records
   refuse_if KeyThere (nat_le 1 (length records))
-  secret ← draw (secret_from spec chance.fields) chance.fields
+  secret ← draw (secret_of_fields spec chance.fields) chance.fields
   refuse_if OutOfMemory (not chance.has_room)
   key ← give (new_key chance.version secret)
   append (KeyRecord key) chance.fate
-  publish (public_in key)) state
+  publish (any_public_of key)) state
 
 -- the legal records have this key
-abbrev pub opened_on : List Record → Option Key → Outcome AnyPublic
-opened_on records found = event (publish (public_of_key found)) (open_on records)
+abbrev pub opened_key : List Record → Option Key → Outcome AnyPublic
+opened_key records found = event (publish (public_of_key found)) (open_state records)
 
 -- of the records this one isn't legal
-abbrev pub opened_by : State → Opening → (illegal : Option ℕ) → Outcome AnyPublic
-opened_by state chance illegal = event (do
+abbrev pub opened_illegal : State → Opening → (illegal : Option ℕ) → Outcome AnyPublic
+opened_illegal state chance illegal = event (do
   records ← the_records
-  refuse_with (first_refusal chance illegal)
-  publish (public_of_key (key_in records))) state
+  refuse_any (first_refusal chance illegal)
+  publish (public_of_key (the_key records))) state
 
 -- ---- a repeat
 
 -- this slot is damaged
 abbrev pub repeated_sound : State → Key → (k : ℕ) → Bound → (damaged : Option ℕ) → Outcome (List ℕ)
 repeated_sound state key k bound damaged = event (do
-  refuse_with (option_map Damaged damaged)
+  refuse_any (option_map Damaged damaged)
   give (signature_at key state.records k bound)) state
 
 -- the message's reader gave this
@@ -76,23 +76,23 @@ repeated state key k bound chance given = event (do
   refuse_if Changed (not (are_same (digest_at key state.records k bound.leaf bound.randomizer message) bound.digest))
   refuse_if OutOfMemory (not chance.has_room)
   bottom ← give (bottom_of key.secret)
-  refuse_with (option_map Damaged (damaged_in key bottom state.records (tree_before bottom state.records k)))
+  refuse_any (option_map Damaged (damaged_at key bottom state.records (current_at bottom state.records k)))
   give (signature_at key state.records k bound)) state
 
 -- ---- new trees
 
 -- SEED and C are among these fields
-abbrev pub extended_with : State → Trees → (level leaf : ℕ) → (identifier : List ℕ) → (fields : List (List ℕ)) → Fate
+abbrev pub extended_seed : State → Trees → (level leaf : ℕ) → (identifier : List ℕ) → (fields : List (List ℕ)) → Fate
     → (List Record → Outcome (List ℕ)) → Outcome (List ℕ)
-extended_with state trees level leaf identifier fields fate next = (do
+extended_seed state trees level leaf identifier fields fate next = (do
   drawn ← draw_seed fields
   secret ← give (lms_secret (slice_index_or trees.pairs level trees.top.pair) identifier drawn.0)
   append (extend_record trees state.records level secret drawn.1 leaf) fate) state (λ a later. next later.records)
 
 -- I, too
-abbrev pub extended_by : State → Trees → (level leaf : ℕ) → (fields : List (List ℕ)) → Fate
+abbrev pub extended_identifier : State → Trees → (level leaf : ℕ) → (fields : List (List ℕ)) → Fate
     → (List Record → Outcome (List ℕ)) → Outcome (List ℕ)
-extended_by state trees level leaf fields fate next = (do
+extended_identifier state trees level leaf fields fate next = (do
   identifier ← draw_identifier fields
   refuse_if RandomRepeated (has_identifier state.records identifier)
   drawn ← draw_seed (drop 1 fields)
@@ -115,8 +115,9 @@ extended state key level found chance next = (do
 -- ---- a binding
 
 -- C is this, and the message's reader gave this
-abbrev pub bound_with : State → Key → (name : List ℕ) → (randomizer given : Option (List ℕ)) → Fate → Outcome (List ℕ)
-bound_with state key name made given fate = event (do
+abbrev pub bound_message : State → Key → (name : List ℕ) → (randomizer given : Option (List ℕ)) → Fate
+    → Outcome (List ℕ)
+bound_message state key name made given fate = event (do
   randomizer ← some_or RandomFailed made
   message ← read given
   leaf ← give (next_at key.secret state.records (bottom_of key.secret))
@@ -127,27 +128,27 @@ bound_with state key name made given fate = event (do
   give (signature_at key records (length state.records) bound)) state
 
 -- this many new trees, and then the binding
-abbrev pub bound_below : Key → (name : List ℕ) → Chance → (below : ℕ) → List Draw → List Record → Outcome (List ℕ)
-bound_below key name chance below draws records = event (do
+abbrev pub bound_trees : Key → (name : List ℕ) → Chance → (below : ℕ) → List Draw → List Record → Outcome (List ℕ)
+bound_trees key name chance below draws records = event (do
   begin_trees key below draws
-  bind key name chance) (open_on records)
+  bind key name chance) (open_state records)
 
 -- this slot is damaged
 abbrev pub bound_sound : State → Key → (name : List ℕ) → Chance → (level : ℕ) → (damaged : Option ℕ) → Outcome (List ℕ)
 bound_sound state key name chance level damaged = event (do
-  refuse_with (option_map Damaged damaged)
+  refuse_any (option_map Damaged damaged)
   open_signer
   begin_trees key (bottom_of key.secret - level) chance.trees
   bind key name chance) state
 
 -- this level is the deepest with a free leaf
-abbrev pub bound_anew : (limit : ℕ) → State → Key → (name : List ℕ) → Chance → (level : Option ℕ) → Outcome (List ℕ)
-bound_anew limit state key name chance deepest = event (do
+abbrev pub bound_level : (limit : ℕ) → State → Key → (name : List ℕ) → Chance → (level : Option ℕ) → Outcome (List ℕ)
+bound_level limit state key name chance deepest = event (do
   records ← the_records
   level ← some_or Exhausted deepest
   refuse_if LedgerFull (nat_lt limit (length records + wanted_count key.secret level))
   refuse_if OutOfMemory (not chance.has_room)
-  refuse_with (option_map Damaged (damaged_in key level records (tree_before level records (length records))))
+  refuse_any (option_map Damaged (damaged_at key level records (current_at level records (length records))))
   open_signer
   begin_trees key (bottom_of key.secret - level) chance.trees
   bind key name chance) state
@@ -155,23 +156,24 @@ bound_anew limit state key name chance deepest = event (do
 -- ---- a request
 
 -- the name is bound so, or isn't
-abbrev pub requested_of : (limit : ℕ) → State → Key → (name : List ℕ) → Chance → Option (ℕ × Bound) → Outcome (List ℕ)
-requested_of limit state key name chance found = event (sign_as limit key name chance found) state
+abbrev pub requested_binding : (limit : ℕ) → State → Key → (name : List ℕ) → Chance → Option (ℕ × Bound)
+    → Outcome (List ℕ)
+requested_binding limit state key name chance found = event (repeat_or_bind limit key name chance found) state
 
 -- record 0 is this key, or none
-abbrev pub requested_under : (limit : ℕ) → State → (name : List ℕ) → Chance → Option Key → Outcome (List ℕ)
-requested_under limit state name chance found = event (do
+abbrev pub requested_key : (limit : ℕ) → State → (name : List ℕ) → Chance → Option Key → Outcome (List ℕ)
+requested_key limit state name chance found = event (do
   key ← some_or Stopped found
   refuse_if Stopped (not state.is_open)
   refuse_if Moved (has_moved state.records)
   records ← the_records
-  sign_as limit key name chance (binding_in records name)) state
+  repeat_or_bind limit key name chance (binding_at records name)) state
 
 -- ---- retire
 
 -- record 0 is this key, or none
-abbrev pub retired_under : (limit : ℕ) → State → (upto : ℕ) → Fate → Option Key → Outcome (Unit {0})
-retired_under limit state upto fate found = event (do
+abbrev pub retired_key : (limit : ℕ) → State → (upto : ℕ) → Fate → Option Key → Outcome (Unit {0})
+retired_key limit state upto fate found = event (do
   key ← some_or Stopped found
   refuse_if Stopped (not state.is_open)
   refuse_if Moved (has_moved state.records)

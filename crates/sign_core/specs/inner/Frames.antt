@@ -33,13 +33,13 @@ ReadsField m layout view old new (Err WriteFailed) = ⊥
 abbrev pub bytes_of : ArrayVec ℕ 255 (Unit {0}) → List ℕ
 bytes_of name = name.items
 
-abbrev pub said_by : Head → List ℕ × ℕ
-said_by head = (head.name.items, head.announced)
+abbrev pub head_fields : Head → List ℕ × ℕ
+head_fields head = (head.name.items, head.announced)
 
 -- A head was read; or the input is at its end, before its first byte; or it is cut.
 abbrev pub ReadsHead : {M : Type 0} → message.Ghosts M → (old new : M) → Result (Option Head) ServeFault → Type 0
 ReadsHead m old new (Ok (Some found)) =
-    (bytes : List ℕ) × Spells head (said_by found) bytes × ReadsInput m bytes going old new
+    (bytes : List ℕ) × Spells head (head_fields found) bytes × ReadsInput m bytes going old new
 ReadsHead m old new (Ok None) = ReadsInput m [] ended old new
 ReadsHead m old new (Err FrameCut) =
     (bytes : List ℕ) × (1 ≤ length bytes) × CutsField head bytes × ReadsInput m bytes ended old new

@@ -3,7 +3,7 @@ use Rattle.std.specs.Prelude.{◌≡◌, ℕ, zero, suc, List, map, slice_get, S
 use Rattle.lmots.specs.Key.{message_digest_of}
 use Rattle.lms.specs.declared.key.LmsPublic.{LmsPublic}
 use Rattle.typecodes.specs.declared.secret.LmsSecret.{LmsSecret}
-use Rattle.lms.specs.Secret.{path_in, root_in}
+use Rattle.lms.specs.Secret.{leaf_path, root_of_secret}
 use Rattle.lms.specs.Writing.{public_bytes}
 use Rattle.lms.specs.declared.signing_tree.SigningTree.{SigningTree}
 use Rattle.lms.specs.SigningTree.{path_of_tree}
@@ -20,18 +20,18 @@ use Rattle.sign_core.specs.declared.key_trees.KeyTrees.{KeyTrees}
 use Rattle.sign_core.specs.declared.key_trees.SecretTrees.{SecretTrees}
 use Rattle.sign_core.specs.declared.key_trees.SecretTrees.TheVariants.{Chain, Xmss as XmssTree}
 use Rattle.sign_core.specs.Records.{are_same}
-use Rattle.sign_core.specs.Textbook.{Trees, secret_at, signing_with, trees_of}
+use Rattle.sign_core.specs.Textbook.{Trees, secret_at, leaf_signing, trees_of}
 
-abbrev pub trees_in : KeyTrees → Trees
-trees_in trees = record { top = trees.top; pairs = trees.levels }
+abbrev pub chain_trees : KeyTrees → Trees
+chain_trees trees = record { top = trees.top; pairs = trees.levels }
 
 -- These are the trees of a key of LMS or HSS.
 abbrev pub AreTreesOf : KeyTrees → Key → Type 0
-AreTreesOf trees key = trees_of key.secret ≡ Some (trees_in trees)
+AreTreesOf trees key = trees_of key.secret ≡ Some (chain_trees trees)
 
 -- The trees of a key's secret, in any scheme.
 abbrev pub MakesTrees : Secret → SecretTrees → Type 0
-MakesTrees secret (Chain trees) = trees_of secret ≡ Some (trees_in trees)
+MakesTrees secret (Chain trees) = trees_of secret ≡ Some (chain_trees trees)
 MakesTrees secret (XmssTree own) = secret ≡ Xmss own
 
 -- A tree of a level stands at a place: the Key's at level 0, else the tree of an Extend of the level.
@@ -43,15 +43,15 @@ IsTreeAt records (suc level) place =
 -- what the binding of a tree's leaf signs
 abbrev pub signing_of_bound : Trees → List Record → (tree : ℕ) → Bound → Signing
 signing_of_bound trees records tree bound =
-    signing_with (secret_at trees records tree) bound.leaf bound.randomizer bound.digest
+    leaf_signing (secret_at trees records tree) bound.leaf bound.randomizer bound.digest
 
 abbrev pub signings_of : List Level → List Signing
 signings_of levels = map signing_of levels
 
 -- The root of a tree is its secret's, and the path its leaf's.
 pub record IsMade (tree : SigningTree) : Type 0 where
-  pub root : tree.root ≡ root_in tree.secret
-  pub path : path_of_tree tree ≡ path_in tree.secret tree.leaf
+  pub root : tree.root ≡ root_of_secret tree.secret
+  pub path : path_of_tree tree ≡ leaf_path tree.secret tree.leaf
 
 -- The same of the trees of all levels.
 abbrev pub AreMade : List Level → Type 0

@@ -3,10 +3,10 @@ use Rattle.std.specs.Prelude.{◌≡◌, ℕ, ◌<◌, ◌≤◌, Bool, false, I
 use Rattle.std.specs.Prelude.{true, Option, Some, None, Result, Ok, Err}
 use Rattle.state_file.specs.Disk.{DiskState, LeavesOnly, MayLeave, settled}
 use Rattle.state_file.specs.DiskCalls.{CountsFailures, OnlyReads}
-use Rattle.state_file.specs.FileStore.{disk_after, disk_of, has_stopped, outcome_of, records_of}
+use Rattle.state_file.specs.FileStore.{disk_of_result, disk_of, has_stopped, outcome_of, records_of}
 use Rattle.state_file.specs.Laws.{IsLegal}
 use Rattle.state_file.specs.MigrateFault.{is_failed_migration}
-use Rattle.state_file.specs.Slot.{version_in}
+use Rattle.state_file.specs.Slot.{file_version}
 use Rattle.state_file.specs.Store.{IsRecordAt}
 use Rattle.state_file.specs.declared.disk.Disk as disk
 use Rattle.state_file.specs.declared.file.opening.OpenFault.{OpenFault}
@@ -56,7 +56,7 @@ TakesUpNext old new entry (Err _) = ⊥
 -- What each refusal says of the records of an honest store. That they are legal comes before their version.
 abbrev pub RefusesRecords : List Record → MigrateFault → Type 0
 RefusesRecords records NoKey = records ≡ []
-RefusesRecords records VersionFault = IsLegal records × (version_in records ≡ Two)
+RefusesRecords records VersionFault = IsLegal records × (file_version records ≡ Two)
 RefusesRecords records (Illegal k) = first_illegal records ≡ Some k
 RefusesRecords records DeviceFailed = Unit {0}
 RefusesRecords records OutOfMemory = RunsOutOfMemory records
@@ -64,7 +64,7 @@ RefusesRecords records _ = ⊥
 
 -- The answer: they are legal and of version 1, or are refused.
 abbrev pub JudgesRecords : {A : Type 0} → List Record → Result A MigrateFault → Type 0
-JudgesRecords records (Ok _) = IsLegal records × (version_in records ≡ One)
+JudgesRecords records (Ok _) = IsLegal records × (file_version records ≡ One)
 JudgesRecords records (Err fault) = RefusesRecords records fault
 
 -- The refusals of an old place, over any disk.
@@ -102,7 +102,8 @@ pub record OpensOld {D : Type 0} (d : disk.Ghosts D) (given : D)
   pub reports : IsTrue (d.honest given)
       → IfErr result (λ refused. ReportsOld (d.state given).content refused.fault)
   pub running : IfOk result (λ store. has_stopped store ≡ false)
-  pub keeps : IsTrue (d.honest given) → Keeps (d.state given).content (d.state (disk_after result)) (outcome_of result)
+  pub keeps : IsTrue (d.honest given)
+      → Keeps (d.state given).content (d.state (disk_of_result result)) (outcome_of result)
   pub moments : IsTrue (d.honest given)
-      → LeavesOnly d.moment d.left_since given (disk_after result) (MayLeave (d.state given))
-  pub counts : CountsFailures d is_failed_migration given (disk_after result) (outcome_of result)
+      → LeavesOnly d.moment d.left_since given (disk_of_result result) (MayLeave (d.state given))
+  pub counts : CountsFailures d is_failed_migration given (disk_of_result result) (outcome_of result)

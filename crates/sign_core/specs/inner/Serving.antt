@@ -13,7 +13,7 @@ use Rattle.sign_core.specs.declared.serving.Reply.{Reply}
 use Rattle.sign_core.specs.declared.serving.Reply.TheVariants.{BadName, Refused, Signed}
 use Rattle.sign_core.specs.declared.source.Source as source
 use Rattle.sign_core.specs.Frames.{Ending, ReadsInput}
-use Rattle.sign_core.specs.Records.{binding_in}
+use Rattle.sign_core.specs.Records.{binding_at}
 use Rattle.sign_core.specs.Signer.{KeepsForRepeat, Signs, View, is_before_repeat}
 use Rattle.sign_core.specs.Serving.{AnswersInTurn, Exchange, TurnEnds}
 
@@ -46,10 +46,10 @@ abbrev pub Asks : {S R M : Type 0} → store.Ghosts S → source.Ghosts R → me
     → (old new : View S R) → (before after : M) → (capacity : ℕ) → (signature : List ℕ) → Reply → Type 0
 Asks g r m name old new before after capacity signature Signed = IsName name
     × Signs g r m old new name before after capacity (Ok signature)
-    × (IsSome (binding_in old.records name) → KeepsForRepeat old new false)
+    × (IsSome (binding_at old.records name) → KeepsForRepeat old new false)
 Asks g r m name old new before after capacity signature (Refused fault) = IsName name
     × Signs g r m old new name before after capacity (Err fault)
-    × (IsSome (binding_in old.records name) → KeepsForRepeat old new (is_before_repeat fault))
+    × (IsSome (binding_at old.records name) → KeepsForRepeat old new (is_before_repeat fault))
 Asks g r m name old new before after capacity signature BadName =
     (IsName name → ⊥) × (new ≡ old) × (after ≡ before)
 

@@ -18,15 +18,15 @@ use Rattle.sign_core.specs.declared.fault.SignFault.TheVariants.{RandomFailed, S
 use Rattle.sign_core.specs.declared.fault.SignFault.TheVariants.{Unreadable}
 use Rattle.sign_core.specs.declared.source.Source as source
 use Rattle.sign_core.specs.Source.{Provides}
-use Rattle.sign_core.specs.Records.{can_follow, key_in, leaves_of_current, next_at}
+use Rattle.sign_core.specs.Records.{can_follow, the_key, leaves_of_current, next_at}
 use Rattle.sign_core.specs.Events.{AreFields, key_sizes}
 use Rattle.sign_core.specs.Textbook.{public_of_key}
-use Rattle.sign_core.specs.World.{Fate, Outcome, State, answered, appended, open_on, secret_from}
+use Rattle.sign_core.specs.World.{Fate, Outcome, State, answered, appended, open_state, secret_of_fields}
 use Rattle.sign_core.specs.inner.Ledger.{LacksRoom}
 use Rattle.sign_core.specs.Ledger.{Table, TakesMemory}
 use Rattle.sign_core.specs.Signer.{View, is_random_failed, UsesMemory, unreadable_slot, state_of, is_store_failed}
-use Rattle.sign_core.specs.Signer.{is_out_of_memory, is_device_failed, LeavesOld, Ends, IsAnswered, random_after}
-use Rattle.sign_core.specs.Signer.{store_after}
+use Rattle.sign_core.specs.Signer.{is_out_of_memory, is_device_failed, LeavesOld, Ends, IsAnswered, random_of_result}
+use Rattle.sign_core.specs.Signer.{store_of_result}
 
 abbrev pub is_stopped : SignFault → Bool
 is_stopped Stopped = true
@@ -65,7 +65,7 @@ pub record IsAppended {S A : Type 0} (g : store.Ghosts S) (old new : S) (entry :
   pub most : g.most new ≡ g.most old
 
 abbrev pub added : State → Record → Fate → Outcome (Unit {0})
-added state entry fate = appended state entry fate (λ records. answered (open_on records) tt)
+added state entry fate = appended state entry fate (λ records. answered (open_state records) tt)
 
 -- A signer appends a record, with some fate, and takes it up where the append is acknowledged.
 pub record Adds {S R : Type 0} (g : store.Ghosts S) (old new : View S R) (entry : Record)
@@ -85,7 +85,7 @@ Hinders is_open has_moved _ = ⊥
 
 -- The next leaf of the current bottom tree, and how many leaves that has.
 abbrev pub IsBottom : List Record → ℕ × ℕ → Type 0
-IsBottom records bottom = (key : Key) → key_in records ≡ Some key
+IsBottom records bottom = (key : Key) → the_key records ≡ Some key
     → (bottom.0 ≡ next_at key.secret records (bottom_of key.secret))
     × (bottom.1 ≡ leaves_of_current key.secret records (bottom_of key.secret))
 
@@ -119,8 +119,8 @@ pub record LooksForKey {S A : Type 0} (g : store.Ghosts S) (old new : S) (answer
 
 -- The drawn fields make the secret; or they are fewer, where the source fails.
 abbrev pub IsDrawn : Spec → (fields : List (List ℕ)) → Result Secret SignFault → Type 0
-IsDrawn spec fields (Ok secret) = secret_from spec fields ≡ Some secret
-IsDrawn spec fields (Err RandomFailed) = secret_from spec fields ≡ None
+IsDrawn spec fields (Ok secret) = secret_of_fields spec fields ≡ Some secret
+IsDrawn spec fields (Err RandomFailed) = secret_of_fields spec fields ≡ None
 IsDrawn spec fields (Err _) = ⊥
 
 pub record DrawsSecret {R : Type 0} (r : source.Ghosts R) (spec : Spec) (old new : R) (answer : Result Secret SignFault)
@@ -178,12 +178,12 @@ TakesUpLoaded old new entry (Err _) = ⊥
 -- The records are taken up, and their key has a public one; or the fault is answered.
 abbrev pub IsTakenUp : Result Table SignFault → Outcome AnyPublic → Type 0
 IsTakenUp (Ok table) outcome = (public : AnyPublic) × (outcome.answer ≡ Ok public)
-    × (public_of_key (key_in table.records) ≡ Some public) × (table.records ≡ outcome.acknowledged)
+    × (public_of_key (the_key table.records) ≡ Some public) × (table.records ≡ outcome.acknowledged)
 IsTakenUp (Err fault) outcome = outcome.answer ≡ Err fault
 
 -- A signer has the store and the source, or its refusal gives them back; and its answer is that of its records.
 pub record Holds {S R : Type 0} (store : S) (random : R) (records : Result Table SignFault)
     (result : Result (View S R) (Refused (S × R) SignFault)) : Type 0 where
-  pub store_is : store_after result ≡ store
-  pub random_is : random_after result ≡ random
+  pub store_is : store_of_result result ≡ store
+  pub random_is : random_of_result result ≡ random
   pub answer : (outcome : Outcome AnyPublic) → IsTakenUp records outcome → IsAnswered result outcome

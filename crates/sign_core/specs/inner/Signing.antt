@@ -16,19 +16,19 @@ use Rattle.sign_core.specs.declared.fault.SignFault.TheVariants.{RandomFailed, R
 use Rattle.sign_core.specs.declared.source.Source as source
 use Rattle.hss.specs.declared.secret.Level.{Level}
 use Rattle.sign_core.specs.Source.{Provides}
-use Rattle.sign_core.specs.Records.{binding_in, free_at, has_identifier, has_moved, has_randomizer, is_long, key_in}
+use Rattle.sign_core.specs.Records.{binding_at, free_at, has_identifier, has_moved, has_randomizer, is_long, the_key}
 use Rattle.sign_core.specs.inner.Links.{signings_of, signing_of_bound}
 use Rattle.sign_core.specs.Events.{AreFields, randomizer_sizes, tree_sizes}
 use Rattle.sign_core.specs.Signer.{Ends, IsRead, LacksTree, RefusesAfterDraws, UnlessAppended}
 use Rattle.sign_core.specs.Signer.{UsesMemory, View, is_before_draws, is_fault}
 use Rattle.sign_core.specs.Signer.{is_random_failed, signature_size}
 use Rattle.sign_core.specs.World.{Chance, Draw, Outcome, State, acked, answered}
-use Rattle.sign_core.specs.inner.Cases.{extended, bound_below}
-use Rattle.sign_core.specs.World.{open_on, randomizer_from}
-use Rattle.sign_core.specs.inner.Cases.{requested_of}
-use Rattle.sign_core.specs.Textbook.{Trees, damaged_in, signature_at, signature_by}
-use Rattle.sign_core.specs.Textbook.{signings_above}
-use Rattle.sign_core.specs.Textbook.{tree_before, trees_of}
+use Rattle.sign_core.specs.inner.Cases.{extended, bound_trees}
+use Rattle.sign_core.specs.World.{open_state, randomizer_of_fields}
+use Rattle.sign_core.specs.inner.Cases.{requested_binding}
+use Rattle.sign_core.specs.Textbook.{Trees, damaged_at, signature_at, any_signature}
+use Rattle.sign_core.specs.Textbook.{chain_signings}
+use Rattle.sign_core.specs.Textbook.{current_at, trees_of}
 use Rattle.typecodes.specs.declared.secret.LmsSecret.{LmsSecret}
 use Rattle.typecodes.specs.declared.types.LmsPair.{LmsPair}
 use Rattle.sign_core.specs.declared.ledger.Binding.{Binding}
@@ -43,7 +43,7 @@ pairs_of levels = map (λ level. level.tree.secret.pair) levels
 pub record Stands (records : List Record) (level : ℕ) (key : Key) : Type 0 where
   pub inside : level < levels_of key.secret
   pub free : 0 < free_at key.secret records level
-  pub sound : damaged_in key level records (tree_before level records (length records)) ≡ None
+  pub sound : damaged_at key level records (current_at level records (length records)) ≡ None
 
 -- A signer is open, its records don't go on elsewhere, and store and memory have room for `wanted` more.
 pub record IsReady {S R : Type 0} (most wanted : ℕ) (view : View S R) : Type 0 where
@@ -57,7 +57,7 @@ pub record IsReady {S R : Type 0} (most wanted : ℕ) (view : View S R) : Type 0
 -- output has a signature's size.
 pub record CanBind {S R : Type 0} (most wanted : ℕ) (name : List ℕ) (size : ℕ) (view : View S R) : Type 0 where
   pub ready : IsReady most wanted view
-  pub unbound : binding_in view.records name ≡ None
+  pub unbound : binding_at view.records name ≡ None
   pub fits : UnderKey view.records (λ key. is_long key name ≡ false)
   pub room : UnderKey view.records (λ key. size ≡ signature_size key.secret)
 
@@ -83,7 +83,7 @@ DrawsTree pair records before after upcoming left (Err _) = ⊥
 pub record IsRandomizer (secret : Secret) (before after : ℕ) (upcoming left : Option (List ℕ)) (randomizer : List ℕ)
     : Type 0 where
   pub fields : List (List ℕ)
-  pub made : randomizer_from secret fields ≡ Some randomizer
+  pub made : randomizer_of_fields secret fields ≡ Some randomizer
   pub possible : AreFields (randomizer_sizes secret) fields
   pub failures : after ≡ before
   pub source : Provides upcoming (concat fields ++ []) left
@@ -94,7 +94,7 @@ abbrev pub DrawsRandomizer : Secret → (failures_before failures_after : ℕ) (
     → Result (List ℕ) SignFault → Type 0
 DrawsRandomizer secret before after upcoming left (Ok randomizer) =
     IsRandomizer secret before after upcoming left randomizer
-DrawsRandomizer secret before after upcoming left (Err fault) = (randomizer_from secret [] ≡ None)
+DrawsRandomizer secret before after upcoming left (Err fault) = (randomizer_of_fields secret [] ≡ None)
     × (fault ≡ RandomFailed) × (after ≡ before + 1) × Provides upcoming [] left
 
 -- What a call does to the signer and its store, by an outcome of the world. The source gave the drawn bytes, and the
@@ -117,8 +117,8 @@ pub record Extends {S R : Type 0} (g : store.Ghosts S) (r : source.Ghosts R) (le
     (old new : View S R) (answer : Result (List ℕ) SignFault) (key : Key) : Type 0 where
   pub draw : Draw
   pub outcome : Outcome (List ℕ)
-  pub step : extended (open_on old.records) key level (trees_of key.secret) draw
-      (λ records. answered (open_on records) []) ≡ outcome
+  pub step : extended (open_state old.records) key level (trees_of key.secret) draw
+      (λ records. answered (open_state records) []) ≡ outcome
   pub possible : AreFields tree_sizes draw.fields
   pub ends : Ends g old new outcome answer
   pub source : Provides (r.upcoming old.random) outcome.drawn (r.upcoming new.random)
@@ -136,7 +136,7 @@ pub record BindsBelow {S R M : Type 0} (g : store.Ghosts S) (r : source.Ghosts R
   pub given : Option (List ℕ)
   pub outcome : Outcome (List ℕ)
   pub step : (all : List Draw)
-      → bound_below key name (record { has_room = true; trees = all; bound = bound; given = given }) below trees
+      → bound_trees key name (record { has_room = true; trees = all; bound = bound; given = given }) below trees
       old.records ≡ outcome
   pub trees_possible : AllByRecursion (λ (draw : Draw). AreFields tree_sizes draw.fields) trees
   pub bound_possible : AreFields (randomizer_sizes key.secret) bound.fields
@@ -148,7 +148,7 @@ pub record BindsBelow {S R M : Type 0} (g : store.Ghosts S) (r : source.Ghosts R
 pub record IsBoundLast (key : Key) (old new : List Record) (name : List ℕ) (bound : Bound) (binding : Binding)
     : Type 0 where
   pub grown : new ≡ old ++ BoundRecord bound ∷ []
-  pub named : binding_in new name ≡ Some (length old, bound)
+  pub named : binding_at new name ≡ Some (length old, bound)
   pub kept : kept_of key.secret new (length old, bound) ≡ binding
 
 -- A name is bound to the next leaf: its signature is the record's, and what is kept of it is answered. Or the binding
@@ -176,10 +176,10 @@ pub record Repeats {M : Type 0} (m : message.Ghosts M) (state : State) (cached :
     (capacity : ℕ) (answer : Result (List ℕ) SignFault) (key : Key) (name : List ℕ) : Type 0 where
   pub has_room : Bool
   pub given : Option (List ℕ)
-  pub step : (limit : ℕ) → (requested_of limit state key name (repeat_chance has_room given)
-      (binding_in state.records name)).answer ≡ answer
+  pub step : (limit : ℕ) → (requested_binding limit state key name (repeat_chance has_room given)
+      (binding_at state.records name)).answer ≡ answer
   pub message : IsRead m true given before after
-  pub room : (k : ℕ) (bound : Bound) → binding_in state.records name ≡ Some (k, bound) → has_room ≡ false
+  pub room : (k : ℕ) (bound : Bound) → binding_at state.records name ≡ Some (k, bound) → has_room ≡ false
       → (capacity < signature_size key.secret) ⊎ LacksCache key state.records (Some (bottom_of key.secret)) k cached
 
 abbrev pub IsBindingOf : List Record → Binding → Key → (name : List ℕ) → Type 0
@@ -198,7 +198,7 @@ RepeatsBinding m state cached binding before after capacity answer = UnderKey st
 -- signature.
 abbrev pub WritesChain : Secret → List Level → (bytes : List ℕ) → Type 0
 WritesChain secret levels bytes = (trees : Trees) (records : List Record) (k : ℕ) (bound : Bound)
-    → (key : Key) × (key_in records ≡ Some key) → trees_of secret ≡ Some trees
-    → signings_of levels ≡ signings_above trees (bottom_of secret) records (tree_before (bottom_of secret) records k)
-    ++ signing_of_bound trees records (tree_before (bottom_of secret) records k) bound ∷ []
-    → bytes ≡ signature_by secret records k bound
+    → (key : Key) × (the_key records ≡ Some key) → trees_of secret ≡ Some trees
+    → signings_of levels ≡ chain_signings trees (bottom_of secret) records (current_at (bottom_of secret) records k)
+    ++ signing_of_bound trees records (current_at (bottom_of secret) records k) bound ∷ []
+    → bytes ≡ any_signature secret records k bound

@@ -3,11 +3,11 @@
 ghost use Rattle.std.specs.Prelude.{◌≡◌, ◌<◌, ◌-◌, [], None, Some, true, false, length, vec_capacity};
 ghost use Rattle.std.specs.Prelude.{◌+◌, OnOk};
 ghost use Rattle.state_file.specs.Laws.{levels_of, bottom_of};
-ghost use Rattle.sign_core.specs.Records.{binding_in, free_at, has_moved, is_long};
+ghost use Rattle.sign_core.specs.Records.{binding_at, free_at, has_moved, is_long};
 ghost use Rattle.sign_core.specs.inner.Request.{Prepares};
 ghost use Rattle.sign_core.specs.inner.Signing.{BindsBelow, BindsNext, CanBind, DrawsTree, Extends};
 ghost use Rattle.sign_core.specs.inner.Signing.{IsReady, Stands};
-ghost use Rattle.sign_core.specs.Signing.{KeepsCapacity, UnderKey, answered_with};
+ghost use Rattle.sign_core.specs.Signing.{KeepsCapacity, UnderKey, answered_value};
 
 use super::Signer;
 use crate::caches::TreeRequest;
@@ -83,7 +83,7 @@ impl<S: Store, R: Source> Signer<S, R> {
         requires below { UnderKey self.old.records (λ key. level + 1 < levels_of key.secret) }
         requires stands { UnderKey self.old.records (Stands self.old.records level) }
         ensures step { UnderKey self.old.records
-            (Extends S.Store R.Source (level + 1) self.old self.new (answered_with result [])) }
+            (Extends S.Store R.Source (level + 1) self.old self.new (answered_value result [])) }
         ensures stands { OnOk result (UnderKey self.new.records (Stands self.new.records (level + 1))) }
     {
         let Some(parent) = self.ledger.current(level) else {
@@ -116,7 +116,7 @@ impl<S: Store, R: Source> Signer<S, R> {
     #[inline(never)]
     fn bind<M: Message>(&mut self, name: &Name, message: &mut M) -> Result<Binding, SignFault>
         requires ready { IsReady (S.most self.old.store) 1 self.old }
-        requires unbound { binding_in self.old.records name.now ≡ None }
+        requires unbound { binding_at self.old.records name.now ≡ None }
         requires fits { UnderKey self.old.records (λ key. is_long key name.now ≡ false) }
         requires free { UnderKey self.old.records (λ key.
             0 < free_at key.secret self.old.records (bottom_of key.secret)) }
@@ -160,7 +160,7 @@ impl<S: Store, R: Source> Signer<S, R> {
         requires stands { UnderKey self.old.records (Stands self.old.records level) }
         ensures { UnderKey self.old.records (λ key. BindsBelow S.Store R.Source M.Message name.now
             (bottom_of key.secret - level) self.old self.new message.old message.new
-            (answered_with result out.new) key) }
+            (answered_value result out.new) key) }
     {
         let levels = self.ledger.key().secret.levels();
         if level + 1 < levels {

@@ -3,7 +3,7 @@
 ghost use Rattle.std.specs.Prelude.{◌≡◌, None, Some, length, vec_capacity, IfErr, OnOk};
 ghost use Rattle.sign_core.specs.Signer.{KeepsForRepeat, is_before_repeat, is_fault, signature_size, state_of};
 ghost use Rattle.sign_core.specs.inner.Signing.{IsSomeBinding, RepeatsBinding};
-ghost use Rattle.sign_core.specs.Signing.{KeepsCapacity, answered_with};
+ghost use Rattle.sign_core.specs.Signing.{KeepsCapacity, answered_value};
 
 use super::Signer;
 use crate::caches::{Caches, TreeRequest};
@@ -23,7 +23,7 @@ impl SecretTrees {
     ghost use Rattle.state_file.specs.Laws.{bottom_of};
     ghost use Rattle.state_file.specs.declared.record.Bound.{Bound};
     ghost use Rattle.sign_core.specs.Ledger.{kept_of};
-    ghost use Rattle.sign_core.specs.Textbook.{damaged_in, signature_at};
+    ghost use Rattle.sign_core.specs.Textbook.{damaged_at, signature_at};
     ghost use Rattle.sign_core.specs.inner.Links.{MakesTrees};
 
     // Writes the signature of a binding over the whole of `out`. Or answers the place of the first record of its trees
@@ -40,9 +40,9 @@ impl SecretTrees {
         requires trees { MakesTrees ledger.now.key.secret self.now }
         requires kept { IsSomeBinding ledger.now.records binding.now }
         requires room { length out.old ≡ signature_size ledger.now.key.secret }
-        ensures sound { OnOk result (damaged_in ledger.now.key (bottom_of ledger.now.key.secret) ledger.now.records
+        ensures sound { OnOk result (damaged_at ledger.now.key (bottom_of ledger.now.key.secret) ledger.now.records
             binding.now.tree ≡ None) }
-        ensures damaged { IfErr result (λ k. damaged_in ledger.now.key (bottom_of ledger.now.key.secret)
+        ensures damaged { IfErr result (λ k. damaged_at ledger.now.key (bottom_of ledger.now.key.secret)
             ledger.now.records binding.now.tree ≡ Some k) }
         ensures signature { OnOk result ((k : ℕ) (bound : Bound)
             → kept_of ledger.now.key.secret ledger.now.records (k, bound) ≡ binding.now
@@ -85,7 +85,7 @@ impl<S: Store, R: Source> Signer<S, R> {
     ) -> Result<(), SignFault>
         requires kept { IsSomeBinding self.old.records binding.now }
         ensures step { RepeatsBinding M.Message (state_of self.old) self.old.cached binding.now message.old message.new
-            (vec_capacity out.old) (answered_with result out.new.items) }
+            (vec_capacity out.old) (answered_value result out.new.items) }
         ensures capacity { KeepsCapacity self.old.records (vec_capacity out.old) (vec_capacity out.new) }
         ensures keeps { KeepsForRepeat self.old self.new (is_fault is_before_repeat result) }
     {

@@ -5,9 +5,9 @@ ghost use Rattle.typecodes.specs.declared.secret.XmssSecret.{XmssSecret as X};
 ghost use Rattle.sign_core.specs.Caches.{HasCurrent};
 ghost use Rattle.sign_core.specs.Textbook.{Trees, trees_of};
 ghost use Rattle.state_file.specs.Laws.{levels_of};
-ghost use Rattle.sign_core.specs.Records.{binding_in};
+ghost use Rattle.sign_core.specs.Records.{binding_at};
 ghost use Rattle.sign_core.specs.Signer.{KeepsForRepeat, Signs, is_before_repeat, is_fault};
-ghost use Rattle.sign_core.specs.Signing.{IsXmssKey, KeepsCapacity, UnderKey, answered_with};
+ghost use Rattle.sign_core.specs.Signing.{IsXmssKey, KeepsCapacity, UnderKey, answered_value};
 ghost use Rattle.typecodes.specs.Message.{Digests};
 ghost use Rattle.sign_core.specs.inner.Signing.{DrawsRandomizer};
 
@@ -27,7 +27,7 @@ impl SecretTrees {
     ghost use Rattle.std.specs.Prelude.{ℕ};
     ghost use Rattle.state_file.specs.Laws.{bottom_of};
     ghost use Rattle.state_file.specs.declared.record.Secret.{Secret};
-    ghost use Rattle.sign_core.specs.Textbook.{digest_at, tree_before};
+    ghost use Rattle.sign_core.specs.Textbook.{digest_at, current_at};
     ghost use Rattle.sign_core.specs.inner.Links.{MakesTrees};
 
     // The digest of a message by a leaf of the tree at a place: Q with this C, or M' with the leaf's own randomizer.
@@ -40,7 +40,7 @@ impl SecretTrees {
         message: &mut M,
     ) -> Result<[u8; 32], SignFault>
         requires { MakesTrees ledger.now.key.secret self.now }
-        ensures digest { (k : ℕ) → tree_before (bottom_of ledger.now.key.secret) ledger.now.records k ≡ place →
+        ensures digest { (k : ℕ) → current_at (bottom_of ledger.now.key.secret) ledger.now.records k ≡ place →
             Digests M.transition M.remaining (digest_at ledger.now.key ledger.now.records k leaf randomizer.now) result
             message.old message.new }
         ensures fault { IfErr result (λ fault. fault ≡ SignFault.MessageRead) }
@@ -116,11 +116,11 @@ impl<S: Store, R: Source> Signer<S, R> {
         out: &mut Vec<u8>,
     ) -> Result<(), SignFault>
         ensures step { Signs S.Store R.Source M.Message self.old self.new name.now message.old message.new
-            (vec_capacity out.old) (answered_with result out.new.items) }
+            (vec_capacity out.old) (answered_value result out.new.items) }
         ensures empty { OnErr result (out.new.items ≡ []) }
         ensures capacity { KeepsCapacity self.old.records (vec_capacity out.old) (vec_capacity out.new) }
         // A request for a bound name changes only caches, and with 21 and 27 not even these.
-        ensures repeat { IsSome (binding_in self.old.records name.now) →
+        ensures repeat { IsSome (binding_at self.old.records name.now) →
             KeepsForRepeat self.old self.new (is_fault is_before_repeat result) }
     {
         self.sign_telling(name, message, out, &Silent::new())
@@ -136,10 +136,10 @@ impl<S: Store, R: Source> Signer<S, R> {
         progress: &P,
     ) -> Result<(), SignFault>
         ensures step { Signs S.Store R.Source M.Message self.old self.new name.now message.old message.new
-            (vec_capacity out.old) (answered_with result out.new.items) }
+            (vec_capacity out.old) (answered_value result out.new.items) }
         ensures empty { OnErr result (out.new.items ≡ []) }
         ensures capacity { KeepsCapacity self.old.records (vec_capacity out.old) (vec_capacity out.new) }
-        ensures repeat { IsSome (binding_in self.old.records name.now) →
+        ensures repeat { IsSome (binding_at self.old.records name.now) →
             KeepsForRepeat self.old self.new (is_fault is_before_repeat result) }
     {
         if let Err(fault) = self.sign_into(name, message, out, progress) {
@@ -162,9 +162,9 @@ impl<S: Store, R: Source> Signer<S, R> {
         progress: &P,
     ) -> Result<(), SignFault>
         ensures step { Signs S.Store R.Source M.Message self.old self.new name.now message.old message.new
-            (vec_capacity out.old) (answered_with result out.new.items) }
+            (vec_capacity out.old) (answered_value result out.new.items) }
         ensures capacity { KeepsCapacity self.old.records (vec_capacity out.old) (vec_capacity out.new) }
-        ensures repeat { IsSome (binding_in self.old.records name.now) →
+        ensures repeat { IsSome (binding_at self.old.records name.now) →
             KeepsForRepeat self.old self.new (is_fault is_before_repeat result) }
     {
         // 26, 31

@@ -41,13 +41,13 @@ struct Plan {
 }
 
 impl Plan {
-    ghost use Rattle.state_file.specs.MemoryDisk.{fate_of, fail_after, stop_after};
+    ghost use Rattle.state_file.specs.MemoryDisk.{fate_of, next_fail, next_stop};
 
     // What happens to the next call.
     fn next(&mut self) -> Fate
         ensures fate { result ≡ fate_of self.old.stop self.old.fail }
-        ensures stop { self.new.stop ≡ stop_after self.old.stop }
-        ensures fail { self.new.fail ≡ fail_after self.old.fail }
+        ensures stop { self.new.stop ≡ next_stop self.old.stop }
+        ensures fail { self.new.fail ≡ next_fail self.old.fail }
     {
         let fate = match (self.stop, self.fail) {
             (Some(0), _) => Fate::Stopped,
@@ -64,8 +64,8 @@ impl Plan {
         ensures runs { OnOk result (fate_of self.old.stop self.old.fail ≡ Fate.Runs) }
         ensures refused { OnErr result (fate_of self.old.stop self.old.fail ≢ Fate.Runs) }
         ensures fault { IfErr result (λ fault. fault ≡ DiskFault.Failed) }
-        ensures stop { self.new.stop ≡ stop_after self.old.stop }
-        ensures fail { self.new.fail ≡ fail_after self.old.fail }
+        ensures stop { self.new.stop ≡ next_stop self.old.stop }
+        ensures fail { self.new.fail ≡ next_fail self.old.fail }
         ensures failures { Counts is_failure failures.old failures.new result }
     {
         if self.next() != Fate::Runs {
@@ -93,14 +93,14 @@ pub struct MemoryDisk {
 }
 
 impl MemoryDisk {
-    ghost use Rattle.state_file.specs.MemoryDisk.{Picks, SameMoment, calls_before, state_in};
-    ghost use Rattle.state_file.specs.MemoryDisk.{fail_in, failures_in, past_ends_in, stop_in};
+    ghost use Rattle.state_file.specs.MemoryDisk.{Picks, SameMoment, nth_call, state_of};
+    ghost use Rattle.state_file.specs.MemoryDisk.{fail_of, failures_of, past_ends_of, stop_of};
 
     /// A disk with these bytes, all synced.
     pub fn of(alloc: Global, bytes: &[u8]) -> Result<Self, AllocError>
-        ensures state { IfOk result (λ disk. state_in disk ≡ settled bytes.now) }
-        ensures plan { IfOk result (λ disk. (stop_in disk ≡ None) × (fail_in disk ≡ None)) }
-        ensures failures { IfOk result (λ disk. (failures_in disk ≡ 0) × (past_ends_in disk ≡ 0)) }
+        ensures state { IfOk result (λ disk. state_of disk ≡ settled bytes.now) }
+        ensures plan { IfOk result (λ disk. (stop_of disk ≡ None) × (fail_of disk ≡ None)) }
+        ensures failures { IfOk result (λ disk. (failures_of disk ≡ 0) × (past_ends_of disk ≡ 0)) }
     {
         Ok(MemoryDisk {
             alloc,
@@ -119,8 +119,8 @@ impl MemoryDisk {
     /// Refuses the n-th call from now (1 is the next one), and no other. If that is a write, it writes the first half
     /// of its bytes, rounded down. This replaces a failure that is still to come; 0 cancels it.
     pub fn fail_at(&mut self, n: u32)
-        ensures fail { fail_in self.new ≡ calls_before n }
-        ensures stop { stop_in self.new ≡ stop_in self.old }
+        ensures fail { fail_of self.new ≡ nth_call n }
+        ensures stop { stop_of self.new ≡ stop_of self.old }
         ensures moment { SameMoment self.old self.new }
     {
         self.plan.fail = n.checked_sub(1);
@@ -129,8 +129,8 @@ impl MemoryDisk {
     /// Stops the disk before the n-th call from now (1 is the next one): this call and all later ones are refused, and
     /// do nothing. This replaces another stop; 0 cancels it.
     pub fn stop_at(&mut self, n: u32)
-        ensures stop { stop_in self.new ≡ calls_before n }
-        ensures fail { fail_in self.new ≡ fail_in self.old }
+        ensures stop { stop_of self.new ≡ nth_call n }
+        ensures fail { fail_of self.new ≡ fail_of self.old }
         ensures moment { SameMoment self.old self.new }
     {
         self.plan.stop = n.checked_sub(1);
@@ -139,8 +139,8 @@ impl MemoryDisk {
     /// One of the contents that a crash may leave now, by `pick`. If the disk has stopped, it is one of that moment, as
     /// calls did nothing since.
     pub fn stop(&self, pick: Pick) -> Result<Vec<u8>, AllocError>
-        ensures left { IfOk result (λ c. MayLeave (state_in self.now) c.items) }
-        ensures picked { IfOk result (λ c. Picks pick (state_in self.now) c.items) }
+        ensures left { IfOk result (λ c. MayLeave (state_of self.now) c.items) }
+        ensures picked { IfOk result (λ c. Picks pick (state_of self.now) c.items) }
     {
         match pick {
             Pick::Old => base(&self.first, &self.log).to_vec(self.alloc),
@@ -157,18 +157,18 @@ impl MemoryDisk {
 
 impl Disk for MemoryDisk {
     ghost use Rattle.state_file.specs.MemoryDisk.{CallComes, SyncsInMemory, WritesInMemory, answer_of};
-    ghost use Rattle.state_file.specs.MemoryDisk.{left_since_in, moment_in, state_in};
-    ghost use Rattle.state_file.specs.MemoryDisk.{failures_in, next_fate, past_ends_in};
+    ghost use Rattle.state_file.specs.MemoryDisk.{left_since_of, moment_of, state_of};
+    ghost use Rattle.state_file.specs.MemoryDisk.{failures_of, next_fate, past_ends_of};
 
-    ghost state = { state_in };
+    ghost state = { state_of };
 
-    ghost moment = { moment_in };
+    ghost moment = { moment_of };
 
-    ghost left_since = { left_since_in };
+    ghost left_since = { left_since_of };
 
-    ghost failures = { failures_in };
+    ghost failures = { failures_of };
 
-    ghost past_ends = { past_ends_in };
+    ghost past_ends = { past_ends_of };
 
     ghost honest = { λ _. true };
 
@@ -181,10 +181,10 @@ impl Disk for MemoryDisk {
     ghost only_now = { λ disk c _ since. left_only_now disk.first.items disk.log.items c since };
 
     fn len(&mut self) -> Result<u64, DiskFault>
-        ensures value { result ≡ answer_of (next_fate self.old) (Ok (length (state_in self.old).content)) }
-        ensures length { IfOk result (λ n. n ≡ length (state_in self.old).content) }
-        ensures keeps_state { state_in self.new ≡ state_in self.old }
-        ensures past_ends { past_ends_in self.new ≡ past_ends_in self.old }
+        ensures value { result ≡ answer_of (next_fate self.old) (Ok (length (state_of self.old).content)) }
+        ensures length { IfOk result (λ n. n ≡ length (state_of self.old).content) }
+        ensures keeps_state { state_of self.new ≡ state_of self.old }
+        ensures past_ends { past_ends_of self.new ≡ past_ends_of self.old }
         ensures call { CallComes self.old self.new result }
     {
         self.plan.admit(&mut self.failures)?;
@@ -193,14 +193,14 @@ impl Disk for MemoryDisk {
 
     fn read_at(&mut self, at: u64, into: &mut [u8]) -> Result<(), DiskFault>
         ensures value { result ≡ answer_of (next_fate self.old)
-            (if nat_le (at + length into.old) (length (state_in self.old).content) then Ok tt else Err
+            (if nat_le (at + length into.old) (length (state_of self.old).content) then Ok tt else Err
             DiskFault.PastEnd) }
-        ensures within { OnOk result (at + length into.old ≤ length (state_in self.old).content) }
-        ensures bytes { OnOk result (into.new ≡ slice_range (state_in self.old).content at (at + length into.old)) }
+        ensures within { OnOk result (at + length into.old ≤ length (state_of self.old).content) }
+        ensures bytes { OnOk result (into.new ≡ slice_range (state_of self.old).content at (at + length into.old)) }
         ensures past_end { result ≡ Err DiskFault.PastEnd →
-            length (state_in self.old).content < at + length into.old }
-        ensures past_ends { Counts is_past_end (past_ends_in self.old) (past_ends_in self.new) result }
-        ensures keeps_state { state_in self.new ≡ state_in self.old }
+            length (state_of self.old).content < at + length into.old }
+        ensures past_ends { Counts is_past_end (past_ends_of self.old) (past_ends_of self.new) result }
+        ensures keeps_state { state_of self.new ≡ state_of self.old }
         ensures call { CallComes self.old self.new result }
     {
         self.plan.admit(&mut self.failures)?;
@@ -217,10 +217,10 @@ impl Disk for MemoryDisk {
     }
 
     fn write_at(&mut self, at: u64, bytes: &[u8]) -> Result<(), DiskFault>
-        ensures stores { WritesInMemory at bytes.now (state_in self.old) (state_in self.new) (next_fate self.old)
+        ensures stores { WritesInMemory at bytes.now (state_of self.old) (state_of self.new) (next_fate self.old)
             result }
-        ensures written { WritesBytes at bytes.now (state_in self.old) (state_in self.new) result }
-        ensures past_ends { past_ends_in self.new ≡ past_ends_in self.old }
+        ensures written { WritesBytes at bytes.now (state_of self.old) (state_of self.new) result }
+        ensures past_ends { past_ends_of self.new ≡ past_ends_of self.old }
         ensures call { CallComes self.old self.new result }
     {
         match self.plan.next() {
@@ -243,9 +243,9 @@ impl Disk for MemoryDisk {
     }
 
     fn sync(&mut self) -> Result<(), DiskFault>
-        ensures flushes { SyncsInMemory (state_in self.old) (state_in self.new) (next_fate self.old) result }
-        ensures synced { Syncs (state_in self.old) (state_in self.new) result }
-        ensures past_ends { past_ends_in self.new ≡ past_ends_in self.old }
+        ensures flushes { SyncsInMemory (state_of self.old) (state_of self.new) (next_fate self.old) result }
+        ensures synced { Syncs (state_of self.old) (state_of self.new) result }
+        ensures past_ends { past_ends_of self.new ≡ past_ends_of self.old }
         ensures call { CallComes self.old self.new result }
     {
         self.plan.admit(&mut self.failures)?;

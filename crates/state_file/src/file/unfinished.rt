@@ -5,7 +5,7 @@ ghost use Rattle.std.specs.Prelude.{slice_range, OnOk};
 ghost use Rattle.state_file.specs.Disk.{range_of, ChangesOnly, IsSynced, LeavesOnly, is_failure};
 ghost use Rattle.state_file.specs.DiskCalls.{CountsFailuresWithoutReads};
 ghost use Rattle.state_file.specs.File.{HasNoKey, IsClosed, open_value};
-ghost use Rattle.state_file.specs.Filling.{IsUnfinished, after_first_gate, opened, offsets_below};
+ghost use Rattle.state_file.specs.Filling.{IsUnfinished, after_first_gate, opened, first_offsets};
 ghost use Rattle.state_file.specs.Gates.{IsClosedAfter};
 ghost use Rattle.state_file.specs.Place.{IsFreePlace};
 
@@ -19,10 +19,10 @@ pub(crate) fn prepare<E: Disk>(disk: &mut E, short: bool) -> Result<(), DiskFaul
     ensures closed { IsTrue (E.honest disk.old) →
         OnOk result
         (IsSynced (E.state disk.new) × IsClosed (E.state disk.new).content 0 ×
-        ChangesOnly (offsets_below 1 ∷ []) (E.state disk.old).content (E.state disk.new).content) }
+        ChangesOnly (first_offsets 1 ∷ []) (E.state disk.old).content (E.state disk.new).content) }
     ensures any_moment { IsTrue (E.honest disk.old) →
         LeavesOnly E.moment E.left_since disk.old disk.new
-        (λ c. HasNoKey c × ChangesOnly (offsets_below 1 ∷ []) (E.state disk.old).content c) }
+        (λ c. HasNoKey c × ChangesOnly (first_offsets 1 ∷ []) (E.state disk.old).content c) }
     ensures counts { CountsFailuresWithoutReads E.Disk is_failure disk.old disk.new result }
 {
     if short {
@@ -114,7 +114,7 @@ pub(crate) fn finish<E: Disk>(disk: &mut E) -> Result<(), DiskFault>
         IsUnfinished end base (E.state disk.old) →
         LeavesOnly E.moment E.left_since disk.old disk.new
         (λ c. (HasNoKey c ⊎ (c ≡ opened (E.state disk.old).content)) ×
-        ChangesOnly (offsets_below end ∷ []) base c) }
+        ChangesOnly (first_offsets end ∷ []) base c) }
     ensures counts { CountsFailuresWithoutReads E.Disk is_failure disk.old disk.new result }
 {
     sync_after(disk)?;

@@ -11,7 +11,7 @@ ghost use Rattle.state_file.specs.Laws.{IsLegal, has_moved};
 ghost use Rattle.state_file.specs.MigrateFault.{is_failed_migration};
 ghost use Rattle.state_file.specs.Migration.{SealsStore};
 ghost use Rattle.state_file.specs.Sealing.{Seals};
-ghost use Rattle.state_file.specs.Slot.{version_in};
+ghost use Rattle.state_file.specs.Slot.{file_version};
 ghost use Rattle.state_file.specs.declared.record.Version.TheVariants.{One};
 
 use crate::disk::Disk;
@@ -32,7 +32,7 @@ pub fn seal<D: Disk + Drop>(
     old: FileStore<D>,
 ) -> Result<Sealed<D>, Refused<FileStore<D>, MigrateFault>>
     requires legal { IsTrue (D.honest (disk_of old)) → IsLegal (records_of old) }
-    requires version { IsTrue (D.honest (disk_of old)) → version_in (records_of old) ≡ One }
+    requires version { IsTrue (D.honest (disk_of old)) → file_version (records_of old) ≡ One }
     ensures { SealsStore D.Disk old result }
 {
     let mut store = old;

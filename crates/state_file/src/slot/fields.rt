@@ -6,7 +6,7 @@ ghost use Rattle.arrayvec.specs.ArrayVec.{array_vec_len};
 ghost use Rattle.typecodes.specs.Fields.{block, number};
 ghost use Rattle.typecodes.specs.Cursor.{read, Gives};
 ghost use Rattle.state_file.specs.Fields.{Advances, Puts};
-ghost use Rattle.state_file.specs.Slot.{byte, byte_within, exactly, zeros};
+ghost use Rattle.state_file.specs.Slot.{byte, bounded_byte, exactly, zeros};
 
 use arrayvec::ArrayVec;
 use typecodes::{Cause, Cursor, ReadFault};
@@ -59,7 +59,7 @@ pub(crate) fn put_byte(out: &mut Fields, n: u8)
 }
 
 /// The next byte, if it is from `least` to `most`.
-#[tactic(auto, using(typecodes::proofs::Steps::reading), unfolding(crate::specs::Slot::byte_within))]
+#[tactic(auto, using(typecodes::proofs::Steps::reading), unfolding(crate::specs::Slot::bounded_byte))]
 pub(crate) fn read_byte_within(
     cursor: &mut Cursor<'_>,
     least: u8,
@@ -67,7 +67,7 @@ pub(crate) fn read_byte_within(
 ) -> Result<u8, ReadFault>
     requires { cursor.old.place + 1 < 2 ^ 32 }
     ensures read { Gives (λ n. (n, cursor.new.place)) result
-        (read (byte_within least most) cursor.old.bytes.now cursor.old.place) }
+        (read (bounded_byte least most) cursor.old.bytes.now cursor.old.place) }
     ensures least { IfOk result (λ n. least ≤ n) }
     ensures most { IfOk result (λ n. n ≤ most) }
     ensures passes { Advances 1 result cursor.old cursor.new }
@@ -84,7 +84,7 @@ pub(crate) fn put_byte_within(out: &mut Fields, n: u8, least: u8, most: u8)
     requires least { least ≤ n }
     requires most { n ≤ most }
     requires room { array_vec_len out.old + 1 ≤ 223 }
-    ensures { Puts 1 (byte_within least most) n out.old out.new }
+    ensures { Puts 1 (bounded_byte least most) n out.old out.new }
 {
     put_byte(out, n);
 }

@@ -10,7 +10,7 @@ ghost use Rattle.std.proofs.Common.{inl};
 ghost use Rattle.state_file.specs.Store.{AddsGiven, AddsLoad, Appends, CanFollow, Collects, Loads, ReadsTag};
 ghost use Rattle.state_file.specs.Store.{WhileRunning};
 ghost use Rattle.state_file.specs.Laws.{has_moved};
-ghost use Rattle.state_file.specs.Slot.{version_code, version_in};
+ghost use Rattle.state_file.specs.Slot.{version_code, file_version};
 ghost use Rattle.state_file.specs.Store.{is_device_failed, is_out_of_memory, is_stopped, unreadable_slot};
 
 use crate::disk::Disk;
@@ -48,7 +48,7 @@ pub struct FileStore<D: Disk> {
     ghost few: { length records ≤ most_records },
     ghost moved_is: { moved ≡ has_moved records },
     ghost of_version: { WhileRunning (D.honest disk) stopped
-        (version_code version ≡ version_code (version_in records)) },
+        (version_code version ≡ version_code (file_version records)) },
     ghost kept: { WhileRunning (D.honest disk) stopped
         (IsSyncedFile records tag (D.state disk)) } by { Prim.hlevel IsSyncedFile-prop },
 }

@@ -36,11 +36,11 @@ pub struct MemoryStore {
 
 impl MemoryStore {
     ghost use Rattle.state_file.specs.MemoryStore.{KeepsLoads, KeepsRecords, cut_of, cut_of_append, failures_of};
-    ghost use Rattle.state_file.specs.MemoryStore.{is_stopped, limit_of, records_in, refusals_of};
+    ghost use Rattle.state_file.specs.MemoryStore.{is_stopped, limit_of, records_of, refusals_of};
 
     /// An empty store of at most `limit` records.
     pub fn with_limit(alloc: Global, limit: u32) -> Self
-        ensures records { records_in result ≡ [] }
+        ensures records { records_of result ≡ [] }
         ensures limit { limit_of result ≡ limit }
         ensures cut { cut_of result ≡ None }
         ensures stopped { is_stopped result ≡ false }
@@ -102,10 +102,10 @@ impl MemoryStore {
 
 impl Store for MemoryStore {
     ghost use Rattle.state_file.specs.MemoryStore.{Cuts, HadBeen, HasRoom, KeepsRecords, LeavesInMemory, had_been_all};
-    ghost use Rattle.state_file.specs.MemoryStore.{cut_of, failures_of, given_in, had_been_only, is_stopped, limit_of};
-    ghost use Rattle.state_file.specs.MemoryStore.{loads_in, records_in, refusals_of};
+    ghost use Rattle.state_file.specs.MemoryStore.{cut_of, failures_of, given_of, had_been_only, is_stopped, limit_of};
+    ghost use Rattle.state_file.specs.MemoryStore.{loads_of, records_of, refusals_of};
 
-    ghost list = { records_in };
+    ghost list = { records_of };
 
     ghost stopped = { is_stopped };
 
@@ -116,17 +116,17 @@ impl Store for MemoryStore {
     // All of its records can be read.
     ghost unreadable = { λ _. [] };
 
-    ghost loads = { loads_in };
+    ghost loads = { loads_of };
 
-    ghost given = { given_in };
+    ghost given = { given_of };
 
     ghost honest = { λ _. true };
 
     ghost most = { limit_of };
 
-    ghost moment = { λ store. length (records_in store) };
+    ghost moment = { λ store. length (records_of store) };
 
-    ghost left_since = { λ store. HadBeen (records_in store) };
+    ghost left_since = { λ store. HadBeen (records_of store) };
 
     ghost few = { λ store. store.at_most_limit };
 
@@ -136,16 +136,16 @@ impl Store for MemoryStore {
 
     /// Record k; None after the last. It fails only where the store has stopped.
     fn load(&mut self, k: u32) -> Result<Option<Record>, StoreFault>
-        ensures answer { Loads true (records_in self.old) (is_stopped self.old) k (is_stopped self.new)
+        ensures answer { Loads true (records_of self.old) (is_stopped self.old) k (is_stopped self.new)
             (failures_of self.old)
             (failures_of self.new) result }
         ensures refusals { Counts is_out_of_memory (refusals_of self.old) (refusals_of self.new) result }
         ensures unreadable { Collects unreadable_slot [] [] result }
-        ensures loads { AddsLoad is_stopped_fault k (loads_in self.old) (loads_in self.new) result }
-        ensures given { AddsGiven (given_in self.old) (given_in self.new) result }
-        ensures keeps_records { records_in self.new ≡ records_in self.old }
+        ensures loads { AddsLoad is_stopped_fault k (loads_of self.old) (loads_of self.new) result }
+        ensures given { AddsGiven (given_of self.old) (given_of self.new) result }
+        ensures keeps_records { records_of self.new ≡ records_of self.old }
         ensures any_moment { is_stopped self.old ≡ false →
-            LeavesInMemory self.old self.new (λ left. left ≡ records_in self.old) }
+            LeavesInMemory self.old self.new (λ left. left ≡ records_of self.old) }
         ensures stopped_unchanged { is_stopped self.old ≡ true → self.new ≡ self.old }
         ensures records { KeepsRecords self.old self.new }
         ensures cut { cut_of self.new ≡ cut_of self.old }
@@ -153,7 +153,7 @@ impl Store for MemoryStore {
         ensures failures { failures_of self.new ≡ failures_of self.old }
         ensures room { HasRoom self.old → HasRoom self.new }
         ensures value { result ≡
-            (if is_stopped self.old then Err StoreFault.Stopped else Ok (slice_get (records_in self.old) k)) }
+            (if is_stopped self.old then Err StoreFault.Stopped else Ok (slice_get (records_of self.old) k)) }
     {
         if self.stopped {
             Err(StoreFault::Stopped)
@@ -173,21 +173,21 @@ impl Store for MemoryStore {
     /// append. Memory is requested only where the records have no room left, and not for a cut that leaves the old
     /// records.
     fn append(&mut self, new: &Record) -> Result<(), StoreFault>
-        ensures answer { Appends (limit_of self.old) (records_in self.old) (is_stopped self.old) new.now
-            (records_in self.new)
+        ensures answer { Appends (limit_of self.old) (records_of self.old) (is_stopped self.old) new.now
+            (records_of self.new)
             (is_stopped self.new) (failures_of self.old) (failures_of self.new) result }
         ensures refusals { Counts is_out_of_memory (refusals_of self.old) (refusals_of self.new) result }
         ensures any_moment { is_stopped self.old ≡ false →
             LeavesInMemory self.old self.new
-            (λ left. (left ≡ records_in self.old) ⊎ (left ≡ records_in self.old ++ new.now ∷ [])) }
+            (λ left. (left ≡ records_of self.old) ⊎ (left ≡ records_of self.old ++ new.now ∷ [])) }
         ensures refused { is_stopped self.old ≡ false → IfErr result (λ fault.
             fault ≢ StoreFault.DeviceFailed →
-            LeavesInMemory self.old self.new (λ left. left ≡ records_in self.old)) }
+            LeavesInMemory self.old self.new (λ left. left ≡ records_of self.old)) }
         ensures stopped_unchanged { is_stopped self.old ≡ true → self.new ≡ self.old }
-        ensures loads { loads_in self.new ≡ loads_in self.old }
-        ensures given { given_in self.new ≡ given_in self.old }
+        ensures loads { loads_of self.new ≡ loads_of self.old }
+        ensures given { given_of self.new ≡ given_of self.old }
         ensures limit { limit_of self.new ≡ limit_of self.old }
-        ensures cut { Cuts (cut_of self.old) (records_in self.old) new.now (records_in self.new) (cut_of self.new)
+        ensures cut { Cuts (cut_of self.old) (records_of self.old) new.now (records_of self.new) (cut_of self.new)
             result }
         ensures room { HasRoom self.old → result ≢ Err StoreFault.OutOfMemory }
     {

@@ -5,7 +5,7 @@ ghost use Rattle.std.specs.Prelude.{slice_index, slice_index_or};
 ghost use Rattle.std.specs.Int.{w64, to_be_bytes};
 ghost use Rattle.std.proofs.Props.{props};
 ghost use Rattle.sha2.specs.Sha256.{digest_bytes, initial_hash_256, rounds, sha256, word_at};
-ghost use Rattle.winternitz.specs.Lanes.{joined_word, lane, lanes, lane_state, step_bytes, value_in};
+ghost use Rattle.winternitz.specs.Lanes.{joined_word, lane, lanes, lane_state, step_bytes, value_at};
 
 use crate::lanes::rounds::{add, compress_from_five, constant, five_rounds, shifted, shifted_left};
 use crate::lanes::{LANES, States, Words, initial, side_by_side, words_of};
@@ -36,11 +36,11 @@ pub struct Beginning {
 }
 
 impl Beginning {
-    ghost use Rattle.winternitz.specs.Beginning.{first_in};
+    ghost use Rattle.winternitz.specs.Beginning.{first_bytes_at};
 
     /// The messages' beginning in each lane.
     pub fn new(first: &[[u8; 20]; LANES]) -> Beginning
-        ensures { (j : ℕ) → j < lanes → first_in result j ≡ slice_index_or first.now j [] }
+        ensures { (j : ℕ) → j < lanes → first_bytes_at result j ≡ slice_index_or first.now j [] }
     {
         let words = first_words(first);
         let [a, b, c, d, e, f, g, h] = five_rounds(&words, initial());
@@ -65,8 +65,8 @@ impl Beginning {
     /// SHA-256 of a message in each lane: the beginning, the chain's number in two bytes, the step's number in one, and
     /// a value. Values are given and returned as words.
     pub fn hash(&self, chains: &[u16; LANES], at: &[u8; LANES], values: &States) -> States
-        ensures { (j : ℕ) → j < lanes → value_in result j ≡ sha256 (first_in self.now j
-            ++ step_bytes (slice_index chains.now j) (slice_index at.now j) (value_in values.now j)) }
+        ensures { (j : ℕ) → j < lanes → value_at result j ≡ sha256 (first_bytes_at self.now j
+            ++ step_bytes (slice_index chains.now j) (slice_index at.now j) (value_at values.now j)) }
     {
         let first = [self.word0, self.word1, self.word2, self.word3, self.word4];
         let working = [
@@ -114,7 +114,7 @@ fn block_words(first: &[Words; 5], numbers: Words, values: &States) -> [Words; 1
         → slice_index (lane j result) k ≡ slice_index (lane j first.now) k }
     ensures rest { (j : ℕ) → j < lanes → (chain at k : ℕ) → chain < 2 ^ 16 → at < 2 ^ 8
         → slice_index numbers j ≡ chain * 2 ^ 8 + at → 5 ≤ k → k < 16 → slice_index (lane j result) k
-        ≡ word_at (step_bytes chain at (value_in values.now j) ++ 0x80 ∷ to_be_bytes w64 440) (4 * (k - 5)) }
+        ≡ word_at (step_bytes chain at (value_at values.now j) ++ 0x80 ∷ to_be_bytes w64 440) (4 * (k - 5)) }
 {
     [
         first[0],

@@ -3,8 +3,8 @@ use Rattle.std.specs.List.{flat_map}
 use Rattle.std.proofs.lemmas.List.{take_all}
 use Rattle.typecodes.specs.Layout.{Spells}
 use Rattle.hss.specs.SignedKey.{signed_key, signed_keys}
-use Rattle.hss.specs.Secret.{key_of, signature_by}
-use Rattle.hss.specs.Writing.{signed_by, signed_key_by, signed_key_bytes}
+use Rattle.hss.specs.Secret.{key_of, signature_of_level}
+use Rattle.hss.specs.Writing.{made_signature, made_signed_key, signed_key_bytes}
 use Rattle.hss.proofs.Bytes.{keys-none, part-more, spelled-more, written-more}
 use Rattle.hss.proofs.Making.{signed-count}
 use Rattle.hss.proofs.writing.write_above.Goals.{After-loop-i}
@@ -29,14 +29,14 @@ loop-i-preserved c =
       bytes = written-more above c.args.bottom.now level next c.loop-i.i c.loop-i-test.true c.index-above-i.is c.key_below-next.ensures _ c.loop-i.into c.write_signed_key.new.into c.loop-i.offset _
           c.loop-i.invariant.bytes c.write_signed_key.ensures.bytes (omega arith) (omega arith);
       spelled = spelled-more above c.args.bottom.now level next c.loop-i.i c.loop-i-test.true c.index-above-i.is c.key_below-next.ensures c.loop-i.invariant.spelled
-          (subst (Spells signed_key (signed_key_by level next)) c.write_signed_key.ensures.bytes c.write_signed_key.ensures.spells);
+          (subst (Spells signed_key (made_signed_key level next)) c.write_signed_key.ensures.bytes c.write_signed_key.ensures.spells);
     }
 
 -- all were written
-all_written : (c : After-loop-i) → take c.loop-i.i (signed_by c.args.above.now c.args.bottom.now).signed ≡ (signed_by c.args.above.now c.args.bottom.now).signed
+all_written : (c : After-loop-i) → take c.loop-i.i (made_signature c.args.above.now c.args.bottom.now).signed ≡ (made_signature c.args.above.now c.args.bottom.now).signed
 all_written c =
-    let signed = (signed_by c.args.above.now c.args.bottom.now).signed in
-    take_all c.loop-i.i signed (omega (arith, signed-count signature_by key_of c.args.above.now c.args.bottom.now, c.loop-i-test.false))
+    let signed = (made_signature c.args.above.now c.args.bottom.now).signed in
+    take_all c.loop-i.i signed (omega (arith, signed-count signature_of_level key_of c.args.above.now c.args.bottom.now, c.loop-i-test.false))
 
 pub returns-clause-bytes : goal.returns-clause-bytes
 returns-clause-bytes c = c.loop-i.invariant.bytes ∙ ap (λ signed. take 4 c.args.into.now ++ flat_map signed_key_bytes signed) (all_written (c))

@@ -3,13 +3,13 @@ use Rattle.std.specs.Prelude.{sum_by}
 use Rattle.std.specs.List.{flat_map}
 use Rattle.typecodes.specs.Layout.{Spells}
 use Rattle.hss.specs.SignedKey.{signed_keys}
-use Rattle.hss.specs.Writing.{part_size, signed_by, signed_key_bytes}
+use Rattle.hss.specs.Writing.{part_size, made_signature, signed_key_bytes}
 use Rattle.hss.proofs.writing.write_above.Given as goal
 
 -- the signed keys so far were written, and spell themselves
 abbrev pub invariant-loop-i : goal.invariant-loop-i
 invariant-loop-i l =
-    let signed = take l.i (signed_by l.above l.bottom).signed in
+    let signed = take l.i (made_signature l.above l.bottom).signed in
     record {
       offset : l.offset ≡ 4 + sum_by part_size (take l.i l.above);
       bytes : take l.offset l.into ≡ take 4 l.fn.into ++ flat_map signed_key_bytes signed;

@@ -1,7 +1,7 @@
 use Rattle.std.proofs.Common.{rules, arith, sym, ap, ◌∙◌, ◌≡◌, length, ◌-◌, ◌+◌, ◌*◌, ◌^◌, ◌/◌, ◌∷◌, []}
 use Rattle.std.specs.Prelude.{slice_index_or}
 use Rattle.std.proofs.lemmas.Grind.{pow_more}
-use Rattle.merkle.specs.Nodes.{nodes_under}
+use Rattle.merkle.specs.Nodes.{part_nodes}
 use Rattle.merkle.proofs.Listing.{halves_inside, nodes_over_halves, half_long, half_room, half_some, leaves_below}
 use Rattle.merkle.proofs.Listing.{nodes_one, one_written}
 use Rattle.merkle.proofs.nodes.+fill.Goals as goal
@@ -51,9 +51,9 @@ returns-clause-value g t c =
     c.fill.new.into c.fill-2.new.into _ c.join.result (omega arith) (omega arith)
     c.fill.ensures.value
     (c.fill-2.ensures.value
-    ∙ ap (λ l. nodes_under l (g.T.NodeHash.join_of c.fill.new.tree) c.args.base below
+    ∙ ap (λ l. part_nodes l (g.T.NodeHash.join_of c.fill.new.tree) c.args.base below
     (2 * c.args.index + 1)) c.fill.ensures.leaves
-    ∙ ap (λ j. nodes_under leaf j c.args.base below (2 * c.args.index + 1)) c.fill.ensures.joins)
+    ∙ ap (λ j. part_nodes leaf j c.args.base below (2 * c.args.index + 1)) c.fill.ensures.joins)
     (omega (arith, long, pow_more 2 c.args.depth))
     (c.join.ensures
     ∙ ap (λ j. j (c.args.base + below) c.args.index (slice_index_or c.fill.new.into n [])

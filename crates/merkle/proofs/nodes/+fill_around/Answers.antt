@@ -1,7 +1,7 @@
 use Rattle.std.proofs.Common.{rules, arith, sym, ap, ◌∙◌, ◌≡◌, length, ◌-◌, ◌+◌, ◌*◌, ◌^◌, ◌/◌, ◌∷◌, []}
 use Rattle.std.specs.Prelude.{slice_index_or}
 use Rattle.std.proofs.lemmas.Grind.{pow_more}
-use Rattle.merkle.specs.Nodes.{nodes_under}
+use Rattle.merkle.specs.Nodes.{part_nodes}
 use Rattle.merkle.specs.Tree.{node}
 use Rattle.merkle.proofs.Listing.{halves_inside, nodes_over_halves, half_long, half_room, half_some, leaves_below}
 use Rattle.merkle.proofs.Listing.{nodes_one, one_written}
@@ -92,9 +92,9 @@ returns-then-over-index-clause-value g t c =
     c.fill_around.new.into c.fill.new.into _ c.join.result (omega arith) (omega arith)
     c.fill_around.ensures.value
     (c.fill.ensures.value
-    ∙ ap (λ l. nodes_under l (g.T.NodeHash.join_of c.fill_around.new.tree) c.args.base below
+    ∙ ap (λ l. part_nodes l (g.T.NodeHash.join_of c.fill_around.new.tree) c.args.base below
     (2 * c.args.index + 1)) c.fill_around.ensures.leaves
-    ∙ ap (λ j. nodes_under leaf j c.args.base below (2 * c.args.index + 1)) c.fill_around.ensures.joins)
+    ∙ ap (λ j. part_nodes leaf j c.args.base below (2 * c.args.index + 1)) c.fill_around.ensures.joins)
     (omega (arith, long, pow_more 2 c.args.depth))
     (c.join.ensures
     ∙ ap (λ j. j (c.args.base + below) c.args.index (slice_index_or c.fill_around.new.into n [])
@@ -118,9 +118,9 @@ returns-else-over-index-clause-value g t c =
     first.new.into second.new.into _ c.join-else-over-index.result (omega arith) (omega arith)
     first.ensures.value
     (second.ensures.value
-    ∙ ap (λ l. nodes_under l (g.T.NodeHash.join_of first.new.tree) c.args.base below
+    ∙ ap (λ l. part_nodes l (g.T.NodeHash.join_of first.new.tree) c.args.base below
     (2 * c.args.index + 1)) first.ensures.leaves
-    ∙ ap (λ j. nodes_under leaf j c.args.base below (2 * c.args.index + 1)) first.ensures.joins)
+    ∙ ap (λ j. part_nodes leaf j c.args.base below (2 * c.args.index + 1)) first.ensures.joins)
     (omega (arith, long, pow_more 2 c.args.depth))
     (c.join-else-over-index.ensures
     ∙ ap (λ j. j (c.args.base + below) c.args.index (slice_index_or first.new.into n [])

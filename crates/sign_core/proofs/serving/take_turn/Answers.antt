@@ -1,6 +1,6 @@
 use Rattle.std.proofs.Common.{rules, ◌≡◌, Err, Ok, Some, refl, subst}
 use Rattle.std.specs.Io.KnownBytes.{Appends}
-use Rattle.sign_core.specs.inner.Frames.{ReadsHead, said_by}
+use Rattle.sign_core.specs.inner.Frames.{ReadsHead, head_fields}
 use Rattle.sign_core.specs.inner.Serving.{WritesReply}
 use Rattle.sign_core.specs.Serving.{reply_bytes}
 use Rattle.sign_core.proofs.Exchanges.{after_answer, answered_at, answered_frame, asks_stays, finish_stays, frame_cut, frame_goes, frame_lost, head_failed, head_lost}
@@ -29,7 +29,7 @@ returns-in_err-written g c =
     (λ old outcome new step. step.0) _ _ _ _ c.finish-is_whole.ensures in
     let part = answered_frame g.S.Store g.R.Source _ g.I.Message (λ part. part.input.now) (λ part. part.left) (record { part = λ old outcome new step. step.1 })
     _ _ _ _ _ _ _ _ c.ask-reply.result c.finish-is_whole.result _ (search rules) c.ask-reply.ensures.capacity c.ask-reply.ensures.asks c.finish-is_whole.ensures in
-    let frame = answered_at g.S.Store g.R.Source g.I.Message (said_by c.in-Ok-Some.head) _ _ _ _ _ c.finish-is_whole.new.message.input.now _ _ _ _ _
+    let frame = answered_at g.S.Store g.R.Source g.I.Message (head_fields c.in-Ok-Some.head) _ _ _ _ _ c.finish-is_whole.new.message.input.now _ _ _ _ _
     c.as_slice-name.ensures.value refl (search rules) part in
     frame_lost g.S.Store g.R.Source g.I.Message c.in-Ok-Some.head _ _ _ _ _ _ _ _ c.ask-reply.new.signature.items c.ask-reply.result
     c.finish-is_whole.result _ _ refl reads frame c.in_err-written.field-0.0 _ answer
@@ -45,7 +45,7 @@ returns-then-not-is_whole g c =
     (λ old outcome new step. step.0) _ _ _ _ c.finish-is_whole.ensures in
     let part = answered_frame g.S.Store g.R.Source _ g.I.Message (λ part. part.input.now) (λ part. part.left) (record { part = λ old outcome new step. step.1 })
     _ _ _ _ _ _ _ _ c.ask-reply.result c.finish-is_whole.result _ (search rules) c.ask-reply.ensures.capacity c.ask-reply.ensures.asks c.finish-is_whole.ensures in
-    let frame = answered_at g.S.Store g.R.Source g.I.Message (said_by c.in-Ok-Some.head) _ _ _ _ _ c.finish-is_whole.new.message.input.now _ _ _ _ _
+    let frame = answered_at g.S.Store g.R.Source g.I.Message (head_fields c.in-Ok-Some.head) _ _ _ _ _ c.finish-is_whole.new.message.input.now _ _ _ _ _
     c.as_slice-name.ensures.value refl (search rules) part in
     frame_cut g.S.Store g.R.Source g.I.Message c.in-Ok-Some.head _ _ _ _ _ _ _ _ c.ask-reply.new.signature.items c.ask-reply.result
     c.finish-is_whole.result _ _ refl reads frame (search rules)
@@ -61,7 +61,7 @@ returns g c =
     (λ old outcome new step. step.0) _ _ _ _ c.finish-is_whole.ensures in
     let part = answered_frame g.S.Store g.R.Source _ g.I.Message (λ part. part.input.now) (λ part. part.left) (record { part = λ old outcome new step. step.1 })
     _ _ _ _ _ _ _ _ c.ask-reply.result c.finish-is_whole.result _ (search rules) c.ask-reply.ensures.capacity c.ask-reply.ensures.asks c.finish-is_whole.ensures in
-    let frame = answered_at g.S.Store g.R.Source g.I.Message (said_by c.in-Ok-Some.head) _ _ _ _ _ c.finish-is_whole.new.message.input.now _ _ _ _ _
+    let frame = answered_at g.S.Store g.R.Source g.I.Message (head_fields c.in-Ok-Some.head) _ _ _ _ _ c.finish-is_whole.new.message.input.now _ _ _ _ _
     c.as_slice-name.ensures.value refl (search rules) part in
     frame_goes g.S.Store g.R.Source g.I.Message c.in-Ok-Some.head _ _ _ _ _ _ _ _ c.ask-reply.new.signature.items c.ask-reply.result
     c.finish-is_whole.result _ _ refl reads frame (search rules)

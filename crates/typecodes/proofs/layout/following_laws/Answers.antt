@@ -1,5 +1,5 @@
 use Rattle.std.proofs.Common.{sym, subst}
-use Rattle.typecodes.specs.Layout.{Spells, followed_by}
+use Rattle.typecodes.specs.Layout.{Spells, sequenced}
 use Rattle.typecodes.proofs.OneWay.{one_way-bind}
 use Rattle.typecodes.proofs.Read.{read-bind}
 use Rattle.typecodes.proofs.Readers.{reads-from_gives}
@@ -9,7 +9,7 @@ use Rattle.typecodes.proofs.layout.following_laws.Goals as goal
 pub returns-clause-in_turn : goal.returns-clause-in_turn
 returns-clause-in_turn g c =
     λ first next w bytes.
-    (in_turn first next w bytes, λ (v, a, b, bytes_are, spelled, after). subst (Spells (followed_by first next) w) (sym bytes_are) (from_turn first next v w a b spelled after))
+    (in_turn first next w bytes, λ (v, a, b, bytes_are, spelled, after). subst (Spells (sequenced first next) w) (sym bytes_are) (from_turn first next v w a b spelled after))
 
 pub returns-clause-read_on : goal.returns-clause-read_on
 returns-clause-read_on g c = read-bind

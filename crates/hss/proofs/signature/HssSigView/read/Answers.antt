@@ -5,8 +5,8 @@ use Rattle.typecodes.proofs.Steps.{ends-trailing}
 use Rattle.lms.specs.Signature.{signature as lms_signature}
 use Rattle.lms.specs.View.{bytes_of as lms_bytes_of, pair_of as lms_pair_of, signature_of as lms_signature_of}
 use Rattle.hss.specs.Key.{level_number}
-use Rattle.hss.specs.SignedKey.{StandInTurn, signed_in, signed_keys, taken_by}
-use Rattle.hss.specs.Signature.{shown_by, signature}
+use Rattle.hss.specs.SignedKey.{StandInTurn, shown_keys, signed_keys, bytes_taken}
+use Rattle.hss.specs.Signature.{shown_signature, signature}
 use Rattle.hss.proofs.Walking.{keys-end, whole-read}
 use Rattle.hss.proofs.signature.HssSigView.read.Goals.{After-end}
 use Rattle.hss.proofs.signature.HssSigView.read.Goals as goal
@@ -19,11 +19,11 @@ four_is : (c : After-end) → c.number_above.new.cursor.place ≡ 4
 four_is c = omega (arith, c.in_ok-above.ensures.passes.len, c.new-cursor.ensures.place)
 
 -- the signed keys that were read
-keys : (c : After-end) → read (signed_keys c.in_ok-above.above) c.args.bytes.now 4 ≡ Ok (signed_in c.in_ok-signed.signed.slots, c.from_cursor.new.cursor.place)
+keys : (c : After-end) → read (signed_keys c.in_ok-above.above) c.args.bytes.now 4 ≡ Ok (shown_keys c.in_ok-signed.signed.slots, c.from_cursor.new.cursor.place)
 keys c = ap₂ (λ b at. read (signed_keys c.in_ok-above.above) b at) (sym (bytes_are c)) (sym (four_is c)) ∙ c.in_ok-signed.ensures.read
 
 -- and all
-found : (c : After-end) → read signature c.args.bytes.now 0 ≡ Ok (shown_by c.in_ok-signed.signed.slots c.in_ok-bottom.bottom, c.from_cursor-2.new.cursor.place)
+found : (c : After-end) → read signature c.args.bytes.now 0 ≡ Ok (shown_signature c.in_ok-signed.signed.slots c.in_ok-bottom.bottom, c.from_cursor-2.new.cursor.place)
 found c =
     let bytes = c.args.bytes.now in
     let number : read (level_number 0 7) bytes 0 ≡ Ok (c.in_ok-above.above, 4) = search rules in
@@ -48,13 +48,13 @@ invariant_of-result c =
     let size = lms_signature_len_of (lms_pair_of view) in
     let at_end : length bytes ≡ c.from_cursor-2.new.cursor.place = search rules in
     let four : 4 ≤ length bytes = search rules in
-    let stands : place ≡ 4 + taken_by (signed_in slots) = (keys-end c.in_ok-above.above bytes 4 place (signed_in slots) four (keys after)).1 in
+    let stands : place ≡ 4 + bytes_taken (shown_keys slots) = (keys-end c.in_ok-above.above bytes 4 place (shown_keys slots) four (keys after)).1 in
     let long : c.from_cursor-2.new.cursor.place - place ≡ size = omega (arith, c.in_ok-bottom.ensures.len) in
     let part : lms_bytes_of view ≡ take (c.from_cursor-2.new.cursor.place - place) (drop place bytes) = search rules in
     let stand : StandInTurn 4 bytes slots =
     subst₂ (λ at b. StandInTurn at b slots) (four_is after) (bytes_are after) c.in_ok-signed.ensures.stand in
     record {
-      spelled = found after ∙ ap (λ at. Ok (shown_by slots view, at)) (sym at_end);
+      spelled = found after ∙ ap (λ at. Ok (shown_signature slots view, at)) (sym at_end);
       stand = stand;
       last = part ∙ ap₂ (λ n at. take n (drop at bytes)) long stands;
     }

@@ -1,7 +1,7 @@
 use Rattle.std.proofs.Common.{◌≡◌, ◌+◌, ◌<◌, ◌∙◌, refl, sym, ap, [], Some, Ok, Err, arith, rules, length, subst, length-set, ◌++◌, ◌∷◌}
 use Rattle.std.specs.Prelude.{set, take}
 use Rattle.typecodes.specs.Cursor.{read}
-use Rattle.hss.specs.SignedKey.{AreFirst, StandInTurn, BeginsAt, signed_in, signed_key, signed_key_of, taken_by}
+use Rattle.hss.specs.SignedKey.{AreFirst, StandInTurn, BeginsAt, shown_keys, signed_key, signed_key_of, bytes_taken}
 use Rattle.hss.proofs.Passing.{keys-faulty, keys-next, keys-none}
 use Rattle.hss.proofs.Slots.{set-first, set-shows, set-stand, shown-front, unused-first, unused-stand}
 use Rattle.hss.proofs.Walking.{keys-end}
@@ -31,15 +31,15 @@ loop-i-preserved c =
     let empty = c.loop-i.invariant.first.1 in
     let found : read signed_key bytes c.loop-i.rest.place ≡ Ok (signed_key_of view, c.from_cursor.new.cursor.place) =
     ap (λ b. read signed_key b c.loop-i.rest.place) (sym same) ∙ c.in_ok-from_cursor.ensures.read in
-    let at : c.loop-i.rest.place ≡ place + taken_by (signed_in (take i slots)) =
-    (keys-end i bytes place c.loop-i.rest.place (signed_in slots) c.args.cursor.now.within c.loop-i.invariant.read).1
-    ∙ ap (λ keys. place + taken_by keys) (shown-front i slots c.loop-i.invariant.first) in
-    let here : BeginsAt (place + taken_by (signed_in (take i slots))) bytes view =
+    let at : c.loop-i.rest.place ≡ place + bytes_taken (shown_keys (take i slots)) =
+    (keys-end i bytes place c.loop-i.rest.place (shown_keys slots) c.args.cursor.now.within c.loop-i.invariant.read).1
+    ∙ ap (λ keys. place + bytes_taken keys) (shown-front i slots c.loop-i.invariant.first) in
+    let here : BeginsAt (place + bytes_taken (shown_keys (take i slots))) bytes view =
     subst (λ at. BeginsAt at bytes view) at (subst (λ b. BeginsAt c.loop-i.rest.place b view) same c.in_ok-from_cursor.ensures.part) in
-    let shows : signed_in slots ++ signed_key_of view ∷ [] ≡ signed_in (set slots c.from.result (Some view)) =
-    sym (set-shows slots i view within empty) ∙ ap (λ k. signed_in (set slots k (Some view))) (sym c.from.ensures) in
+    let shows : shown_keys slots ++ signed_key_of view ∷ [] ≡ shown_keys (set slots c.from.result (Some view)) =
+    sym (set-shows slots i view within empty) ∙ ap (λ k. shown_keys (set slots k (Some view))) (sym c.from.ensures) in
     record {
-      read = keys-next i bytes place c.loop-i.rest.place c.from_cursor.new.cursor.place (signed_in slots) (signed_key_of view) c.loop-i.invariant.read found
+      read = keys-next i bytes place c.loop-i.rest.place c.from_cursor.new.cursor.place (shown_keys slots) (signed_key_of view) c.loop-i.invariant.read found
           ∙ ap (λ keys. Ok (keys, c.from_cursor.new.cursor.place)) shows;
       first = subst (λ k. AreFirst (i + 1) (set slots k (Some view))) (sym c.from.ensures) (set-first slots i view within empty c.loop-i.invariant.first);
       stand = subst (λ k. StandInTurn place bytes (set slots k (Some view))) (sym c.from.ensures) (set-stand slots i view within empty place bytes c.loop-i.invariant.stand here);
@@ -56,5 +56,5 @@ returns-in_err-from_cursor-clause-read c =
     let same = ap (λ b. b.now) c.loop-i.invariant.bytes in
     let faulty : read signed_key bytes c.loop-i.rest.place ≡ Err c.in_err-from_cursor.field-0.0 =
     ap (λ b. read signed_key b c.loop-i.rest.place) (sym same) ∙ c.in_err-from_cursor.ensures.read in
-    let all = keys-faulty c.loop-i.i c.args.count bytes place c.loop-i.rest.place (signed_in c.loop-i.slots) _ c.loop-i-test.true c.loop-i.invariant.read faulty in
+    let all = keys-faulty c.loop-i.i c.args.count bytes place c.loop-i.rest.place (shown_keys c.loop-i.slots) _ c.loop-i-test.true c.loop-i.invariant.read faulty in
     search rules

@@ -1,6 +1,6 @@
 use Rattle.std.proofs.Common.{◌≡◌, ◌-◌, Ok, arith, rules, take, drop}
 use Rattle.typecodes.specs.Cursor.{read}
-use Rattle.lms.specs.Signature.{Signature, signature, signature_with}
+use Rattle.lms.specs.Signature.{Signature, signature, whole_signature}
 use Rattle.lms.proofs.Fields.{fields}
 use Rattle.typecodes.proofs.Parts.{part_read}
 use Rattle.lms.proofs.Parts.{laid_out}
@@ -11,7 +11,7 @@ unfolding signature
 invariant_of-result c =
     let cursor = c.args.cursor.now in
     let end = c.values-2.new.self.place in
-    let s : Signature = signature_with (record { tree = c.in_ok-tree.tree; ots = c.in_ok-ots.ots }) c.in_ok-q.q c.in_ok-randomizer.randomizer.now c.in_ok-chains.chains.now c.in_ok-path.path.now in
+    let s : Signature = whole_signature (record { tree = c.in_ok-tree.tree; ots = c.in_ok-ots.ots }) c.in_ok-q.q c.in_ok-randomizer.randomizer.now c.in_ok-chains.chains.now c.in_ok-path.path.now in
     let found : read signature cursor.bytes.now cursor.place ≡ Ok (s, end) = search (rules, fields) in
     let spelled = part_read signature s cursor.bytes.now cursor.place end (omega arith) found in
     let laid = laid_out s (take (end - cursor.place) (drop cursor.place cursor.bytes.now)) spelled in

@@ -3,7 +3,7 @@ use Rattle.std.proofs.Common.{ℕ, List, ◌≡◌, ◌+◌, ◌-◌, ◌<◌, �
 use Rattle.std.proofs.lemmas.List.{take_all}
 use Rattle.byteorder.specs.Endian.{big_number}
 use Rattle.typecodes.specs.Cursor.{read}
-use Rattle.typecodes.specs.Fields.{values_in}
+use Rattle.typecodes.specs.Fields.{first_values}
 use Rattle.typecodes.specs.Types.{chains_of, height_of, lms_signature_len_of, signature_len_of}
 use Rattle.typecodes.proofs.Steps.{ends-trailing}
 use Rattle.lms.specs.Signature.{signature}
@@ -39,11 +39,11 @@ invariant_of-view c =
       q_at = subst (λ bytes. (signature_of view).q ≡ big_number 4 (take 4 bytes)) all view.q_at;
       randomizer_at = subst (λ bytes. (signature_of view).randomizer ≡ take 32 (drop 8 bytes)) all view.randomizer_at;
       chains_at =
-          subst (λ bytes. (signature_of view).chains ≡ values_in (chains_of pair.ots) (drop 40 bytes)) all
+          subst (λ bytes. (signature_of view).chains ≡ first_values (chains_of pair.ots) (drop 40 bytes)) all
           view.chains_at;
       path_at =
           subst
-          (λ bytes. (signature_of view).path ≡ values_in (height_of pair.tree) (drop (8 + signature_len_of pair.ots) bytes))
+          (λ bytes. (signature_of view).path ≡ first_values (height_of pair.tree) (drop (8 + signature_len_of pair.ots) bytes))
           all
           view.path_at;
     }

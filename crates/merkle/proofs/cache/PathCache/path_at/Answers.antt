@@ -1,6 +1,6 @@
 use Rattle.std.proofs.Common.{arith, sym, ap, subst, ◌∙◌, ◌≡◌, ◌<◌, ◌-◌, ◌+◌, ◌^◌, ◌/◌, length, ℕ}
 use Rattle.std.proofs.Math.Nat.{div-eq_of_lt}
-use Rattle.merkle.specs.Nodes.{nodes_under}
+use Rattle.merkle.specs.Nodes.{part_nodes}
 use Rattle.merkle.specs.Cache.{block_height, block_nodes}
 use Rattle.merkle.proofs.Kept.{block_count, whole_path, upper_count}
 use Rattle.merkle.proofs.Reading.{read_below}
@@ -49,5 +49,5 @@ returns-clause-value g c =
     (read_below leaf join b _ (height - b) index c.deref-2.result.now c.read_path-2.new.into upper_long
     (c.read_path-2.ensures leaf join b)
     (c.deref-2.ensures.value ∙ ap (λ v. v.upper) c.self-2.view_is ∙ c.keep.ensures.nodes.upper_kept
-    ∙ ap (nodes_under leaf join b (height - b)) (sym first)))
+    ∙ ap (part_nodes leaf join b (height - b)) (sym first)))
     at

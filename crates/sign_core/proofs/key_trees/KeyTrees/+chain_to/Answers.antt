@@ -1,17 +1,17 @@
 use Rattle.std.proofs.Common.{rules, ◌≡◌, ◌∙◌, [], ◌∷◌, ◌++◌, Some, ap, subst, sym, arith}
-use Rattle.sign_core.specs.inner.Links.{trees_in}
-use Rattle.sign_core.specs.Textbook.{damaged_in}
+use Rattle.sign_core.specs.inner.Links.{chain_trees}
+use Rattle.sign_core.specs.Textbook.{damaged_at}
 use Rattle.sign_core.proofs.LinkParts.{IsUnder, Reaches, chain_damaged_above, is_under, reaches_below, reaches_top}
 use Rattle.sign_core.proofs.Signs.{is_none}
 use Rattle.sign_core.proofs.key_trees.KeyTrees.+chain_to.Goals.{After-secret_at-secret, In-Some, in-Some+in_ok-tree, in_default}
 use Rattle.sign_core.proofs.key_trees.KeyTrees.+chain_to.Goals as goal
 
 -- an Extend's tree stands under another
-under : (g : _) (t : _) (c : In-Some g t) → IsUnder (trees_in c.args.self.now) c.args.ledger.now.records c.args.level c.args.place c.in-Some.made
+under : (g : _) (t : _) (c : In-Some g t) → IsUnder (chain_trees c.args.self.now) c.args.ledger.now.records c.args.level c.args.place c.in-Some.made
 under g t c =
     let a = c.args in
     let r = c.requires in
-    is_under a.ledger.now.key (trees_in a.self.now) a.ledger.now.records a.level a.place c.in-Some.made r.legal r.keyed r.trees r.stands
+    is_under a.ledger.now.key (chain_trees a.self.now) a.ledger.now.records a.level a.place c.in-Some.made r.legal r.keyed r.trees r.stands
     (sym c.made.ensures ∙ c.in-Some.is)
 
 pub overflow_sub-level : goal.overflow_sub-level
@@ -27,8 +27,8 @@ pub returns-in_err-tree-clause-damaged : goal.returns-in_err-tree-clause-damaged
 returns-in_err-tree-clause-damaged g t c =
     let a = c.args in
     let below = under g t (goal.at.returns-in_err-tree-clause-damaged g t c).In-Some in
-    let at : damaged_in a.ledger.now.key a.level a.ledger.now.records a.place ≡ Some c.in_err-tree.field-0.0 =
-    chain_damaged_above a.ledger.now.key (trees_in a.self.now) a.ledger.now.records a.level a.place c.in_err-tree.field-0.0 c.in-Some.made below
+    let at : damaged_at a.ledger.now.key a.level a.ledger.now.records a.place ≡ Some c.in_err-tree.field-0.0 =
+    chain_damaged_above a.ledger.now.key (chain_trees a.self.now) a.ledger.now.records a.level a.place c.in_err-tree.field-0.0 c.in-Some.made below
     c.in_err-tree.ensures.damaged in
     search (rules, at)
 
@@ -38,13 +38,13 @@ push-requires g t c =
     (omega arith, omega (arith, c.in_ok-tree.ensures.len, c.requires.room, below.some))
 
 -- what the levels above give, whichever tree it is
-reached : (g : _) (t : _) (c : After-secret_at-secret g t) → Reaches c.args.ledger.now.key (trees_in c.args.self.now) c.args.ledger.now.records c.args.level
+reached : (g : _) (t : _) (c : After-secret_at-secret g t) → Reaches c.args.ledger.now.key (chain_trees c.args.self.now) c.args.ledger.now.records c.args.level
     c.args.place c.args.above.now.items c.match-made.above.items
 reached g t c =
     let a = c.args in
     let r = c.requires in
     let l = a.ledger.now in
-    let T = trees_in a.self.now in
+    let T = chain_trees a.self.now in
     elim c.match-made.branch [
       | in-Some+in_ok-tree w ↦
           let chain = w.in_ok-tree.ensures in

@@ -2,8 +2,8 @@ use Rattle.std.proofs.Common.{◌≡◌, ◌∙◌, None, Some, ap, sym, subst, 
 use Rattle.std.specs.Prelude.{length, IfErr, OnOk}
 use Rattle.state_file.specs.declared.record.Secret.TheVariants.{Xmss}
 use Rattle.state_file.specs.Laws.{levels_of}
-use Rattle.sign_core.specs.inner.Links.{MakesTrees, trees_in}
-use Rattle.sign_core.specs.Textbook.{damaged_in, tree_before}
+use Rattle.sign_core.specs.inner.Links.{MakesTrees, chain_trees}
+use Rattle.sign_core.specs.Textbook.{damaged_at, current_at}
 use Rattle.sign_core.proofs.ChainParts.{key_chain}
 use Rattle.sign_core.proofs.CurrentChain.{has_free, leaf_inside, not_free, tree_stands}
 use Rattle.sign_core.proofs.Signs.{is_none}
@@ -25,7 +25,7 @@ chain_to-requires-clause-inside g c =
     let l = c.args.ledger.now in
     let has = has_free l.key.secret l.records c.args.level c.current.result c.in-Some.tree c.current.ensures c.in-Some.is c.requires.free in
     let these = subst (MakesTrees l.key.secret) c.in-Chain.is c.requires.trees in
-    leaf_inside l.key (trees_in c.in-Chain.trees) l.records c.args.level c.in-Some.tree.place c.in-Some.tree.next
+    leaf_inside l.key (chain_trees c.in-Chain.trees) l.records c.args.level c.in-Some.tree.place c.in-Some.tree.next
     (c.key-key.ensures.first ∙ ap Some c.key-key.ensures.key) these c.requires.level has
 
 pub returns-in-Xmss-clause-sound : goal.returns-in-Xmss-clause-sound
@@ -34,7 +34,7 @@ returns-in-Xmss-clause-sound g c =
     let of_key = subst (MakesTrees l.key.secret) c.in-Xmss.is c.requires.trees in
     let keyed = c.key-key.ensures.first ∙ ap Some c.key-key.ensures.key in
     let top : 0 ≡ c.args.level = omega (arith, c.requires.level, ap levels_of of_key) in
-    subst (λ n. OnOk c.xmss_path.result (damaged_in l.key n l.records (tree_before n l.records (length l.records)) ≡ None)) top
+    subst (λ n. OnOk c.xmss_path.result (damaged_at l.key n l.records (current_at n l.records (length l.records)) ≡ None)) top
     (key_chain l.records l.key (λ d. OnOk c.xmss_path.result (d ≡ None)) keyed
     (λ rest. c.xmss_path.ensures.sound l.key rest (of_key ∙ ap Xmss (sym c.new-asked.ensures.secret)) (ap (λ own. own.root) (sym c.key-key.ensures.key))))
 
@@ -44,6 +44,6 @@ returns-in-Xmss-clause-damaged g c =
     let of_key = subst (MakesTrees l.key.secret) c.in-Xmss.is c.requires.trees in
     let keyed = c.key-key.ensures.first ∙ ap Some c.key-key.ensures.key in
     let top : 0 ≡ c.args.level = omega (arith, c.requires.level, ap levels_of of_key) in
-    subst (λ n. IfErr c.xmss_path.result (λ k. damaged_in l.key n l.records (tree_before n l.records (length l.records)) ≡ Some k)) top
+    subst (λ n. IfErr c.xmss_path.result (λ k. damaged_at l.key n l.records (current_at n l.records (length l.records)) ≡ Some k)) top
     (key_chain l.records l.key (λ d. IfErr c.xmss_path.result (λ k. d ≡ Some k)) keyed
     (λ rest. c.xmss_path.ensures.damaged l.key rest (of_key ∙ ap Xmss (sym c.new-asked.ensures.secret)) (ap (λ own. own.root) (sym c.key-key.ensures.key))))

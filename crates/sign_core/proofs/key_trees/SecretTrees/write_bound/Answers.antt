@@ -5,12 +5,12 @@ use Rattle.state_file.specs.declared.record.Key.{Key}
 use Rattle.typecodes.specs.declared.secret.XmssSecret.{XmssSecret}
 use Rattle.typecodes.specs.Types.{xmss_height_of}
 use Rattle.hss.specs.declared.secret.Level.{Level}
-use Rattle.xmss.specs.Secret.{path_in}
+use Rattle.xmss.specs.Secret.{leaf_path}
 use Rattle.state_file.specs.declared.record.Secret.TheVariants.{Xmss}
 use Rattle.sign_core.specs.Signer.{signature_size}
-use Rattle.sign_core.specs.inner.Links.{AreMade, IsTreeAt, MakesTrees, signings_of, trees_in}
+use Rattle.sign_core.specs.inner.Links.{AreMade, IsTreeAt, MakesTrees, signings_of, chain_trees}
 use Rattle.sign_core.specs.inner.Signing.{WritesChain, pairs_of}
-use Rattle.sign_core.specs.Textbook.{damaged_in, signings_above, trees_of}
+use Rattle.sign_core.specs.Textbook.{damaged_at, chain_signings, trees_of}
 use Rattle.sign_core.proofs.ChainParts.{links_pairs}
 use Rattle.sign_core.proofs.LedgerReading.{key_levels}
 use Rattle.sign_core.proofs.LinkParts.{more_made, tree_signs}
@@ -31,20 +31,20 @@ pub chain_to-requires-clause-stands : goal.chain_to-requires-clause-stands
 chain_to-requires-clause-stands g c =
     let own = c.key-key.result.now in
     let L = c.args.ledger.now.records in
-    let these = subst (λ (k : Key). trees_of k.secret ≡ Some (trees_in c.in-Chain.trees)) (sym c.key-key.ensures.key)
+    let these = subst (λ (k : Key). trees_of k.secret ≡ Some (chain_trees c.in-Chain.trees)) (sym c.key-key.ensures.key)
     (subst (MakesTrees c.args.ledger.now.key.secret) c.in-Chain.is c.requires.trees) in
     let (name, kept) = c.requires.kept own c.key-key.ensures.first in
     subst (λ n. IsTreeAt L (n - 1) c.args.binding.now.tree) (sym c.levels-level.ensures)
-    (bound_chain own (trees_in c.in-Chain.trees) L name c.args.binding.now c.key-key.ensures.legal c.key-key.ensures.first these kept).0
+    (bound_chain own (chain_trees c.in-Chain.trees) L name c.args.binding.now c.key-key.ensures.legal c.key-key.ensures.first these kept).0
 
 pub chain_to-requires-clause-inside : goal.chain_to-requires-clause-inside
 chain_to-requires-clause-inside g c =
     let own = c.key-key.result.now in
     let L = c.args.ledger.now.records in
-    let these = subst (λ (k : Key). trees_of k.secret ≡ Some (trees_in c.in-Chain.trees)) (sym c.key-key.ensures.key)
+    let these = subst (λ (k : Key). trees_of k.secret ≡ Some (chain_trees c.in-Chain.trees)) (sym c.key-key.ensures.key)
     (subst (MakesTrees c.args.ledger.now.key.secret) c.in-Chain.is c.requires.trees) in
     let (name, kept) = c.requires.kept own c.key-key.ensures.first in
-    (bound_chain own (trees_in c.in-Chain.trees) L name c.args.binding.now c.key-key.ensures.legal c.key-key.ensures.first these kept).1
+    (bound_chain own (chain_trees c.in-Chain.trees) L name c.args.binding.now c.key-key.ensures.legal c.key-key.ensures.first these kept).1
 
 pub chain_to-requires-clause-room : goal.chain_to-requires-clause-room
 chain_to-requires-clause-room g c =
@@ -66,9 +66,9 @@ write_chain-requires-clause-few g c =
 
 pub write_chain-requires-clause-trees : goal.write_chain-requires-clause-trees
 write_chain-requires-clause-trees g c =
-    let these = subst (λ (k : Key). trees_of k.secret ≡ Some (trees_in c.in-Chain.trees)) (sym c.key-key.ensures.key)
+    let these = subst (λ (k : Key). trees_of k.secret ≡ Some (chain_trees c.in-Chain.trees)) (sym c.key-key.ensures.key)
     (subst (MakesTrees c.args.ledger.now.key.secret) c.in-Chain.is c.requires.trees) in
-    (trees_in c.in-Chain.trees, these)
+    (chain_trees c.in-Chain.trees, these)
 
 pub write_chain-requires-clause-room : goal.write_chain-requires-clause-room
 write_chain-requires-clause-room g c = c.requires.room ∙ ap (λ (k : Key). signature_size k.secret) (sym c.key-key.ensures.key)
@@ -77,7 +77,7 @@ pub write_chain-requires-clause-pairs : goal.write_chain-requires-clause-pairs
 write_chain-requires-clause-pairs g c other others =
     let own = c.key-key.result.now in
     let L = c.args.ledger.now.records in
-    let T = trees_in c.in-Chain.trees in
+    let T = chain_trees c.in-Chain.trees in
     let these = subst (λ (k : Key). trees_of k.secret ≡ Some T) (sym c.key-key.ensures.key)
     (subst (MakesTrees c.args.ledger.now.key.secret) c.in-Chain.is c.requires.trees) in
     let (name, kept) = c.requires.kept own c.key-key.ensures.first in
@@ -86,31 +86,31 @@ write_chain-requires-clause-pairs g c other others =
     (links_pairs L own T other (c.levels-level.result - 1) c.args.binding.now.tree (c.deref.result.now ++ bottom ∷ []) _ c.key-key.ensures.legal c.key-key.ensures.first these others
     (bound_chain own T L name c.args.binding.now c.key-key.ensures.legal c.key-key.ensures.first these kept).0 (ap (λ n. n - 1) c.levels-level.ensures)
     (links_signs c.deref.result.now bottom _ (ap signings_of c.deref.ensures.0 ∙ c.in_ok-tree-in-Chain.ensures.signings
-    ∙ ap (λ (l : List Level). signings_of l ++ signings_above T (c.levels-level.result - 1) L c.args.binding.now.tree) c.new-above.ensures))
+    ∙ ap (λ (l : List Level). signings_of l ++ chain_signings T (c.levels-level.result - 1) L c.args.binding.now.tree) c.new-above.ensures))
     c.in_ok-tree-in-Chain.ensures.tree.secret_is)
 
 pub returns-in_err-tree-in-Chain-clause-damaged : goal.returns-in_err-tree-in-Chain-clause-damaged
 returns-in_err-tree-in-Chain-clause-damaged g c =
     let l = c.args.ledger.now in
     let level = ap (λ n. n - 1) c.levels-level.ensures ∙ ap (λ (k : Key). bottom_of k.secret) c.key-key.ensures.key in
-    let damaged = subst (λ n. damaged_in l.key n l.records c.args.binding.now.tree ≡ Some c.in_err-tree-in-Chain.field-0.0) level c.in_err-tree-in-Chain.ensures.damaged in
+    let damaged = subst (λ n. damaged_at l.key n l.records c.args.binding.now.tree ≡ Some c.in_err-tree-in-Chain.field-0.0) level c.in_err-tree-in-Chain.ensures.damaged in
     search (rules, damaged)
 
 pub returns-in_ok-tree-in-Chain-clause-sound : goal.returns-in_ok-tree-in-Chain-clause-sound
 returns-in_ok-tree-in-Chain-clause-sound g c =
     let l = c.args.ledger.now in
     let level = ap (λ n. n - 1) c.levels-level.ensures ∙ ap (λ (k : Key). bottom_of k.secret) c.key-key.ensures.key in
-    subst (λ n. damaged_in l.key n l.records c.args.binding.now.tree ≡ None) level c.in_ok-tree-in-Chain.ensures.sound
+    subst (λ n. damaged_at l.key n l.records c.args.binding.now.tree ≡ None) level c.in_ok-tree-in-Chain.ensures.sound
 
 pub returns-in_ok-tree-in-Chain-clause-signature : goal.returns-in_ok-tree-in-Chain-clause-signature
 returns-in_ok-tree-in-Chain-clause-signature g c k bound is =
     let l = c.args.ledger.now in
     let b = c.args.binding.now in
-    let T = trees_in c.in-Chain.trees in
+    let T = chain_trees c.in-Chain.trees in
     let these = subst (MakesTrees l.key.secret) c.in-Chain.is c.requires.trees in
     let level = ap (λ n. n - 1) c.levels-level.ensures ∙ ap (λ (k : Key). bottom_of k.secret) c.key-key.ensures.key in
     let bottom : Level = record { tree = c.in_ok-tree-in-Chain.tree; randomizer = b.randomizer; digest = b.digest } in
-    let above = signings_above T (c.levels-level.result - 1) l.records b.tree in
+    let above = chain_signings T (c.levels-level.result - 1) l.records b.tree in
     let signs = links_signs c.deref.result.now bottom above (ap signings_of c.deref.ensures.0 ∙ c.in_ok-tree-in-Chain.ensures.signings
     ∙ ap (λ (l : List Level). signings_of l ++ above) c.new-above.ensures)
     ∙ ap (λ s. above ++ s ∷ []) (tree_signs c.in_ok-tree-in-Chain.tree _ _ b.randomizer b.digest c.in_ok-tree-in-Chain.ensures.tree) in
@@ -164,4 +164,4 @@ pub returns-in_ok-xmss_path-in-Xmss-clause-signature : goal.returns-in_ok-xmss_p
 returns-in_ok-xmss_path-in-Xmss-clause-signature g c k bound is =
     let l = c.args.ledger.now in
     let of_key = subst (MakesTrees l.key.secret) c.in-Xmss.is c.requires.trees in
-    xmss_bound_signed l.records l.key _ k bound c.args.binding.now _ of_key is (c.write_signature.ensures.textbook (c.xmss_path.ensures.path ∙ (λ i. path_in (c.new-asked.ensures.secret i) (c.new-asked.ensures.leaf i))))
+    xmss_bound_signed l.records l.key _ k bound c.args.binding.now _ of_key is (c.write_signature.ensures.textbook (c.xmss_path.ensures.path ∙ (λ i. leaf_path (c.new-asked.ensures.secret i) (c.new-asked.ensures.leaf i))))

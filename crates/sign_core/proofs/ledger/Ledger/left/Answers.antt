@@ -5,7 +5,7 @@ use Rattle.std.proofs.lemmas.List.FromFn.{length-map-range_with_len, map-range_w
 use Rattle.std.proofs.lemmas.Option.{same_Some}
 use Rattle.state_file.specs.Laws.{levels_of}
 use Rattle.sign_core.specs.Ledger.{Table}
-use Rattle.sign_core.specs.Records.{free_at, free_counts, key_in}
+use Rattle.sign_core.specs.Records.{free_at, free_counts, the_key}
 use Rattle.sign_core.proofs.LedgerReading.{key_levels}
 use Rattle.sign_core.proofs.ledger.Ledger.left.Goals as goal
 
@@ -27,7 +27,7 @@ loop-level-preserved c =
 pub returns : goal.returns
 returns c = λ key keyed.
     let same : c.args.self.now.key ≡ key =
-    sym (ap (λ (t : Table). t.key) c.self.view_is) ∙ same_Some _ _ (sym c.self.invariant.keyed ∙ ap (λ (t : Table). key_in t.records) c.self.view_is ∙ keyed) in
+    sym (ap (λ (t : Table). t.key) c.self.view_is) ∙ same_Some _ _ (sym c.self.invariant.keyed ∙ ap (λ (t : Table). the_key t.records) c.self.view_is ∙ keyed) in
     let all : c.loop-level.level ≡ levels_of c.args.self.now.key.secret =
     omega (arith, c.levels-level-end.ensures, ap (λ (t : Table). levels_of t.key.secret) c.self.view_is, c.loop-level-test.false, c.loop-level.auto.level-end) in
     c.loop-level.invariant ∙ ap (λ n. map (free_at c.args.self.now.key.secret c.args.self.now.records) (range_with_len 0 n)) all

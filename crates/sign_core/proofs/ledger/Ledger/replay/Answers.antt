@@ -2,7 +2,7 @@ use Rattle.std.proofs.Common.{rules, ◌≡◌, ◌+◌, ◌∙◌, ◌∷◌, [
 use Rattle.std.specs.List.{IsFirstAndRest}
 use Rattle.std.specs.Prelude.{MatchOption}
 use Rattle.state_file.specs.Laws.{IsLegal}
-use Rattle.sign_core.specs.Records.{key_in}
+use Rattle.sign_core.specs.Records.{the_key}
 use Rattle.sign_core.proofs.Replay.{holds_all, holds_first, holds_more, holds_refused, stands_after, error_is}
 use Rattle.sign_core.proofs.ledger.Ledger.replay.Goals.{After-loop-entry, In_ok-first}
 use Rattle.sign_core.proofs.ledger.Ledger.replay.Goals as goal
@@ -20,7 +20,7 @@ all c =
 pub loop-entry-init : goal.loop-entry-init
 loop-entry-init c =
     let alone : c.new-ledger.result.records ≡ c.in_ok-first.first.now ∷ [] = search rules in
-    let keyed : key_in (c.in_ok-first.first.now ∷ []) ≡ Some c.new-ledger.result.key = search rules in
+    let keyed : the_key (c.in_ok-first.first.now ∷ []) ≡ Some c.new-ledger.result.key = search rules in
     holds_first c.args.records.now c.in_ok-first.first.now c.in_ok-first.rest.now c.new-ledger.result
     (begins (goal.at.loop-entry-init c).In_ok-first).0 alone keyed
 
@@ -43,7 +43,7 @@ pub returns-clause-records : goal.returns-clause-records
 returns-clause-records c = all c
 
 pub returns-clause-key : goal.returns-clause-key
-returns-clause-key c = sym (ap key_in (all c)) ∙ c.loop-entry.invariant.keyed
+returns-clause-key c = sym (ap the_key (all c)) ∙ c.loop-entry.invariant.keyed
 
 pub returns-clause-legal : goal.returns-clause-legal
 returns-clause-legal c = subst IsLegal (all c) c.loop-entry.invariant.legal

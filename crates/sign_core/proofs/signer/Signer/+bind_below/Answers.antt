@@ -4,8 +4,8 @@ use Rattle.state_file.specs.Laws.{bottom_of, levels_of}
 use Rattle.state_file.specs.declared.record.Key.{Key}
 use Rattle.state_file.specs.declared.record.Record.TheVariants.{Bound as BoundRecord}
 use Rattle.sign_core.specs.declared.fault.SignFault.{SignFault}
-use Rattle.sign_core.specs.Signing.{answered_with}
-use Rattle.sign_core.specs.Records.{is_long, key_in}
+use Rattle.sign_core.specs.Signing.{answered_value}
+use Rattle.sign_core.specs.Records.{is_long, the_key}
 use Rattle.sign_core.specs.inner.Links.{MakesTrees}
 use Rattle.sign_core.specs.Signer.{signature_size, view_of}
 use Rattle.sign_core.specs.inner.Signing.{CanBind, Extends, BindsBelow}
@@ -18,19 +18,19 @@ use Rattle.sign_core.proofs.signer.Signer.+bind_below.Goals as goal
 
 pub overflow_add-level : goal.overflow_add-level
 overflow_add-level g t c =
-    let own : key_in c.args.self.now.records ≡ Some c.key.result.now = ap (λ w. key_in w.records) (sym c.self.view_is) ∙ c.key.ensures.first in
+    let own : the_key c.args.self.now.records ≡ Some c.key.result.now = ap (λ w. the_key w.records) (sym c.self.view_is) ∙ c.key.ensures.first in
     let few = (levels_range _ _ _ c.key.ensures.sizes c.key.ensures.first c.levels-levels.ensures).1 in
     omega (arith, (c.requires.stands c.key.result.now own).inside, few, c.levels-levels.ensures)
 
 pub returns-in_err-extend : goal.returns-in_err-extend
 returns-in_err-extend g t c key keyed =
     let a = c.args in
-    let own : key_in a.self.now.records ≡ Some c.key.result.now = ap (λ w. key_in w.records) (sym c.self.view_is) ∙ c.key.ensures.first in
+    let own : the_key a.self.now.records ≡ Some c.key.result.now = ap (λ w. the_key w.records) (sym c.self.view_is) ∙ c.key.ensures.first in
     let same : c.key.result.now ≡ key = same_Some _ _ (sym own ∙ keyed) in
     let levels : levels_of c.key.result.now.secret ≡ levels_of key.secret = ap (λ k. levels_of k.secret) same in
     let fault : SignFault = c.in_err-extend.field-0.0 in
     let failed : c.from_residual.result ≡ Err fault = search rules in
-    let answer : Err fault ≡ answered_with c.from_residual.result a.out.now = ap (λ r. answered_with r a.out.now) (sym failed) in
+    let answer : Err fault ≡ answered_value c.from_residual.result a.out.now = ap (λ r. answered_value r a.out.now) (sym failed) in
     let below : ℕ = bottom_of key.secret - (a.level + 1) in
     let low : a.level + 1 < levels_of key.secret = omega (arith, levels, c.if-level-levels.true, c.levels-levels.ensures) in
     let at : a.level + 1 ≡ bottom_of key.secret - below = omega (arith, low) in
@@ -44,7 +44,7 @@ returns-in_err-extend g t c key keyed =
 pub prove-unreachable-requires : goal.prove-unreachable-requires
 prove-unreachable-requires g t c =
     let a = c.args in
-    let own : key_in a.self.now.records ≡ Some c.key.result.now = ap (λ w. key_in w.records) (sym c.self.view_is) ∙ c.key.ensures.first in
+    let own : the_key a.self.now.records ≡ Some c.key.result.now = ap (λ w. the_key w.records) (sym c.self.view_is) ∙ c.key.ensures.first in
     let after : Recorded g.S.Store a.self.now c.extend.new.self =
     is_recorded g.S.Store g.R.Source (a.level + 1) a.self.now c.extend.new.self c.key.result.now
     (c.in_ok-extend.ensures.step c.key.result.now own) in
@@ -53,11 +53,11 @@ prove-unreachable-requires g t c =
 pub bind_below-requires : goal.bind_below-requires
 bind_below-requires g t c κs within =
     let a = c.args in
-    let own : key_in a.self.now.records ≡ Some c.key.result.now = ap (λ w. key_in w.records) (sym c.self.view_is) ∙ c.key.ensures.first in
+    let own : the_key a.self.now.records ≡ Some c.key.result.now = ap (λ w. the_key w.records) (sym c.self.view_is) ∙ c.key.ensures.first in
     let after : Recorded g.S.Store a.self.now c.extend.new.self =
     is_recorded g.S.Store g.R.Source (a.level + 1) a.self.now c.extend.new.self c.key.result.now
     (c.in_ok-extend.ensures.step c.key.result.now own) in
-    let next : key_in c.extend.new.self.records ≡ Some c.key.result.now =
+    let next : the_key c.extend.new.self.records ≡ Some c.key.result.now =
     key_after g.S.Store a.self.now c.extend.new.self c.key.result.now after own in
     let few = (levels_range _ _ _ c.key.ensures.sizes c.key.ensures.first c.levels-levels.ensures).1 in
     let low : a.level + 1 < levels_of c.key.result.now.secret = omega (arith, c.if-level-levels.true, c.levels-levels.ensures) in
@@ -95,13 +95,13 @@ bind_below-requires g t c κs within =
 pub returns-then-level-levels : goal.returns-then-level-levels
 returns-then-level-levels g t c key keyed =
     let a = c.args in
-    let own : key_in a.self.now.records ≡ Some c.key.result.now = ap (λ w. key_in w.records) (sym c.self.view_is) ∙ c.key.ensures.first in
+    let own : the_key a.self.now.records ≡ Some c.key.result.now = ap (λ w. the_key w.records) (sym c.self.view_is) ∙ c.key.ensures.first in
     let same : c.key.result.now ≡ key = same_Some _ _ (sym own ∙ keyed) in
     let levels : levels_of c.key.result.now.secret ≡ levels_of key.secret = ap (λ k. levels_of k.secret) same in
     let first : Extends g.S.Store g.R.Source (a.level + 1) a.self.now c.extend.new.self (Ok []) key = c.in_ok-extend.ensures.step key keyed in
     let after : Recorded g.S.Store a.self.now c.extend.new.self =
     is_recorded g.S.Store g.R.Source (a.level + 1) a.self.now c.extend.new.self key first in
-    let next : key_in c.extend.new.self.records ≡ Some key = key_after g.S.Store a.self.now c.extend.new.self key after keyed in
+    let next : the_key c.extend.new.self.records ≡ Some key = key_after g.S.Store a.self.now c.extend.new.self key after keyed in
     let opened : c.self-then-level-levels.inside.is_open ≡ true = ap (λ w. w.is_open) c.self-then-level-levels.view_is ∙ after.is_open in
     let running : g.S.Store.stopped c.extend.new.self.store ≡ false =
     ap (λ w. g.S.Store.stopped w.store) (sym c.self-then-level-levels.view_is) ∙ (c.self-then-level-levels.invariant.0.tied opened).running in
@@ -110,14 +110,14 @@ returns-then-level-levels g t c key keyed =
     let at : a.level + 1 ≡ bottom_of key.secret - below = omega (arith, low) in
     let wanted : suc below ≡ bottom_of key.secret - a.level = omega (arith, low) in
     subst (λ (n : ℕ). BindsBelow g.S.Store g.R.Source g.M.Message a.name.now n a.self.now c.bind_below.new.self a.message.now c.bind_below.new.message
-    (answered_with c.bind_below.result c.bind_below.new.out) key) wanted
+    (answered_value c.bind_below.result c.bind_below.new.out) key) wanted
     (binds_below_after g.S.Store g.R.Source g.M.Message a.name.now key below (a.level + 1) a.self.now c.extend.new.self c.bind_below.new.self
-    a.message.now c.bind_below.new.message (answered_with c.bind_below.result c.bind_below.new.out) at running first (c.bind_below.ensures key next))
+    a.message.now c.bind_below.new.message (answered_value c.bind_below.result c.bind_below.new.out) at running first (c.bind_below.ensures key next))
 
 pub returns-in_err-binding : goal.returns-in_err-binding
 returns-in_err-binding g t c key keyed =
     let a = c.args in
-    let own : key_in a.self.now.records ≡ Some c.key.result.now = ap (λ w. key_in w.records) (sym c.self.view_is) ∙ c.key.ensures.first in
+    let own : the_key a.self.now.records ≡ Some c.key.result.now = ap (λ w. the_key w.records) (sym c.self.view_is) ∙ c.key.ensures.first in
     let levels : levels_of c.key.result.now.secret ≡ levels_of key.secret = ap (λ k. levels_of k.secret) (same_Some _ _ (sym own ∙ keyed)) in
     let low : levels_of key.secret ≤ a.level + 1 = omega (arith, levels, c.if-level-levels.false, c.levels-levels.ensures) in
     let bottom : a.level ≡ bottom_of key.secret = omega (arith, low, (c.requires.stands key keyed).inside) in
@@ -125,7 +125,7 @@ returns-in_err-binding g t c key keyed =
     let failed : c.from_residual-in_err-binding.result ≡ Err fault = search rules in
     at_end g.S.Store g.R.Source g.M.Message a.name.now _ _ _ _ _ key _ _ bottom
     (subst (λ (x : Result (List ℕ) SignFault). BindsBelow g.S.Store g.R.Source g.M.Message a.name.now 0 a.self.now c.bind.new.self a.message.now
-    c.bind.new.message x key) (ap (λ r. answered_with r a.out.now) (sym failed)) (c.in_err-binding.ensures key keyed))
+    c.bind.new.message x key) (ap (λ r. answered_value r a.out.now) (sym failed)) (c.in_err-binding.ensures key keyed))
 
 pub write_bound-requires-clause-trees : goal.write_bound-requires-clause-trees
 write_bound-requires-clause-trees g t c = subst (λ (k : Key). MakesTrees k.secret c.of.result) c.key-2.ensures.key c.of.ensures
@@ -134,12 +134,12 @@ pub write_bound-requires-clause-kept : goal.write_bound-requires-clause-kept
 write_bound-requires-clause-kept g t c other others =
     let a = c.args in
     let L = c.self-2.inside.ledger in
-    let own : key_in a.self.now.records ≡ Some c.key.result.now = ap (λ w. key_in w.records) (sym c.self.view_is) ∙ c.key.ensures.first in
+    let own : the_key a.self.now.records ≡ Some c.key.result.now = ap (λ w. the_key w.records) (sym c.self.view_is) ∙ c.key.ensures.first in
     let (bound, binds_below, last) = c.in_ok-binding.ensures c.key.result.now own in
-    let next : key_in c.bind.new.self.records ≡ Some c.key.result.now =
-    ap key_in last.grown ∙ key_stays a.self.now.records (BoundRecord bound ∷ []) c.key.result.now own in
+    let next : the_key c.bind.new.self.records ≡ Some c.key.result.now =
+    ap the_key last.grown ∙ key_stays a.self.now.records (BoundRecord bound ∷ []) c.key.result.now own in
     let records = ap (λ w. w.records) c.self-2.view_is in
-    let same : c.key.result.now ≡ other = same_key c.bind.new.self.records c.key.result.now other next (ap key_in (sym records) ∙ others) in (
+    let same : c.key.result.now ≡ other = same_key c.bind.new.self.records c.key.result.now other next (ap the_key (sym records) ∙ others) in (
       a.name.now,
       bound_last c.key.result.now other a.self.now.records c.bind.new.self.records L.records a.name.now bound c.in_ok-binding.binding last records same,
     )
@@ -148,12 +148,12 @@ pub write_bound-requires-clause-room : goal.write_bound-requires-clause-room
 write_bound-requires-clause-room g t c =
     let a = c.args in
     let L = c.self-2.inside.ledger in
-    let own : key_in a.self.now.records ≡ Some c.key.result.now = ap (λ w. key_in w.records) (sym c.self.view_is) ∙ c.key.ensures.first in
+    let own : the_key a.self.now.records ≡ Some c.key.result.now = ap (λ w. the_key w.records) (sym c.self.view_is) ∙ c.key.ensures.first in
     let (bound, binds_below, last) = c.in_ok-binding.ensures c.key.result.now own in
-    let next : key_in c.bind.new.self.records ≡ Some c.key.result.now =
-    ap key_in last.grown ∙ key_stays a.self.now.records (BoundRecord bound ∷ []) c.key.result.now own in
+    let next : the_key c.bind.new.self.records ≡ Some c.key.result.now =
+    ap the_key last.grown ∙ key_stays a.self.now.records (BoundRecord bound ∷ []) c.key.result.now own in
     let same : c.key.result.now ≡ L.key = same_key c.bind.new.self.records c.key.result.now L.key next
-    (ap (λ w. key_in w.records) (sym c.self-2.view_is) ∙ c.self-2.invariant.1) in
+    (ap (λ w. the_key w.records) (sym c.self-2.view_is) ∙ c.self-2.invariant.1) in
     subst (λ (k : Key). length a.out.now ≡ signature_size k.secret) same ((c.requires.can c.key.result.now own).room c.key.result.now own)
 
 pub returns : goal.returns
@@ -161,15 +161,15 @@ returns g t c key keyed =
     let a = c.args in
     let whole = c.self-2.inside in
     let L = whole.ledger in
-    let own : key_in a.self.now.records ≡ Some c.key.result.now = ap (λ w. key_in w.records) (sym c.self.view_is) ∙ c.key.ensures.first in
+    let own : the_key a.self.now.records ≡ Some c.key.result.now = ap (λ w. the_key w.records) (sym c.self.view_is) ∙ c.key.ensures.first in
     let levels : levels_of c.key.result.now.secret ≡ levels_of key.secret = ap (λ k. levels_of k.secret) (same_Some _ _ (sym own ∙ keyed)) in
     let low : levels_of key.secret ≤ a.level + 1 = omega (arith, levels, c.if-level-levels.false, c.levels-levels.ensures) in
     let stands = c.requires.stands key keyed in
     let bottom : a.level ≡ bottom_of key.secret = omega (arith, low, stands.inside) in
     let (bound, binds_below, last) = c.in_ok-binding.ensures key keyed in
     let records = ap (λ w. w.records) c.self-2.view_is in
-    let next : key_in c.bind.new.self.records ≡ Some key = ap key_in last.grown ∙ key_stays a.self.now.records (BoundRecord bound ∷ []) key keyed in
-    let same : key ≡ L.key = same_key c.bind.new.self.records key L.key next (ap (λ w. key_in w.records) (sym c.self-2.view_is) ∙ c.self-2.invariant.1) in
+    let next : the_key c.bind.new.self.records ≡ Some key = ap the_key last.grown ∙ key_stays a.self.now.records (BoundRecord bound ∷ []) key keyed in
+    let same : key ≡ L.key = same_key c.bind.new.self.records key L.key next (ap (λ w. the_key w.records) (sym c.self-2.view_is) ∙ c.self-2.invariant.1) in
     let sound = sound_last key L.key a.self.now.records c.bind.new.self.records L.records a.name.now bound c.in_ok-binding.binding a.level
     (some_keyed a.self.now.records key keyed) bottom stands last records same in
     let (x, written, mapped) = never_damaged c.write_bound.result c.map_err.result _ c.map_err.ensures.cases c.write_bound.ensures.damaged sound in
@@ -177,9 +177,9 @@ returns g t c key keyed =
     c.write_bound.new.out written last records same c.write_bound.ensures.signature in
     let view = ap (λ y. view_of whole.store whole.random L y whole.is_open) c.write_bound.ensures.caches ∙ c.self-2.view_is in
     subst (λ w. BindsBelow g.S.Store g.R.Source g.M.Message a.name.now (bottom_of key.secret - a.level) a.self.now w a.message.now c.bind.new.message
-    (answered_with c.map_err.result c.write_bound.new.out) key) (sym view)
+    (answered_value c.map_err.result c.write_bound.new.out) key) (sym view)
     (subst (λ r. BindsBelow g.S.Store g.R.Source g.M.Message a.name.now (bottom_of key.secret - a.level) a.self.now c.bind.new.self a.message.now
-    c.bind.new.message (answered_with r c.write_bound.new.out) key) (sym mapped)
+    c.bind.new.message (answered_value r c.write_bound.new.out) key) (sym mapped)
     (at_end g.S.Store g.R.Source g.M.Message a.name.now _ _ _ _ _ key _ _ bottom
     (subst (λ b. BindsBelow g.S.Store g.R.Source g.M.Message a.name.now 0 a.self.now c.bind.new.self a.message.now c.bind.new.message (Ok b) key) (sym signs)
     binds_below)))

@@ -1,6 +1,6 @@
 use Rattle.std.proofs.Common.{◌≡◌, ◌∙◌, true, ap, subst, sym}
 use Rattle.std.specs.Prelude.{not}
-use Rattle.state_file.specs.Slot.{FitsVersion, version_in}
+use Rattle.state_file.specs.Slot.{FitsVersion, file_version}
 use Rattle.sign_core.proofs.Adding.{adds_by, adds_in_err, adds_in_ok, follows_tied, signer_grown}
 use Rattle.sign_core.proofs.signer.Signer.add.Goals as goal
 
@@ -37,5 +37,5 @@ pub append-appended-requires-clause-follows : goal.append-appended-requires-clau
 append-appended-requires-clause-follows g c honest =
     let i = c.self.inside in
     let was : i.is_open ≡ true = ap (λ w. w.is_open) c.self.view_is ∙ c.requires.open in
-    let fits = subst (λ w. FitsVersion (version_in w.records) c.args.entry) (sym c.self.view_is) c.requires.fits in
+    let fits = subst (λ w. FitsVersion (file_version w.records) c.args.entry) (sym c.self.view_is) c.requires.fits in
     follows_tied g.S.Store i.store i.ledger.records c.args.entry i.ledger.key c.self.invariant.1 (c.self.invariant.0.tied was) fits honest

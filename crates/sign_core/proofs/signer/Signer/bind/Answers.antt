@@ -4,9 +4,9 @@ use Rattle.state_file.specs.declared.record.Bound.{Bound}
 use Rattle.state_file.specs.declared.record.Key.{Key}
 use Rattle.state_file.specs.declared.record.Record.TheVariants.{Bound as BoundRecord}
 use Rattle.sign_core.specs.declared.fault.SignFault.TheVariants.{MessageRead}
-use Rattle.sign_core.specs.Records.{binding_in, free_at, has_moved, key_in, next_at}
+use Rattle.sign_core.specs.Records.{binding_at, free_at, has_moved, the_key, next_at}
 use Rattle.sign_core.specs.Signer.{view_of}
-use Rattle.sign_core.specs.Signing.{answered_with}
+use Rattle.sign_core.specs.Signing.{answered_value}
 use Rattle.sign_core.specs.Textbook.{digest_at, signature_at}
 use Rattle.sign_core.specs.Trees.{tree_at}
 use Rattle.sign_core.specs.inner.Links.{MakesTrees}
@@ -34,7 +34,7 @@ unreachable-requires g c =
     let i = c.self.inside in
     let K = i.ledger.key in
     let records = i.ledger.records in
-    let kept : key_in v.records ≡ Some K = ap (λ w. key_in w.records) (sym c.self.view_is) ∙ c.self.invariant.1 in
+    let kept : the_key v.records ≡ Some K = ap (λ w. the_key w.records) (sym c.self.view_is) ∙ c.self.invariant.1 in
     let level : c.levels-bottom.result - 1 ≡ bottom_of K.secret =
     ap (λ n. n - 1) c.levels-bottom.ensures ∙ ap (λ (k : Key). bottom_of k.secret) c.key.ensures.key in
     let free : 0 < free_at K.secret records (bottom_of K.secret) =
@@ -51,7 +51,7 @@ returns-in_err-randomizer g c key keyed =
     let i = c.self.inside in
     let K = i.ledger.key in
     let records = i.ledger.records in
-    let kept : key_in v.records ≡ Some K = ap (λ w. key_in w.records) (sym c.self.view_is) ∙ c.self.invariant.1 in
+    let kept : the_key v.records ≡ Some K = ap (λ w. the_key w.records) (sym c.self.view_is) ∙ c.self.invariant.1 in
     let level : c.levels-bottom.result - 1 ≡ bottom_of K.secret =
     ap (λ n. n - 1) c.levels-bottom.ensures ∙ ap (λ (k : Key). bottom_of k.secret) c.key.ensures.key in
     let free : 0 < free_at K.secret records (bottom_of K.secret) =
@@ -74,7 +74,7 @@ returns-in_err-digest g c key keyed =
     let i = c.self.inside in
     let K = i.ledger.key in
     let records = i.ledger.records in
-    let kept : key_in v.records ≡ Some K = ap (λ w. key_in w.records) (sym c.self.view_is) ∙ c.self.invariant.1 in
+    let kept : the_key v.records ≡ Some K = ap (λ w. the_key w.records) (sym c.self.view_is) ∙ c.self.invariant.1 in
     let level : c.levels-bottom.result - 1 ≡ bottom_of K.secret =
     ap (λ n. n - 1) c.levels-bottom.ensures ∙ ap (λ (k : Key). bottom_of k.secret) c.key.ensures.key in
     let free : 0 < free_at K.secret records (bottom_of K.secret) =
@@ -104,7 +104,7 @@ add-requires-clause-follows g c =
     let i = c.self.inside in
     let K = i.ledger.key in
     let records = i.ledger.records in
-    let kept : key_in v.records ≡ Some K = ap (λ w. key_in w.records) (sym c.self.view_is) ∙ c.self.invariant.1 in
+    let kept : the_key v.records ≡ Some K = ap (λ w. the_key w.records) (sym c.self.view_is) ∙ c.self.invariant.1 in
     let level : c.levels-bottom.result - 1 ≡ bottom_of K.secret =
     ap (λ n. n - 1) c.levels-bottom.ensures ∙ ap (λ (k : Key). bottom_of k.secret) c.key.ensures.key in
     let free : 0 < free_at K.secret records (bottom_of K.secret) =
@@ -113,7 +113,7 @@ add-requires-clause-follows g c =
     free in
     let trees : MakesTrees K.secret c.of-trees.result = subst (λ (k : Key). MakesTrees k.secret c.of-trees.result) c.key.ensures.key c.of-trees.ensures in
     bound_follows records K c.in-Some.tree.place c.args.name.now _ c.self.invariant.1 (ap (λ w. has_moved w.records) c.self.view_is ∙ c.requires.ready.stays)
-    has.current_is has.leaf_is has.free refl (ap (λ w. binding_in w.records c.args.name.now) c.self.view_is ∙ c.requires.unbound)
+    has.current_is has.leaf_is has.free refl (ap (λ w. binding_at w.records c.args.name.now) c.self.view_is ∙ c.requires.unbound)
     (c.in_ok-randomizer.ensures K.secret trees).fits
 
 pub add-requires-clause-few : goal.add-requires-clause-few
@@ -133,7 +133,7 @@ returns-in_err-add g c key keyed =
     let i = c.self.inside in
     let K = i.ledger.key in
     let records = i.ledger.records in
-    let kept : key_in v.records ≡ Some K = ap (λ w. key_in w.records) (sym c.self.view_is) ∙ c.self.invariant.1 in
+    let kept : the_key v.records ≡ Some K = ap (λ w. the_key w.records) (sym c.self.view_is) ∙ c.self.invariant.1 in
     let level : c.levels-bottom.result - 1 ≡ bottom_of K.secret =
     ap (λ n. n - 1) c.levels-bottom.ensures ∙ ap (λ (k : Key). bottom_of k.secret) c.key.ensures.key in
     let free : 0 < free_at K.secret records (bottom_of K.secret) =
@@ -164,7 +164,7 @@ returns-in_err-add g c key keyed =
     (Err c.in_err-add.field-0.0) key) c.self.view_is
     (bound_added g.S.Store g.R.Source g.M.Message c.args.name.now i.store i.random c.draw_randomizer.new.random i.ledger i.is_open c.args.message.now
     c.digest.new.message key c.add.new.self bound text c.add.result _ opened drawn whole is c.add.ensures.adds
-    (ap (λ a. answered_with a sig) (sym c.in_err-add.was))))
+    (ap (λ a. answered_value a sig) (sym c.in_err-add.was))))
 
 pub returns : goal.returns
 returns g c key keyed =
@@ -172,7 +172,7 @@ returns g c key keyed =
     let i = c.self.inside in
     let K = i.ledger.key in
     let records = i.ledger.records in
-    let kept : key_in v.records ≡ Some K = ap (λ w. key_in w.records) (sym c.self.view_is) ∙ c.self.invariant.1 in
+    let kept : the_key v.records ≡ Some K = ap (λ w. the_key w.records) (sym c.self.view_is) ∙ c.self.invariant.1 in
     let level : c.levels-bottom.result - 1 ≡ bottom_of K.secret =
     ap (λ n. n - 1) c.levels-bottom.ensures ∙ ap (λ (k : Key). bottom_of k.secret) c.key.ensures.key in
     let free : 0 < free_at K.secret records (bottom_of K.secret) =
@@ -201,14 +201,14 @@ returns g c key keyed =
     c.in_ok-add.field-0 c.add.ensures.adds c.in_ok-add.was in
     let binds_below = bound_added g.S.Store g.R.Source g.M.Message c.args.name.now i.store i.random c.draw_randomizer.new.random i.ledger i.is_open
     c.args.message.now c.digest.new.message key c.add.new.self bound text c.add.result (Ok sig) opened drawn whole is c.add.ensures.adds
-    (ap (λ a. answered_with a sig) (sym c.in_ok-add.was)) in
-    let unbound : binding_in records c.args.name.now ≡ None = ap (λ w. binding_in w.records c.args.name.now) c.self.view_is ∙ c.requires.unbound in
+    (ap (λ a. answered_value a sig) (sym c.in_ok-add.was)) in
+    let unbound : binding_at records c.args.name.now ≡ None = ap (λ w. binding_at w.records c.args.name.now) c.self.view_is ∙ c.requires.unbound in
     subst (λ w. BindsNext g.S.Store g.R.Source g.M.Message c.args.name.now w c.add.new.self c.args.message.now c.digest.new.message (Ok c.of.result) key) c.self.view_is (
       bound,
       binds_below,
       record {
         grown = grown;
-        named = ap (λ l. binding_in l c.args.name.now) grown ∙ binding_new records bound unbound;
+        named = ap (λ l. binding_at l c.args.name.now) grown ∙ binding_new records bound unbound;
         kept = kept_last K key records c.add.new.self.records c.in-Some.tree.place c.len-place.result bound has.current_is c.len-place.ensures grown own
             ∙ sym c.of.ensures;
       },

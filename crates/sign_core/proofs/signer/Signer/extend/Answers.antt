@@ -1,6 +1,6 @@
 use Rattle.std.proofs.Common.{rules, ◌≡◌, ◌∙◌, ℕ, ◌+◌, true, false, List, [], ◌∷◌, ◌++◌, Some, Err, refl, sym, ap, subst, arith}
 use Rattle.lmots.specs.Key.{message_digest_of}
-use Rattle.lms.specs.Secret.{public_with, root_in}
+use Rattle.lms.specs.Secret.{rooted_public, root_of_secret}
 use Rattle.typecodes.specs.declared.secret.LmsSecret.{LmsSecret}
 use Rattle.lms.specs.Writing.{public_bytes}
 use Rattle.state_file.specs.Laws.{levels_of}
@@ -11,9 +11,9 @@ use Rattle.state_file.specs.declared.record.Record.TheVariants.{Extend as Extend
 use Rattle.sign_core.specs.declared.fault.SignFault.{SignFault}
 use Rattle.sign_core.specs.declared.fault.SignFault.TheVariants.{OutOfMemory}
 use Rattle.sign_core.specs.Caches.{Cached}
-use Rattle.sign_core.specs.Signing.{answered_with}
-use Rattle.sign_core.specs.Records.{has_moved, key_in}
-use Rattle.sign_core.specs.inner.Links.{MakesTrees, trees_in}
+use Rattle.sign_core.specs.Signing.{answered_value}
+use Rattle.sign_core.specs.Records.{has_moved, the_key}
+use Rattle.sign_core.specs.inner.Links.{MakesTrees, chain_trees}
 use Rattle.sign_core.specs.Signer.{View, view_of}
 use Rattle.sign_core.specs.inner.Signing.{Extends, Stands}
 use Rattle.sign_core.proofs.Adding.{levels_range}
@@ -29,28 +29,28 @@ use Rattle.sign_core.proofs.signer.Signer.extend.Goals as goal
 pub current-requires : goal.current-requires
 current-requires g c =
     let i = c.self.inside in
-    let kept : key_in c.args.self.now.records ≡ Some i.ledger.key = ap (λ w. key_in w.records) (sym c.self.view_is) ∙ c.self.invariant.1 in
+    let kept : the_key c.args.self.now.records ≡ Some i.ledger.key = ap (λ w. the_key w.records) (sym c.self.view_is) ∙ c.self.invariant.1 in
     let most = (levels_range i.ledger.records i.ledger.key (levels_of i.ledger.key.secret) c.self.invariant.0.sizes c.self.invariant.1 refl).1 in
     omega (arith, c.requires.below i.ledger.key kept, most)
 
 pub unreachable-requires : goal.unreachable-requires
 unreachable-requires g c =
     let i = c.self.inside in
-    let kept : key_in c.args.self.now.records ≡ Some i.ledger.key = ap (λ w. key_in w.records) (sym c.self.view_is) ∙ c.self.invariant.1 in
+    let kept : the_key c.args.self.now.records ≡ Some i.ledger.key = ap (λ w. the_key w.records) (sym c.self.view_is) ∙ c.self.invariant.1 in
     let stands = subst (λ w. Stands w.records c.args.level i.ledger.key) (sym c.self.view_is) (c.requires.stands i.ledger.key kept) in
     not_free i.ledger.key.secret i.ledger.records c.args.level c.current.result c.current.ensures (is_none c.current.result c.in_default.not-Some) stands.free
 
 pub unreachable-requires-in_default-of : goal.unreachable-requires-in_default-of
 unreachable-requires-in_default-of g c =
     let i = c.self.inside in
-    let kept : key_in c.args.self.now.records ≡ Some i.ledger.key = ap (λ w. key_in w.records) (sym c.self.view_is) ∙ c.self.invariant.1 in
+    let kept : the_key c.args.self.now.records ≡ Some i.ledger.key = ap (λ w. the_key w.records) (sym c.self.view_is) ∙ c.self.invariant.1 in
     no_chain i.ledger.key.secret c.of.result c.args.level
     (subst (λ (k : Key). MakesTrees k.secret c.of.result) c.key.ensures.key c.of.ensures) (c.requires.below i.ledger.key kept) c.in_default-of.not-Chain
 
 pub overflow_add-below : goal.overflow_add-below
 overflow_add-below g c =
     let i = c.self.inside in
-    let kept : key_in c.args.self.now.records ≡ Some i.ledger.key = ap (λ w. key_in w.records) (sym c.self.view_is) ∙ c.self.invariant.1 in
+    let kept : the_key c.args.self.now.records ≡ Some i.ledger.key = ap (λ w. the_key w.records) (sym c.self.view_is) ∙ c.self.invariant.1 in
     let most = (levels_range i.ledger.records i.ledger.key (levels_of i.ledger.key.secret) c.self.invariant.0.sizes c.self.invariant.1 refl).1 in
     omega (arith, c.requires.below i.ledger.key kept, most)
 
@@ -58,12 +58,12 @@ pub returns-in_err-secret-clause-step : goal.returns-in_err-secret-clause-step
 returns-in_err-secret-clause-step g c key keyed =
     let a = c.args in
     let i = c.self.inside in
-    let kept : key_in a.self.now.records ≡ Some i.ledger.key = ap (λ w. key_in w.records) (sym c.self.view_is) ∙ c.self.invariant.1 in
+    let kept : the_key a.self.now.records ≡ Some i.ledger.key = ap (λ w. the_key w.records) (sym c.self.view_is) ∙ c.self.invariant.1 in
     let these = subst (MakesTrees key.secret) c.in-Chain.is (subst (λ (k : Key). MakesTrees k.secret c.of.result)
     (c.key.ensures.key ∙ same_key a.self.now.records i.ledger.key key kept keyed) c.of.ensures) in
     let fault : SignFault = c.in_err-secret.field-0.0 in
     let failed : c.from_residual.result ≡ Err fault = search rules in
-    let answer : Err fault ≡ answered_with c.from_residual.result [] = ap (λ r. answered_with r []) (sym failed) in
+    let answer : Err fault ≡ answered_value c.from_residual.result [] = ap (λ r. answered_value r []) (sym failed) in
     let opened : i.is_open ≡ true = ap (λ w. w.is_open) c.self.view_is ∙ c.requires.ready.is_open in
     let rests : Rests g.S.Store (view_of i.store i.random i.ledger i.caches i.is_open) = record {
       is_open = opened;
@@ -72,15 +72,15 @@ returns-in_err-secret-clause-step g c key keyed =
     } in
     subst (λ (w : View g.row.S.Denot g.row.R.Denot).
     Extends g.S.Store g.R.Source (a.level + 1) w (view_of i.store c.draw_tree.new.random i.ledger i.caches i.is_open)
-    (answered_with c.from_residual.result []) key) c.self.view_is
-    (undrawn g.S.Store g.R.Source (a.level + 1) key (trees_in c.in-Chain.chain) these c.pair.result
-    (view_of i.store i.random i.ledger i.caches i.is_open) c.draw_tree.new.random fault (answered_with c.from_residual.result []) rests answer
+    (answered_value c.from_residual.result []) key) c.self.view_is
+    (undrawn g.S.Store g.R.Source (a.level + 1) key (chain_trees c.in-Chain.chain) these c.pair.result
+    (view_of i.store i.random i.ledger i.caches i.is_open) c.draw_tree.new.random fault (answered_value c.from_residual.result []) rests answer
     c.in_err-secret.ensures)
 
 pub begin-requires : goal.begin-requires
 begin-requires g c =
     let i = c.self.inside in
-    let kept : key_in c.args.self.now.records ≡ Some i.ledger.key = ap (λ w. key_in w.records) (sym c.self.view_is) ∙ c.self.invariant.1 in
+    let kept : the_key c.args.self.now.records ≡ Some i.ledger.key = ap (λ w. the_key w.records) (sym c.self.view_is) ∙ c.self.invariant.1 in
     let most = (levels_range i.ledger.records i.ledger.key (levels_of i.ledger.key.secret) c.self.invariant.0.sizes c.self.invariant.1 refl).1 in
     omega (arith, c.requires.below i.ledger.key kept, most, c.new-asked.ensures.level)
 
@@ -88,13 +88,13 @@ pub returns-in_err-root-clause-step : goal.returns-in_err-root-clause-step
 returns-in_err-root-clause-step g c key keyed =
     let a = c.args in
     let i = c.self.inside in
-    let kept : key_in a.self.now.records ≡ Some i.ledger.key = ap (λ w. key_in w.records) (sym c.self.view_is) ∙ c.self.invariant.1 in
+    let kept : the_key a.self.now.records ≡ Some i.ledger.key = ap (λ w. the_key w.records) (sym c.self.view_is) ∙ c.self.invariant.1 in
     let these = subst (MakesTrees key.secret) c.in-Chain.is (subst (λ (k : Key). MakesTrees k.secret c.of.result)
     (c.key.ensures.key ∙ same_key a.self.now.records i.ledger.key key kept keyed) c.of.ensures) in
     let fault : SignFault = c.in_err-root.field-0.0 in
     let failed : c.from_residual-in_err-root.result ≡ Err fault = search rules in
-    let answer : Err OutOfMemory ≡ answered_with c.from_residual-in_err-root.result [] =
-    sym (ap Err c.in_err-root.ensures.fault) ∙ ap (λ r. answered_with r []) (sym failed) in
+    let answer : Err OutOfMemory ≡ answered_value c.from_residual-in_err-root.result [] =
+    sym (ap Err c.in_err-root.ensures.fault) ∙ ap (λ r. answered_value r []) (sym failed) in
     let opened : i.is_open ≡ true = ap (λ w. w.is_open) c.self.view_is ∙ c.requires.ready.is_open in
     let rests : Rests g.S.Store (view_of i.store i.random i.ledger i.caches i.is_open) = record {
       is_open = opened;
@@ -103,12 +103,12 @@ returns-in_err-root-clause-step g c key keyed =
     } in
     subst (λ (x : Cached).
     Extends g.S.Store g.R.Source (a.level + 1) a.self.now (view_of i.store c.draw_tree.new.random i.ledger x i.is_open)
-    (answered_with c.from_residual-in_err-root.result []) key) (sym c.in_err-root.ensures.stays)
+    (answered_value c.from_residual-in_err-root.result []) key) (sym c.in_err-root.ensures.stays)
     (subst (λ (w : View g.row.S.Denot g.row.R.Denot).
     Extends g.S.Store g.R.Source (a.level + 1) w (view_of i.store c.draw_tree.new.random i.ledger i.caches i.is_open)
-    (answered_with c.from_residual-in_err-root.result []) key) c.self.view_is
-    (ungrown g.S.Store g.R.Source (a.level + 1) key (trees_in c.in-Chain.chain) these
-    (view_of i.store i.random i.ledger i.caches i.is_open) c.draw_tree.new.random c.pair.result (c.in_ok-secret.secret, c.in_ok-secret.randomizer) (answered_with c.from_residual-in_err-root.result []) rests
+    (answered_value c.from_residual-in_err-root.result []) key) c.self.view_is
+    (ungrown g.S.Store g.R.Source (a.level + 1) key (chain_trees c.in-Chain.chain) these
+    (view_of i.store i.random i.ledger i.caches i.is_open) c.draw_tree.new.random c.pair.result (c.in_ok-secret.secret, c.in_ok-secret.randomizer) (answered_value c.from_residual-in_err-root.result []) rests
     answer c.in_ok-secret.ensures))
 
 pub add-requires-clause-follows : goal.add-requires-clause-follows
@@ -116,7 +116,7 @@ add-requires-clause-follows g c =
     let a = c.args in
     let i = c.self.inside in
     let K = i.ledger.key in
-    let kept : key_in a.self.now.records ≡ Some K = ap (λ w. key_in w.records) (sym c.self.view_is) ∙ c.self.invariant.1 in
+    let kept : the_key a.self.now.records ≡ Some K = ap (λ w. the_key w.records) (sym c.self.view_is) ∙ c.self.invariant.1 in
     let stands = subst (λ w. Stands w.records a.level K) (sym c.self.view_is) (c.requires.stands K kept) in
     let stays : has_moved i.ledger.records ≡ false = ap (λ w. has_moved w.records) c.self.view_is ∙ c.requires.ready.stays in
     let has = has_free K.secret i.ledger.records a.level c.current.result c.in-Some.parent c.current.ensures c.in-Some.is stands.free in
@@ -135,16 +135,16 @@ returns-clause-step g c key keyed =
     let a = c.args in
     let i = c.self.inside in
     let K = i.ledger.key in
-    let T = trees_in c.in-Chain.chain in
+    let T = chain_trees c.in-Chain.chain in
     let seeds : LmsSecret × List ℕ = (c.in_ok-secret.secret, c.in_ok-secret.randomizer) in
-    let kept : key_in a.self.now.records ≡ Some K = ap (λ w. key_in w.records) (sym c.self.view_is) ∙ c.self.invariant.1 in
+    let kept : the_key a.self.now.records ≡ Some K = ap (λ w. the_key w.records) (sym c.self.view_is) ∙ c.self.invariant.1 in
     let own : K ≡ key = same_key a.self.now.records K key kept keyed in
     let these = subst (MakesTrees K.secret) c.in-Chain.is (subst (λ (k : Key). MakesTrees k.secret c.of.result) c.key.ensures.key c.of.ensures) in
     let stands = subst (λ w. Stands w.records a.level K) (sym c.self.view_is) (c.requires.stands K kept) in
     let has = has_free K.secret i.ledger.records a.level c.current.result c.in-Some.parent c.current.ensures c.in-Some.is stands.free in
     let entry = entry_is K T i.ledger.records a.level c.in-Some.parent.place c.in-Some.parent.next c.secret_at-signer.result
     seeds.0
-    (public_with seeds.0 c.in_ok-root.root) (record {
+    (rooted_public seeds.0 c.in_ok-root.root) (record {
       level = a.level + 1;
       parent_leaf = c.in-Some.parent.next;
       identifier = seeds.0.identifier;
@@ -153,21 +153,21 @@ returns-clause-step g c key keyed =
       digest = c.message_digest-digest.result;
       root = c.in_ok-root.root;
     }) has c.secret_at-signer.ensures refl refl refl refl
-    (ap (public_with seeds.0) (c.in_ok-root.ensures.root ∙ ap root_in c.new-asked.ensures.secret))
+    (ap (rooted_public seeds.0) (c.in_ok-root.ensures.root ∙ ap root_of_secret c.new-asked.ensures.secret))
     (c.message_digest-digest.ensures ∙ ap (message_digest_of c.secret_at-signer.result.identifier c.in-Some.parent.next c.in_ok-secret.randomizer) (c.to_bytes-public.ensures.bytes ∙ ap public_bytes c.of-2.ensures))
     refl (c.in_ok-secret.ensures.4 ∙ c.pair.ensures) in
     let step = drawn_below g.S.Store g.R.Source K T i.store i.random c.draw_tree.new.random i.ledger i.is_open a.self.now c.add.new.self (a.level + 1) c.pair.result seeds _
     c.add.result c.self.view_is c.requires.ready.is_open these entry c.in_ok-secret.ensures c.add.ensures.adds in
-    subst (λ (k : Key). Extends g.S.Store g.R.Source (a.level + 1) a.self.now c.add.new.self (answered_with c.add.result []) k) own step
+    subst (λ (k : Key). Extends g.S.Store g.R.Source (a.level + 1) a.self.now c.add.new.self (answered_value c.add.result []) k) own step
 
 pub returns-clause-stands : goal.returns-clause-stands
 returns-clause-stands g c =
     let a = c.args in
     let i = c.self.inside in
     let K = i.ledger.key in
-    let T = trees_in c.in-Chain.chain in
+    let T = chain_trees c.in-Chain.chain in
     let seeds : LmsSecret × List ℕ = (c.in_ok-secret.secret, c.in_ok-secret.randomizer) in
-    let kept : key_in a.self.now.records ≡ Some K = ap (λ w. key_in w.records) (sym c.self.view_is) ∙ c.self.invariant.1 in
+    let kept : the_key a.self.now.records ≡ Some K = ap (λ w. the_key w.records) (sym c.self.view_is) ∙ c.self.invariant.1 in
     let these = subst (MakesTrees K.secret) c.in-Chain.is (subst (λ (k : Key). MakesTrees k.secret c.of.result) c.key.ensures.key c.of.ensures) in
     let stands = subst (λ w. Stands w.records a.level K) (sym c.self.view_is) (c.requires.stands K kept) in
     let has = has_free K.secret i.ledger.records a.level c.current.result c.in-Some.parent c.current.ensures c.in-Some.is stands.free in
@@ -182,8 +182,8 @@ returns-clause-stands g c =
     } in
     let entry = entry_is K T i.ledger.records a.level c.in-Some.parent.place c.in-Some.parent.next c.secret_at-signer.result
     seeds.0
-    (public_with seeds.0 c.in_ok-root.root) extend has c.secret_at-signer.ensures refl refl refl refl
-    (ap (public_with seeds.0) (c.in_ok-root.ensures.root ∙ ap root_in c.new-asked.ensures.secret))
+    (rooted_public seeds.0 c.in_ok-root.root) extend has c.secret_at-signer.ensures refl refl refl refl
+    (ap (rooted_public seeds.0) (c.in_ok-root.ensures.root ∙ ap root_of_secret c.new-asked.ensures.secret))
     (c.message_digest-digest.ensures ∙ ap (message_digest_of c.secret_at-signer.result.identifier c.in-Some.parent.next c.in_ok-secret.randomizer) (c.to_bytes-public.ensures.bytes ∙ ap public_bytes c.of-2.ensures))
     refl (c.in_ok-secret.ensures.4 ∙ c.pair.ensures) in
     let after = stands_below K T i.ledger.records a.level seeds.0.identifier seeds.0.seed seeds.1 c.self.invariant.1 these stands (c.requires.below K kept) in
@@ -191,6 +191,6 @@ returns-clause-stands g c =
     let grown : c.add.new.self.records ≡ i.ledger.records ++ ExtendRecord extend ∷ [] =
     added_records g.S.Store (view_of i.store c.draw_tree.new.random i.ledger c.begin.new.self i.is_open) c.add.new.self (ExtendRecord extend) c.add.result x
     c.add.ensures.adds is in
-    let still : key_in c.add.new.self.records ≡ Some K = ap key_in grown ∙ key_stays i.ledger.records (ExtendRecord extend ∷ []) K c.self.invariant.1 in
+    let still : the_key c.add.new.self.records ≡ Some K = ap the_key grown ∙ key_stays i.ledger.records (ExtendRecord extend ∷ []) K c.self.invariant.1 in
     subst (Stands c.add.new.self.records (a.level + 1)) (same_key c.add.new.self.records K key still keyed)
     (subst (λ (l : List Record). Stands l (a.level + 1) K) (sym (grown ∙ ap (λ e. i.ledger.records ++ e ∷ []) entry)) after))

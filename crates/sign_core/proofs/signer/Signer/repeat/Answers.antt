@@ -6,16 +6,16 @@ use Rattle.state_file.specs.declared.record.Key.{Key}
 use Rattle.state_file.specs.declared.record.Record.{Record}
 use Rattle.sign_core.specs.declared.ledger.Binding.{Binding}
 use Rattle.sign_core.specs.Caches.{Cached, LacksCache}
-use Rattle.sign_core.specs.Records.{key_in}
+use Rattle.sign_core.specs.Records.{the_key}
 use Rattle.sign_core.specs.Signer.{signature_size, state_of}
 use Rattle.sign_core.specs.inner.Links.{MakesTrees}
 use Rattle.sign_core.specs.Signing.{UnderKey}
 use Rattle.sign_core.specs.inner.Signing.{IsBindingOf, Repeats}
-use Rattle.sign_core.specs.Textbook.{damaged_in}
+use Rattle.sign_core.specs.Textbook.{damaged_at}
 use Rattle.sign_core.proofs.Capacities.{capacity_grows, capacity_stays}
 use Rattle.sign_core.proofs.ChainParts.{same_key}
 use Rattle.sign_core.proofs.LedgerReading.{key_levels}
-use Rattle.sign_core.proofs.Repeats.{changed, damaged, fault_of, found_chain, found_digest, found_kept, found_signature, is_found, lacks_cache, lacks_room, linked_ok, refused_with, same_size, signed, unread}
+use Rattle.sign_core.proofs.Repeats.{changed, damaged, fault_of, found_chain, found_digest, found_kept, found_signature, is_found, lacks_cache, lacks_room, linked_ok, given_back, same_size, signed, unread}
 use Rattle.sign_core.proofs.signer.Signer.repeat.Goals as goal
 
 pub overflow_sub-bottom : goal.overflow_sub-bottom
@@ -33,12 +33,12 @@ returns-in_err-digest-clause-step g c key keyed name kept =
     let b = c.args.binding.now in
     let records = ap (λ w. w.records) c.self.view_is in
     let found = is_found key v.records name b kept in
-    let own_is = same_key v.records c.key.result.now key (ap (λ w. key_in w.records) (sym c.self.view_is) ∙ c.key.ensures.first) keyed in
+    let own_is = same_key v.records c.key.result.now key (ap (λ w. the_key w.records) (sym c.self.view_is) ∙ c.key.ensures.first) keyed in
     let own = sym c.key.ensures.key ∙ own_is in
     let at = ap (λ (k : Binding). k.tree) (found_kept L.key key L.records v.records name b found own records) in
     let answer : c.from_residual.result ≡ Err c.in_err-digest.field-0.0 = search rules in
     subst (λ y. Repeats g.M.Message (state_of v) v.cached c.args.message.now c.digest.new.message (vec_capacity c.args.out.now) y key name)
-    (refused_with c.from_residual.result _ _ (answer ∙ ap Err c.in_err-digest.ensures.fault))
+    (given_back c.from_residual.result _ _ (answer ∙ ap Err c.in_err-digest.ensures.fault))
     (unread g.M.Message v c.args.message.now c.digest.new.message (vec_capacity c.args.out.now) key name b found (c.in_err-digest.ensures.digest found.place at))
 
 pub returns-in_err-digest-clause-capacity : goal.returns-in_err-digest-clause-capacity
@@ -51,7 +51,7 @@ returns-then-ne-clause-step g c key keyed name kept =
     let b = c.args.binding.now in
     let records = ap (λ w. w.records) c.self.view_is in
     let found = is_found key v.records name b kept in
-    let own_is = same_key v.records c.key.result.now key (ap (λ w. key_in w.records) (sym c.self.view_is) ∙ c.key.ensures.first) keyed in
+    let own_is = same_key v.records c.key.result.now key (ap (λ w. the_key w.records) (sym c.self.view_is) ∙ c.key.ensures.first) keyed in
     let own = sym c.key.ensures.key ∙ own_is in
     let at = ap (λ (k : Binding). k.tree) (found_kept L.key key L.records v.records name b found own records) in
     let (text, whole, is) = c.in_ok-digest.ensures.digest found.place at in
@@ -69,20 +69,20 @@ returns-in_err-make_room-clause-step g c key keyed name kept =
     let b = c.args.binding.now in
     let records = ap (λ w. w.records) c.self.view_is in
     let found = is_found key v.records name b kept in
-    let own_is = same_key v.records c.key.result.now key (ap (λ w. key_in w.records) (sym c.self.view_is) ∙ c.key.ensures.first) keyed in
+    let own_is = same_key v.records c.key.result.now key (ap (λ w. the_key w.records) (sym c.self.view_is) ∙ c.key.ensures.first) keyed in
     let own = sym c.key.ensures.key ∙ own_is in
     let at = ap (λ (k : Binding). k.tree) (found_kept L.key key L.records v.records name b found own records) in
     let (text, whole, is) = c.in_ok-digest.ensures.digest found.place at in
     let digest = found_digest L.key key L.records v.records name b found own records text c.in_ok-digest.digest is in
     let answer : c.from_residual-in_err-make_room.result ≡ Err c.in_err-make_room.field-0.0 = search rules in
     subst (λ y. Repeats g.M.Message (state_of v) v.cached c.args.message.now c.digest.new.message (vec_capacity c.args.out.now) y key name)
-    (refused_with c.from_residual-in_err-make_room.result _ _ (answer ∙ ap Err c.in_err-make_room.ensures.refused))
+    (given_back c.from_residual-in_err-make_room.result _ _ (answer ∙ ap Err c.in_err-make_room.ensures.refused))
     (lacks_room g.M.Message v c.args.message.now c.digest.new.message (vec_capacity c.args.out.now) key name b found text c.in_ok-digest.digest whole digest
     (sym c.ne.ensures ∙ c.if-ne.false) (same_size c.key.result.now key _ own_is c.in_err-make_room.ensures.full))
 
 pub returns-in_err-make_room-clause-capacity : goal.returns-in_err-make_room-clause-capacity
 returns-in_err-make_room-clause-capacity g c =
-    capacity_grows _ c.key.result.now _ _ (ap (λ w. key_in w.records) (sym c.self.view_is) ∙ c.key.ensures.first)
+    capacity_grows _ c.key.result.now _ _ (ap (λ w. the_key w.records) (sym c.self.view_is) ∙ c.key.ensures.first)
     c.make_room.ensures.capacity c.make_room.ensures.most
 
 pub keep_trees-requires-clause-trees : goal.keep_trees-requires-clause-trees
@@ -100,7 +100,7 @@ returns-in_err-keep_trees-clause-step g c key keyed name kept =
     let b = c.args.binding.now in
     let records = ap (λ w. w.records) c.self.view_is in
     let found = is_found key v.records name b kept in
-    let own_is = same_key v.records c.key.result.now key (ap (λ w. key_in w.records) (sym c.self.view_is) ∙ c.key.ensures.first) keyed in
+    let own_is = same_key v.records c.key.result.now key (ap (λ w. the_key w.records) (sym c.self.view_is) ∙ c.key.ensures.first) keyed in
     let own = sym c.key.ensures.key ∙ own_is in
     let at = ap (λ (k : Binding). k.tree) (found_kept L.key key L.records v.records name b found own records) in
     let (text, whole, is) = c.in_ok-digest.ensures.digest found.place at in
@@ -113,13 +113,13 @@ returns-in_err-keep_trees-clause-step g c key keyed name kept =
     c.in_err-keep_trees.ensures.lacking in
     let answer : c.from_residual-in_err-keep_trees.result ≡ Err c.in_err-keep_trees.field-0.0 = search rules in
     subst (λ y. Repeats g.M.Message (state_of v) v.cached c.args.message.now c.digest.new.message (vec_capacity c.args.out.now) y key name)
-    (refused_with c.from_residual-in_err-keep_trees.result _ _ (answer ∙ ap Err c.in_err-keep_trees.ensures.fault))
+    (given_back c.from_residual-in_err-keep_trees.result _ _ (answer ∙ ap Err c.in_err-keep_trees.ensures.fault))
     (lacks_cache g.M.Message v c.args.message.now c.digest.new.message (vec_capacity c.args.out.now) key name b found text c.in_ok-digest.digest whole digest
     (sym c.ne.ensures ∙ c.if-ne.false) lacking)
 
 pub returns-in_err-keep_trees-clause-capacity : goal.returns-in_err-keep_trees-clause-capacity
 returns-in_err-keep_trees-clause-capacity g c =
-    capacity_grows _ c.key.result.now _ _ (ap (λ w. key_in w.records) (sym c.self.view_is) ∙ c.key.ensures.first)
+    capacity_grows _ c.key.result.now _ _ (ap (λ w. the_key w.records) (sym c.self.view_is) ∙ c.key.ensures.first)
     c.make_room.ensures.capacity c.make_room.ensures.most
 
 pub write_bound-requires-clause-trees : goal.write_bound-requires-clause-trees
@@ -139,22 +139,22 @@ returns-in_err-map_err-clause-step g c key keyed name kept =
     let b = c.args.binding.now in
     let records = ap (λ w. w.records) c.self.view_is in
     let found = is_found key v.records name b kept in
-    let own_is = same_key v.records c.key.result.now key (ap (λ w. key_in w.records) (sym c.self.view_is) ∙ c.key.ensures.first) keyed in
+    let own_is = same_key v.records c.key.result.now key (ap (λ w. the_key w.records) (sym c.self.view_is) ∙ c.key.ensures.first) keyed in
     let own = sym c.key.ensures.key ∙ own_is in
     let at = ap (λ (k : Binding). k.tree) (found_kept L.key key L.records v.records name b found own records) in
     let (text, whole, is) = c.in_ok-digest.ensures.digest found.place at in
     let digest = found_digest L.key key L.records v.records name b found own records text c.in_ok-digest.digest is in
     let answer : c.from_residual-in_err-map_err.result ≡ Err c.in_err-map_err.field-0.0 = search rules in
     let (slot, of_place, chain) = fault_of c.write_bound.result c.map_err.result c.in_err-map_err.field-0.0
-    (λ k. damaged_in L.key (bottom_of L.key.secret) L.records b.tree ≡ Some k) c.map_err.ensures.cases c.in_err-map_err.was c.write_bound.ensures.damaged in
+    (λ k. damaged_at L.key (bottom_of L.key.secret) L.records b.tree ≡ Some k) c.map_err.ensures.cases c.in_err-map_err.was c.write_bound.ensures.damaged in
     subst (λ y. Repeats g.M.Message (state_of v) v.cached c.args.message.now c.digest.new.message (vec_capacity c.args.out.now) y key name)
-    (refused_with c.from_residual-in_err-map_err.result _ _ (answer ∙ ap Err of_place))
+    (given_back c.from_residual-in_err-map_err.result _ _ (answer ∙ ap Err of_place))
     (damaged g.M.Message v c.args.message.now c.digest.new.message (vec_capacity c.args.out.now) key name b found text c.in_ok-digest.digest slot whole digest
     (sym c.ne.ensures ∙ c.if-ne.false) (sym (found_chain L.key key L.records v.records name b found own records) ∙ chain))
 
 pub returns-in_err-map_err-clause-capacity : goal.returns-in_err-map_err-clause-capacity
 returns-in_err-map_err-clause-capacity g c =
-    capacity_grows _ c.key.result.now _ _ (ap (λ w. key_in w.records) (sym c.self.view_is) ∙ c.key.ensures.first)
+    capacity_grows _ c.key.result.now _ _ (ap (λ w. the_key w.records) (sym c.self.view_is) ∙ c.key.ensures.first)
     c.make_room.ensures.capacity c.make_room.ensures.most
 
 pub returns-clause-step : goal.returns-clause-step
@@ -164,7 +164,7 @@ returns-clause-step g c key keyed name kept =
     let b = c.args.binding.now in
     let records = ap (λ w. w.records) c.self.view_is in
     let found = is_found key v.records name b kept in
-    let own_is = same_key v.records c.key.result.now key (ap (λ w. key_in w.records) (sym c.self.view_is) ∙ c.key.ensures.first) keyed in
+    let own_is = same_key v.records c.key.result.now key (ap (λ w. the_key w.records) (sym c.self.view_is) ∙ c.key.ensures.first) keyed in
     let own = sym c.key.ensures.key ∙ own_is in
     let at = ap (λ (k : Binding). k.tree) (found_kept L.key key L.records v.records name b found own records) in
     let (text, whole, is) = c.in_ok-digest.ensures.digest found.place at in
@@ -179,5 +179,5 @@ returns-clause-step g c key keyed name kept =
 
 pub returns-clause-capacity : goal.returns-clause-capacity
 returns-clause-capacity g c =
-    capacity_grows _ c.key.result.now _ _ (ap (λ w. key_in w.records) (sym c.self.view_is) ∙ c.key.ensures.first)
+    capacity_grows _ c.key.result.now _ _ (ap (λ w. the_key w.records) (sym c.self.view_is) ∙ c.key.ensures.first)
     c.make_room.ensures.capacity c.make_room.ensures.most

@@ -1,6 +1,6 @@
 use Rattle.std.proofs.Common.{rules, ◌≡◌, ◌∙◌, Ok, Err, ap, sym, subst, refl, arith}
 use Rattle.sign_core.specs.declared.fault.SignFault.TheVariants.{RetireRange}
-use Rattle.sign_core.specs.Records.{key_in}
+use Rattle.sign_core.specs.Records.{the_key}
 use Rattle.sign_core.specs.Signer.{IsSigner, Retires, state_of}
 use Rattle.sign_core.proofs.Retiring.{done_step, hindered_retires, left_retires, range_step}
 use Rattle.sign_core.proofs.signer.Signer.retire.Goals as goal
@@ -12,12 +12,12 @@ returns-in_err-check_open g c =
     subst (Retires g.S.Store v v c.args.upto) (sym answer)
     (hindered_retires g.S.Store v c.args.upto c.self.inside.ledger.key _ (subst (IsSigner g.S.Store) c.self.view_is c.self.invariant.0) (λ left honest running
     since. g.met.S.Store.leaves_nothing_else v.store left honest running since)
-    (ap (λ w. key_in w.records) (sym c.self.view_is) ∙ c.self.invariant.1) c.in_err-check_open.ensures.refused)
+    (ap (λ w. the_key w.records) (sym c.self.view_is) ∙ c.self.invariant.1) c.in_err-check_open.ensures.refused)
 
 pub returns-then-upto-leaves : goal.returns-then-upto-leaves
 returns-then-upto-leaves g c =
     let v = c.args.self.now in
-    let keyed = ap (λ w. key_in w.records) (sym c.self.view_is) ∙ c.self.invariant.1 in
+    let keyed = ap (λ w. the_key w.records) (sym c.self.view_is) ∙ c.self.invariant.1 in
     let bottom = c.bottom-next.ensures c.self.inside.ledger.key keyed in
     let opened = c.in_ok-check_open.ensures.open in
     let stays = c.in_ok-check_open.ensures.stays in
@@ -29,7 +29,7 @@ returns-then-upto-leaves g c =
 pub returns-then-upto-next : goal.returns-then-upto-next
 returns-then-upto-next g c =
     let v = c.args.self.now in
-    let keyed = ap (λ w. key_in w.records) (sym c.self.view_is) ∙ c.self.invariant.1 in
+    let keyed = ap (λ w. the_key w.records) (sym c.self.view_is) ∙ c.self.invariant.1 in
     let bottom = c.bottom-next.ensures c.self.inside.ledger.key keyed in
     let opened = c.in_ok-check_open.ensures.open in
     let stays = c.in_ok-check_open.ensures.stays in

@@ -4,10 +4,10 @@ use Rattle.std.proofs.lemmas.List.{take_at}
 use Rattle.state_file.specs.Laws.{bottom_of, levels_of}
 use Rattle.state_file.specs.declared.record.Key.{Key}
 use Rattle.sign_core.specs.Ledger.{binding_kept, kept_of}
-use Rattle.sign_core.specs.Records.{binding_in, deepest, is_long, key_in}
+use Rattle.sign_core.specs.Records.{binding_at, deepest, is_long, the_key}
 use Rattle.sign_core.specs.Signer.{IsSigner, KeepsForRepeat, Signs, is_before_repeat, view_of}
-use Rattle.sign_core.specs.Signing.{UnderKey, answered_with}
-use Rattle.sign_core.specs.Textbook.{damaged_in, tree_before}
+use Rattle.sign_core.specs.Signing.{UnderKey, answered_value}
+use Rattle.sign_core.specs.Textbook.{damaged_at, current_at}
 use Rattle.sign_core.specs.declared.fault.SignFault.TheVariants.{Damaged}
 use Rattle.sign_core.specs.inner.Links.{MakesTrees}
 use Rattle.sign_core.specs.inner.Signing.{CanBind, BindsBelow, IsBindingOf, Stands}
@@ -24,21 +24,21 @@ returns-in_err-check_open-clause-step g c =
     let v = c.args.self.now in
     let answer : c.from_residual.result ≡ Err c.in_err-check_open.field-0.0 = search rules in
     subst (λ a. Signs g.S.Store g.R.Source g.M.Message v v c.args.name.now c.args.message.now c.args.message.now (vec_capacity c.args.out.now)
-    (answered_with a c.args.out.now.items)) (sym answer)
+    (answered_value a c.args.out.now.items)) (sym answer)
     (hindered_signs g.S.Store g.R.Source g.M.Message v c.args.name.now c.args.message.now (vec_capacity c.args.out.now) c.self.inside.ledger.key
     c.in_err-check_open.field-0.0 (subst (IsSigner g.S.Store) c.self.view_is c.self.invariant.0)
     (λ left honest running since. g.met.S.Store.leaves_nothing_else v.store left honest running since)
-    (ap (λ w. key_in w.records) (sym c.self.view_is) ∙ c.self.invariant.1) c.in_err-check_open.ensures.refused)
+    (ap (λ w. the_key w.records) (sym c.self.view_is) ∙ c.self.invariant.1) c.in_err-check_open.ensures.refused)
 
 pub returns-in-Some-clause-step : goal.returns-in-Some-clause-step
 returns-in-Some-clause-step g c =
     let v = c.args.self.now in
     let key = c.self.inside.ledger.key in
-    let keyed = ap (λ w. key_in w.records) (sym c.self.view_is) ∙ c.self.invariant.1 in
+    let keyed = ap (λ w. the_key w.records) (sym c.self.view_is) ∙ c.self.invariant.1 in
     let is : IsBindingOf v.records c.in-Some.binding key c.args.name.now =
     ap (λ w. binding_kept key.secret w.records c.args.name.now) (sym c.self.view_is) ∙ sym c.find.ensures ∙ c.in-Some.is in
     let new = c.repeat.new.self in
-    let answered = answered_with c.repeat.result c.repeat.new.out.items in
+    let answered = answered_value c.repeat.result c.repeat.new.out.items in
     let keeps = subst (KeepsForRepeat v new) (sym (same_kind is_before_repeat c.repeat.result c.repeat.new.out.items)) c.repeat.ensures.keeps in
     repeats_signs g.S.Store g.R.Source g.M.Message v new c.args.name.now c.args.message.now c.repeat.new.message (vec_capacity c.args.out.now) key
     c.in-Some.binding answered (subst (IsSigner g.S.Store) c.self.view_is c.self.invariant.0)
@@ -49,8 +49,8 @@ pub returns-then-as_bytes-from-clause-step : goal.returns-then-as_bytes-from-cla
 returns-then-as_bytes-from-clause-step g c =
     let v = c.args.self.now in
     let key = c.self.inside.ledger.key in
-    let keyed = ap (λ w. key_in w.records) (sym c.self.view_is) ∙ c.self.invariant.1 in
-    let unbound = none_mapped (kept_of key.secret v.records) (binding_in v.records c.args.name.now)
+    let keyed = ap (λ w. the_key w.records) (sym c.self.view_is) ∙ c.self.invariant.1 in
+    let unbound = none_mapped (kept_of key.secret v.records) (binding_at v.records c.args.name.now)
     (ap (λ w. binding_kept key.secret w.records c.args.name.now) (sym c.self.view_is) ∙ sym c.find.ensures ∙ is_none c.find.result c.in_default.not-Some) in
     let long : is_long key c.args.name.now ≡ true = subst (λ k. is_long k c.args.name.now ≡ true) c.key.ensures.key (search rules) in
     long_signs g.S.Store g.R.Source g.M.Message v c.args.name.now c.args.message.now (vec_capacity c.args.out.now) key
@@ -60,46 +60,46 @@ returns-then-as_bytes-from-clause-step g c =
 
 pub returns-in_err-level-clause-step : goal.returns-in_err-level-clause-step
 returns-in_err-level-clause-step g c =
-    let unbound = none_mapped (kept_of c.self.inside.ledger.key.secret c.args.self.now.records) (binding_in c.args.self.now.records c.args.name.now)
+    let unbound = none_mapped (kept_of c.self.inside.ledger.key.secret c.args.self.now.records) (binding_at c.args.self.now.records c.args.name.now)
     (ap (λ w. binding_kept c.self.inside.ledger.key.secret w.records c.args.name.now) (sym c.self.view_is) ∙ sym c.find.ensures ∙ is_none c.find.result c.in_default.not-Some) in
     let short : UnderKey c.args.self.now.records (λ key. is_long key c.args.name.now ≡ false) = λ key keyed. subst (λ k. is_long k c.args.name.now ≡ false)
-    (c.key.ensures.key ∙ same_key c.args.self.now.records c.self.inside.ledger.key key (ap (λ w. key_in w.records) (sym c.self.view_is) ∙ c.self.invariant.1) keyed) (search rules) in
+    (c.key.ensures.key ∙ same_key c.args.self.now.records c.self.inside.ledger.key key (ap (λ w. the_key w.records) (sym c.self.view_is) ∙ c.self.invariant.1) keyed) (search rules) in
     let v = c.args.self.now in
     let key = c.self.inside.ledger.key in
     let (none, is) = none_fault c.deepest.result c.in_err-level.field-0.0 (sym c.ok_or.ensures.value ∙ c.in_err-level.was) in
     let answer : c.from_residual-in_err-level.result ≡ Err c.in_err-level.field-0.0 = search rules in
     subst (λ a. Signs g.S.Store g.R.Source g.M.Message v v c.args.name.now c.args.message.now c.args.message.now (vec_capacity c.args.out.now)
-    (answered_with a c.args.out.now.items)) (sym (answer ∙ ap Err is))
+    (answered_value a c.args.out.now.items)) (sym (answer ∙ ap Err is))
     (exhausted_signs g.S.Store g.R.Source g.M.Message v c.args.name.now c.args.message.now (vec_capacity c.args.out.now) key
     (subst (IsSigner g.S.Store) c.self.view_is c.self.invariant.0)
     (λ left honest running since. g.met.S.Store.leaves_nothing_else v.store left honest running since)
-    (ap (λ w. key_in w.records) (sym c.self.view_is) ∙ c.self.invariant.1) c.in_ok-check_open.ensures.open c.in_ok-check_open.ensures.stays unbound
-    (short key (ap (λ w. key_in w.records) (sym c.self.view_is) ∙ c.self.invariant.1))
+    (ap (λ w. the_key w.records) (sym c.self.view_is) ∙ c.self.invariant.1) c.in_ok-check_open.ensures.open c.in_ok-check_open.ensures.stays unbound
+    (short key (ap (λ w. the_key w.records) (sym c.self.view_is) ∙ c.self.invariant.1))
     (ap (λ w. deepest key.secret w.records) (sym c.self.view_is) ∙ sym c.deepest.ensures ∙ none))
 
 pub prepare-requires-clause-level : goal.prepare-requires-clause-level
 prepare-requires-clause-level g c key keyed =
     let v = c.args.self.now in
     let i = c.self.inside.ledger in
-    let own : i.key ≡ key = same_key v.records i.key key (ap (λ w. key_in w.records) (sym c.self.view_is) ∙ c.self.invariant.1) keyed in
+    let own : i.key ≡ key = same_key v.records i.key key (ap (λ w. the_key w.records) (sym c.self.view_is) ∙ c.self.invariant.1) keyed in
     let some = some_level c.deepest.result c.in_ok-level.level (sym c.ok_or.ensures.value ∙ c.in_ok-level.was) in
     subst (λ k. c.in_ok-level.level < levels_of k.secret) own
     ((deepest_is i.key.secret i.records c.in_ok-level.level (sym c.deepest.ensures ∙ some)).0)
 
 pub returns-in_err-prepare-clause-step : goal.returns-in_err-prepare-clause-step
 returns-in_err-prepare-clause-step g c =
-    let unbound = none_mapped (kept_of c.self.inside.ledger.key.secret c.args.self.now.records) (binding_in c.args.self.now.records c.args.name.now)
+    let unbound = none_mapped (kept_of c.self.inside.ledger.key.secret c.args.self.now.records) (binding_at c.args.self.now.records c.args.name.now)
     (ap (λ w. binding_kept c.self.inside.ledger.key.secret w.records c.args.name.now) (sym c.self.view_is) ∙ sym c.find.ensures ∙ is_none c.find.result c.in_default.not-Some) in
     let short : UnderKey c.args.self.now.records (λ key. is_long key c.args.name.now ≡ false) = λ key keyed. subst (λ k. is_long k c.args.name.now ≡ false)
-    (c.key.ensures.key ∙ same_key c.args.self.now.records c.self.inside.ledger.key key (ap (λ w. key_in w.records) (sym c.self.view_is) ∙ c.self.invariant.1) keyed) (search rules) in
+    (c.key.ensures.key ∙ same_key c.args.self.now.records c.self.inside.ledger.key key (ap (λ w. the_key w.records) (sym c.self.view_is) ∙ c.self.invariant.1) keyed) (search rules) in
     let v = c.args.self.now in
     let key = c.self.inside.ledger.key in
-    let keyed = ap (λ w. key_in w.records) (sym c.self.view_is) ∙ c.self.invariant.1 in
+    let keyed = ap (λ w. the_key w.records) (sym c.self.view_is) ∙ c.self.invariant.1 in
     let some = some_level c.deepest.result c.in_ok-level.level (sym c.ok_or.ensures.value ∙ c.in_ok-level.was) in
     let made = c.in_err-prepare.ensures.room key keyed in
     let answer : c.from_residual-in_err-prepare.result ≡ Err c.in_err-prepare.field-0.0 = search rules in
     subst (λ a. Signs g.S.Store g.R.Source g.M.Message v c.prepare.new.self c.args.name.now c.args.message.now c.args.message.now
-    (vec_capacity c.args.out.now) (answered_with a c.prepare.new.out.items)) (sym answer)
+    (vec_capacity c.args.out.now) (answered_value a c.prepare.new.out.items)) (sym answer)
     (unprepared_signs g.S.Store g.R.Source g.M.Message v c.prepare.new.self c.args.name.now c.args.message.now (vec_capacity c.args.out.now)
     (length c.prepare.new.out.items) c.in_ok-level.level key c.in_err-prepare.field-0.0
     (subst (IsSigner g.S.Store) c.self.view_is c.self.invariant.0)
@@ -115,7 +115,7 @@ pub check_current-requires-clause-level : goal.check_current-requires-clause-lev
 check_current-requires-clause-level g c =
     let first = c.self.inside.ledger in
     let i = c.self-2.inside.ledger in
-    let keyed = ap (λ w. key_in w.records) (sym c.self.view_is) ∙ c.self.invariant.1 in
+    let keyed = ap (λ w. the_key w.records) (sym c.self.view_is) ∙ c.self.invariant.1 in
     let some = some_level c.deepest.result c.in_ok-level.level (sym c.ok_or.ensures.value ∙ c.in_ok-level.was) in
     let made = c.in_ok-prepare.ensures.room first.key keyed in
     let records : i.records ≡ first.records = ap (λ w. w.records) c.self-2.view_is ∙ made.keeps.records ∙ ap (λ w. w.records) (sym c.self.view_is) in
@@ -126,7 +126,7 @@ pub check_current-requires-clause-few : goal.check_current-requires-clause-few
 check_current-requires-clause-few g c =
     let first = c.self.inside.ledger in
     let i = c.self-2.inside.ledger in
-    let keyed = ap (λ w. key_in w.records) (sym c.self.view_is) ∙ c.self.invariant.1 in
+    let keyed = ap (λ w. the_key w.records) (sym c.self.view_is) ∙ c.self.invariant.1 in
     let some = some_level c.deepest.result c.in_ok-level.level (sym c.ok_or.ensures.value ∙ c.in_ok-level.was) in
     let within = (deepest_is first.key.secret first.records c.in_ok-level.level (sym c.deepest.ensures ∙ some)).0 in
     let few = (key_levels first.records first.key c.self.invariant.0.sizes c.self.invariant.1).1 in
@@ -136,7 +136,7 @@ pub check_current-requires-clause-free : goal.check_current-requires-clause-free
 check_current-requires-clause-free g c =
     let first = c.self.inside.ledger in
     let i = c.self-2.inside.ledger in
-    let keyed = ap (λ w. key_in w.records) (sym c.self.view_is) ∙ c.self.invariant.1 in
+    let keyed = ap (λ w. the_key w.records) (sym c.self.view_is) ∙ c.self.invariant.1 in
     let some = some_level c.deepest.result c.in_ok-level.level (sym c.ok_or.ensures.value ∙ c.in_ok-level.was) in
     let made = c.in_ok-prepare.ensures.room first.key keyed in
     let records : i.records ≡ first.records = ap (λ w. w.records) c.self-2.view_is ∙ made.keeps.records ∙ ap (λ w. w.records) (sym c.self.view_is) in
@@ -145,31 +145,31 @@ check_current-requires-clause-free g c =
 
 pub returns-in_err-map_err-clause-step : goal.returns-in_err-map_err-clause-step
 returns-in_err-map_err-clause-step g c =
-    let unbound = none_mapped (kept_of c.self.inside.ledger.key.secret c.args.self.now.records) (binding_in c.args.self.now.records c.args.name.now)
+    let unbound = none_mapped (kept_of c.self.inside.ledger.key.secret c.args.self.now.records) (binding_at c.args.self.now.records c.args.name.now)
     (ap (λ w. binding_kept c.self.inside.ledger.key.secret w.records c.args.name.now) (sym c.self.view_is) ∙ sym c.find.ensures ∙ is_none c.find.result c.in_default.not-Some) in
     let short : UnderKey c.args.self.now.records (λ key. is_long key c.args.name.now ≡ false) = λ key keyed. subst (λ k. is_long k c.args.name.now ≡ false)
-    (c.key.ensures.key ∙ same_key c.args.self.now.records c.self.inside.ledger.key key (ap (λ w. key_in w.records) (sym c.self.view_is) ∙ c.self.invariant.1) keyed) (search rules) in
+    (c.key.ensures.key ∙ same_key c.args.self.now.records c.self.inside.ledger.key key (ap (λ w. the_key w.records) (sym c.self.view_is) ∙ c.self.invariant.1) keyed) (search rules) in
     let v = c.args.self.now in
     let key = c.self.inside.ledger.key in
-    let keyed = ap (λ w. key_in w.records) (sym c.self.view_is) ∙ c.self.invariant.1 in
+    let keyed = ap (λ w. the_key w.records) (sym c.self.view_is) ∙ c.self.invariant.1 in
     let some = some_level c.deepest.result c.in_ok-level.level (sym c.ok_or.ensures.value ∙ c.in_ok-level.was) in
     let made = c.in_ok-prepare.ensures.room key keyed in
     let mid = c.prepare.new.self in
-    let still = ap key_in made.keeps.records ∙ keyed in
+    let still = ap the_key made.keeps.records ∙ keyed in
     let whole = c.self-2.inside in
     let i = whole.ledger in
     let same = ap (λ x. view_of whole.store whole.random whole.ledger x whole.is_open) c.check_current.ensures.caches ∙ c.self-2.view_is in
-    let own : i.key ≡ key = same_key mid.records i.key key (ap (λ w. key_in w.records) (sym c.self-2.view_is) ∙ c.self-2.invariant.1) still in
+    let own : i.key ≡ key = same_key mid.records i.key key (ap (λ w. the_key w.records) (sym c.self-2.view_is) ∙ c.self-2.invariant.1) still in
     let answer : c.from_residual-in_err-map_err.result ≡ Err c.in_err-map_err.field-0.0 = search rules in
     let (slot, is, damaged) = fault_of c.check_current.result c.map_err.result c.in_err-map_err.field-0.0
-    (λ k. damaged_in i.key c.in_ok-level.level i.records (tree_before c.in_ok-level.level i.records (length i.records)) ≡ Some k)
+    (λ k. damaged_at i.key c.in_ok-level.level i.records (current_at c.in_ok-level.level i.records (length i.records)) ≡ Some k)
     c.map_err.ensures.cases c.in_err-map_err.was c.check_current.ensures.damaged in
-    let here = subst (λ k. damaged_in k c.in_ok-level.level mid.records (tree_before c.in_ok-level.level mid.records (length mid.records)) ≡ Some slot) own
-    (subst (λ w. damaged_in i.key c.in_ok-level.level w.records (tree_before c.in_ok-level.level w.records (length w.records)) ≡ Some slot) c.self-2.view_is damaged) in
+    let here = subst (λ k. damaged_at k c.in_ok-level.level mid.records (current_at c.in_ok-level.level mid.records (length mid.records)) ≡ Some slot) own
+    (subst (λ w. damaged_at i.key c.in_ok-level.level w.records (current_at c.in_ok-level.level w.records (length w.records)) ≡ Some slot) c.self-2.view_is damaged) in
     subst (λ w. Signs g.S.Store g.R.Source g.M.Message v w c.args.name.now c.args.message.now c.args.message.now (vec_capacity c.args.out.now)
-    (answered_with c.from_residual-in_err-map_err.result c.prepare.new.out.items)) (sym same)
+    (answered_value c.from_residual-in_err-map_err.result c.prepare.new.out.items)) (sym same)
     (subst (λ a. Signs g.S.Store g.R.Source g.M.Message v mid c.args.name.now c.args.message.now c.args.message.now (vec_capacity c.args.out.now)
-    (answered_with a c.prepare.new.out.items)) (sym (answer ∙ ap Err is))
+    (answered_value a c.prepare.new.out.items)) (sym (answer ∙ ap Err is))
     (binds_signs g.S.Store g.R.Source g.M.Message v mid mid c.args.name.now c.args.message.now c.args.message.now (vec_capacity c.args.out.now)
     c.in_ok-level.level key (Err (Damaged slot)) keyed c.in_ok-check_open.ensures.open c.in_ok-check_open.ensures.stays unbound (short key keyed)
     (ap (λ w. deepest key.secret w.records) (sym c.self.view_is) ∙ sym c.deepest.ensures ∙ some) made.keeps made.spare made.does.0
@@ -179,14 +179,14 @@ returns-in_err-map_err-clause-step g c =
 
 pub bind_below-requires-clause-can : goal.bind_below-requires-clause-can
 bind_below-requires-clause-can g c =
-    let unbound = none_mapped (kept_of c.self.inside.ledger.key.secret c.args.self.now.records) (binding_in c.args.self.now.records c.args.name.now)
+    let unbound = none_mapped (kept_of c.self.inside.ledger.key.secret c.args.self.now.records) (binding_at c.args.self.now.records c.args.name.now)
     (ap (λ w. binding_kept c.self.inside.ledger.key.secret w.records c.args.name.now) (sym c.self.view_is) ∙ sym c.find.ensures ∙ is_none c.find.result c.in_default.not-Some) in
     let short : UnderKey c.args.self.now.records (λ key. is_long key c.args.name.now ≡ false) = λ key keyed. subst (λ k. is_long k c.args.name.now ≡ false)
-    (c.key.ensures.key ∙ same_key c.args.self.now.records c.self.inside.ledger.key key (ap (λ w. key_in w.records) (sym c.self.view_is) ∙ c.self.invariant.1) keyed) (search rules) in
+    (c.key.ensures.key ∙ same_key c.args.self.now.records c.self.inside.ledger.key key (ap (λ w. the_key w.records) (sym c.self.view_is) ∙ c.self.invariant.1) keyed) (search rules) in
     let v = c.args.self.now in
     let mid = c.prepare.new.self in
     let whole = c.self-2.inside in
-    let keyed = ap (λ w. key_in w.records) (sym c.self.view_is) ∙ c.self.invariant.1 in
+    let keyed = ap (λ w. the_key w.records) (sym c.self.view_is) ∙ c.self.invariant.1 in
     let made = c.in_ok-prepare.ensures.room c.self.inside.ledger.key keyed in
     let same = ap (λ x. view_of whole.store whole.random whole.ledger x whole.is_open) c.check_current.ensures.caches ∙ c.self-2.view_is in
     let can = can_bind g.S.Store.most v mid c.args.name.now c.in_ok-level.level (length c.deref_mut.result.now) (vec_capacity c.args.out.now)
@@ -198,7 +198,7 @@ pub bind_below-requires-clause-stands : goal.bind_below-requires-clause-stands
 bind_below-requires-clause-stands g c key keyed =
     let first = c.self.inside.ledger in
     let i = c.self-2.inside.ledger in
-    let start = ap (λ w. key_in w.records) (sym c.self.view_is) ∙ c.self.invariant.1 in
+    let start = ap (λ w. the_key w.records) (sym c.self.view_is) ∙ c.self.invariant.1 in
     let some = some_level c.deepest.result c.in_ok-level.level (sym c.ok_or.ensures.value ∙ c.in_ok-level.was) in
     let made = c.in_ok-prepare.ensures.room first.key start in
     let records : i.records ≡ first.records = ap (λ w. w.records) c.self-2.view_is ∙ made.keeps.records ∙ ap (λ w. w.records) (sym c.self.view_is) in
@@ -210,34 +210,34 @@ bind_below-requires-clause-stands g c key keyed =
 
 pub returns-clause-step : goal.returns-clause-step
 returns-clause-step g c =
-    let unbound = none_mapped (kept_of c.self.inside.ledger.key.secret c.args.self.now.records) (binding_in c.args.self.now.records c.args.name.now)
+    let unbound = none_mapped (kept_of c.self.inside.ledger.key.secret c.args.self.now.records) (binding_at c.args.self.now.records c.args.name.now)
     (ap (λ w. binding_kept c.self.inside.ledger.key.secret w.records c.args.name.now) (sym c.self.view_is) ∙ sym c.find.ensures ∙ is_none c.find.result c.in_default.not-Some) in
     let short : UnderKey c.args.self.now.records (λ key. is_long key c.args.name.now ≡ false) = λ key keyed. subst (λ k. is_long k c.args.name.now ≡ false)
-    (c.key.ensures.key ∙ same_key c.args.self.now.records c.self.inside.ledger.key key (ap (λ w. key_in w.records) (sym c.self.view_is) ∙ c.self.invariant.1) keyed) (search rules) in
+    (c.key.ensures.key ∙ same_key c.args.self.now.records c.self.inside.ledger.key key (ap (λ w. the_key w.records) (sym c.self.view_is) ∙ c.self.invariant.1) keyed) (search rules) in
     let v = c.args.self.now in
     let key = c.self.inside.ledger.key in
-    let keyed = ap (λ w. key_in w.records) (sym c.self.view_is) ∙ c.self.invariant.1 in
+    let keyed = ap (λ w. the_key w.records) (sym c.self.view_is) ∙ c.self.invariant.1 in
     let some = some_level c.deepest.result c.in_ok-level.level (sym c.ok_or.ensures.value ∙ c.in_ok-level.was) in
     let made = c.in_ok-prepare.ensures.room key keyed in
     let mid = c.prepare.new.self in
-    let still = ap key_in made.keeps.records ∙ keyed in
+    let still = ap the_key made.keeps.records ∙ keyed in
     let whole = c.self-2.inside in
     let i = whole.ledger in
     let same = ap (λ x. view_of whole.store whole.random whole.ledger x whole.is_open) c.check_current.ensures.caches ∙ c.self-2.view_is in
-    let own : i.key ≡ key = same_key mid.records i.key key (ap (λ w. key_in w.records) (sym c.self-2.view_is) ∙ c.self-2.invariant.1) still in
+    let own : i.key ≡ key = same_key mid.records i.key key (ap (λ w. the_key w.records) (sym c.self-2.view_is) ∙ c.self-2.invariant.1) still in
     let sound = linked_ok c.check_current.result c.map_err.result _ _ c.map_err.ensures.cases c.in_ok-map_err.was c.check_current.ensures.sound in
-    let here = subst (λ k. damaged_in k c.in_ok-level.level mid.records (tree_before c.in_ok-level.level mid.records (length mid.records)) ≡ None) own
-    (subst (λ w. damaged_in i.key c.in_ok-level.level w.records (tree_before c.in_ok-level.level w.records (length w.records)) ≡ None) c.self-2.view_is sound) in
+    let here = subst (λ k. damaged_at k c.in_ok-level.level mid.records (current_at c.in_ok-level.level mid.records (length mid.records)) ≡ None) own
+    (subst (λ w. damaged_at i.key c.in_ok-level.level w.records (current_at c.in_ok-level.level w.records (length w.records)) ≡ None) c.self-2.view_is sound) in
     let at = ap (λ w. deepest key.secret w.records) (sym c.self.view_is) ∙ sym c.deepest.ensures ∙ some in
     let binds = binds_below_binds g.S.Store g.R.Source g.M.Message mid c.bind_below.new.self c.args.name.now c.args.message.now c.bind_below.new.message c.in_ok-level.level key
-    (answered_with c.bind_below.result c.bind_below.new.out) here
+    (answered_value c.bind_below.result c.bind_below.new.out) here
     (subst (λ w. UnderKey w.records (λ key. BindsBelow g.S.Store g.R.Source g.M.Message c.args.name.now
     (bottom_of key.secret - c.in_ok-level.level) w c.bind_below.new.self c.args.message.now c.bind_below.new.message
-    (answered_with c.bind_below.result c.bind_below.new.out) key)) same c.bind_below.ensures key still)
+    (answered_value c.bind_below.result c.bind_below.new.out) key)) same c.bind_below.ensures key still)
     made.does.0.is_open (deepest_is key.secret v.records c.in_ok-level.level at).0 in
     let fits : length c.bind_below.new.out ≡ c.prepare.new.out.len = search rules in
     subst (λ xs. Signs g.S.Store g.R.Source g.M.Message v c.bind_below.new.self c.args.name.now c.args.message.now c.bind_below.new.message
-    (vec_capacity c.args.out.now) (answered_with c.bind_below.result xs)) (sym (take_at c.bind_below.new.out _ c.prepare.new.out.len fits))
+    (vec_capacity c.args.out.now) (answered_value c.bind_below.result xs)) (sym (take_at c.bind_below.new.out _ c.prepare.new.out.len fits))
     (binds_signs g.S.Store g.R.Source g.M.Message v mid c.bind_below.new.self c.args.name.now c.args.message.now c.bind_below.new.message
-    (vec_capacity c.args.out.now) c.in_ok-level.level key (answered_with c.bind_below.result c.bind_below.new.out) keyed c.in_ok-check_open.ensures.open c.in_ok-check_open.ensures.stays
+    (vec_capacity c.args.out.now) c.in_ok-level.level key (answered_value c.bind_below.result c.bind_below.new.out) keyed c.in_ok-check_open.ensures.open c.in_ok-check_open.ensures.stays
     unbound (short key keyed) at made.keeps made.spare made.does.0 binds)

@@ -1,7 +1,7 @@
 use Rattle.std.proofs.Common.{◌≡◌, length, Ok, rules}
 use Rattle.typecodes.specs.Cursor.{read}
 use Rattle.typecodes.specs.Types.{xmss_height_of}
-use Rattle.xmss.specs.Signature.{Signature, signature, signature_with}
+use Rattle.xmss.specs.Signature.{Signature, signature, whole_signature}
 use Rattle.xmss.proofs.Fields.{fields}
 use Rattle.typecodes.proofs.Parts.{array_at, values_read_at}
 use Rattle.xmss.proofs.Parts.{chains_read_at}
@@ -11,7 +11,7 @@ pub invariant_of-result : goal.invariant_of-result
 unfolding signature
 invariant_of-result c =
     let bytes = c.args.bytes.now in
-    let s : Signature = signature_with c.in_ok-index.index c.in_ok-randomizer.randomizer.now c.in_ok-chains.chains.now c.in_ok-path.path.now in
+    let s : Signature = whole_signature c.in_ok-index.index c.in_ok-randomizer.randomizer.now c.in_ok-chains.chains.now c.in_ok-path.path.now in
     let found : read (signature c.args.tree) bytes 0 ≡ Ok (s, length bytes) = search (rules, fields) in
     record {
       is_leaf = search rules;

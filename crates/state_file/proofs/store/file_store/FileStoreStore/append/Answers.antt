@@ -7,7 +7,7 @@ use Rattle.state_file.specs.Disk.{ChangesOnly, LeavesOnly}
 use Rattle.state_file.specs.Gates.{AddsSlot, slot_and_gate}
 use Rattle.state_file.proofs.Kept.{appended_leaves, follows_key, kept_grows, kept_rests, kept_size}
 use Rattle.state_file.proofs.Versions.{goes_on_in}
-use Rattle.state_file.specs.Slot.{slot_record, version_code, version_in}
+use Rattle.state_file.specs.Slot.{slot_record, version_code, file_version}
 use Rattle.typecodes.specs.Layout.{Spells}
 use Rattle.state_file.proofs.store.file_store.FileStoreStore.append.Goals as goal
 
@@ -23,7 +23,7 @@ invariant_of-self g c = record {
       let self = c.args.self.now in
       let of_file = self.of_version (sym c.add_slot.ensures.counts.honest ∙ honest) running in
       let same = goes_on_in self.records c.args.new.now self.version c.version_after-version.result (c.requires (sym c.add_slot.ensures.counts.honest ∙ honest)) of_file c.version_after-version.ensures.fits c.version_after-version.ensures.keeps_version in
-      ap version_code (same ∙ ap version_in (sym c.push.ensures));
+      ap version_code (same ∙ ap file_version (sym c.push.ensures));
   counted = omega (arith, ap length c.push.ensures, length-append c.args.self.now.records (c.args.new.now ∷ []), c.args.self.now.counted);
   few = omega (arith, ap length c.push.ensures, length-append c.args.self.now.records (c.args.new.now ∷ []), c.args.self.now.counted);
   moved_is = c.is_moved-self.ensures ∙ pushed_moved c.args.self.now.records c.push.new.self c.args.new.now c.push.ensures;

@@ -3,7 +3,7 @@ use Rattle.typecodes.proofs.Spelling.{one_value}
 use Rattle.state_file.specs.FileStore.{kept_leaves}
 use Rattle.typecodes.specs.Layout.{Spells}
 use Rattle.state_file.specs.File.{Holds, fields_at}
-use Rattle.state_file.specs.Slot.{slot_record, version_in}
+use Rattle.state_file.specs.Slot.{slot_record, file_version}
 use Rattle.state_file.proofs.Versions.{one_code}
 use Rattle.state_file.specs.declared.store.file_store.FileStore.{FileStore}
 use Rattle.state_file.specs.declared.record.Record.{Record}
@@ -47,7 +47,7 @@ returns-in-Err-clause-any_moment g c honest running =
 pub returns-in-Some-clause-answer : goal.returns-in-Some-clause-answer
 returns-in-Some-clause-answer g c =
     let self = c.args.self.now in
-    let same : g.D.Disk.honest self.disk ≡ _ → version_in self.records ≡ self.version = λ honest. sym (one_code self.version (version_in self.records) (self.of_version honest c.if-self.false)) in
+    let same : g.D.Disk.honest self.disk ≡ _ → file_version self.records ≡ self.version = λ honest. sym (one_code self.version (file_version self.records) (self.of_version honest c.if-self.false)) in
     let is_record : g.D.Disk.honest self.disk ≡ _ → _ = λ honest.
     let kept = kept_holds self.records self.tag (g.D.Disk.state self.disk) c.args.k (self.kept honest c.if-self.false) (omega (arith, self.counted)) in
     let holds = holds_entry self.version (g.D.Disk.state self.disk).content c.args.k c.in-Ok.found c.in-Some.record (c.in-Ok.ensures.entry honest) c.in-Some.is in
@@ -60,7 +60,7 @@ returns-in-None-clause-answer g c =
       c.if-self.false,
       not_honest (g.D.Disk.honest self.disk) (λ honest.
           let kept = kept_holds self.records self.tag (g.D.Disk.state self.disk) c.args.k (self.kept honest c.if-self.false) (omega (arith, self.counted)) in
-          holds_none self.version (g.D.Disk.state self.disk).content c.args.k c.in-Ok.found (c.in-Ok.ensures.entry honest) c.in-None.is kept.0 (subst (λ v. Holds v (g.D.Disk.state self.disk).content c.args.k kept.0) (sym (one_code self.version (version_in self.records) (self.of_version honest c.if-self.false))) kept.2)),
+          holds_none self.version (g.D.Disk.state self.disk).content c.args.k c.in-Ok.found (c.in-Ok.ensures.entry honest) c.in-None.is kept.0 (subst (λ v. Holds v (g.D.Disk.state self.disk).content c.args.k kept.0) (sym (one_code self.version (file_version self.records) (self.of_version honest c.if-self.false))) kept.2)),
       search rules,
       omega (arith, self.counted),
       search rules,
