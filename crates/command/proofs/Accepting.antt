@@ -20,7 +20,7 @@ use Rattle.command.specs.Line.{AreTexts, FindsTask, GivesValues, IsCommandLine, 
 use Rattle.key_audit.specs.declared.report.Anchor.{Anchor}
 use Rattle.command.specs.Audit.{anchor_of_texts}
 use Rattle.command.specs.AuditGiven.{Pair, path_pairs}
-use Rattle.command.specs.declared.line.UsageFault.{UsageFault}
+use Rattle.command.specs.declared.usage_fault.UsageFault.{UsageFault}
 use Rattle.command.specs.LineFault.{usage_faults, line_faults}
 use Rattle.command.specs.Number.{decimal_number}
 use Rattle.command.specs.Retire.{most_leaves}

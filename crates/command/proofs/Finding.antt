@@ -26,8 +26,8 @@ use Rattle.command.specs.Public.{IsPublic}
 use Rattle.command.specs.Retire.{IsRetire}
 use Rattle.command.specs.Serve.{IsServe}
 use Rattle.command.specs.Sign.{IsSign}
-use Rattle.command.specs.declared.line.UsageFault.{UsageFault}
-use Rattle.command.specs.declared.line.UsageFault.TheVariants.{Anchor as NoAnchor, Command, Count, Format, Number, Pairs, Tag}
+use Rattle.command.specs.declared.usage_fault.UsageFault.{UsageFault}
+use Rattle.command.specs.declared.usage_fault.UsageFault.TheVariants.{Anchor as NoAnchor, Command, Count, Format, Number, Pairs, Tag}
 use Rattle.command.specs.declared.make.Make.{Make}
 use Rattle.command.specs.declared.list.ListState.{ListState}
 use Rattle.command.specs.declared.migrate.Migrate.{Migrate}

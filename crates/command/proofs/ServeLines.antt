@@ -12,7 +12,7 @@ use Rattle.sign_core.specs.declared.source.Source as source
 use Rattle.state_file.specs.declared.disk.Disk as disk
 use Rattle.state_file.specs.declared.store.Store as store
 use Rattle.state_file.specs.declared.store.file_store.FileStore.{FileStore}
-use Rattle.command.specs.declared.line.UsageFault.{UsageFault}
+use Rattle.command.specs.declared.usage_fault.UsageFault.{UsageFault}
 use Rattle.command.specs.declared.line_fault.LineFault.{LineFault}
 use Rattle.command.specs.declared.line_fault.LineFault.TheVariants.{OutOfMemory}
 use Rattle.command.specs.AuditGiven.{Pair, path_pairs}

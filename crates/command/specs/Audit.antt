@@ -10,8 +10,8 @@ use Rattle.state_file.specs.declared.disk.Disk as disk
 use Rattle.command.specs.declared.answer.Done.{Done}
 use Rattle.command.specs.declared.answer.Done.TheVariants.{Audited}
 use Rattle.command.specs.declared.audit.Audit.{Audit}
-use Rattle.command.specs.declared.line.UsageFault.{UsageFault}
-use Rattle.command.specs.declared.line.UsageFault.TheVariants as usage
+use Rattle.command.specs.declared.usage_fault.UsageFault.{UsageFault}
+use Rattle.command.specs.declared.usage_fault.UsageFault.TheVariants as usage
 use Rattle.command.specs.declared.refusal.Refusal.{Refusal}
 use Rattle.command.specs.Argument.{option_rule, required_rule}
 use Rattle.command.specs.FileDisk.{IsStateRefusal}

@@ -12,8 +12,8 @@ use Rattle.command.specs.declared.answer.Done.{Done}
 use Rattle.command.specs.declared.answer.Done.TheVariants.{Checked}
 use Rattle.command.specs.declared.audit_given.AuditGiven.{AuditGiven}
 use Rattle.command.specs.declared.audit_given.GivenFiles.{GivenFiles}
-use Rattle.command.specs.declared.line.UsageFault.{UsageFault}
-use Rattle.command.specs.declared.line.UsageFault.TheVariants as usage
+use Rattle.command.specs.declared.usage_fault.UsageFault.{UsageFault}
+use Rattle.command.specs.declared.usage_fault.UsageFault.TheVariants as usage
 use Rattle.command.specs.declared.refusal.Refusal.{Refusal}
 use Rattle.command.specs.declared.refusal.Refusal.TheVariants as refused
 use Rattle.command.specs.declared.trace.Role.TheVariants as role

@@ -13,9 +13,9 @@ use Rattle.state_file.specs.declared.record.Version.TheVariants.{Two}
 use Rattle.state_file.specs.declared.store.Store as store
 use Rattle.state_file.specs.declared.store.file_store.FileStore.{FileStore}
 use Rattle.state_file.specs.File.{most_records}
-use Rattle.command.specs.declared.line.UsageFault.{UsageFault}
-use Rattle.command.specs.declared.line.UsageFault.TheVariants as usage
-use Rattle.command.specs.declared.line.UsageFault.TheVariants.{Command, Number}
+use Rattle.command.specs.declared.usage_fault.UsageFault.{UsageFault}
+use Rattle.command.specs.declared.usage_fault.UsageFault.TheVariants as usage
+use Rattle.command.specs.declared.usage_fault.UsageFault.TheVariants.{Command, Number}
 use Rattle.command.specs.declared.line.Request.{Request}
 use Rattle.command.specs.declared.line.Request.TheVariants.{Make, Sign, Verify, Retire, Audit, AuditGiven}
 use Rattle.command.specs.declared.line.Request.TheVariants.{Serve, Migrate, ListState, Public}

@@ -8,7 +8,7 @@ use Rattle.clap.specs.declared.error.kind.ErrorKind.{ErrorKind}
 use Rattle.clap.specs.declared.error.kind.ErrorKind.TheVariants as kind
 use Rattle.command.specs.Line.{Task, hbsign_app, usage_kind, task_found}
 use Rattle.command.specs.declared.line.ClapReader.{ClapReader}
-use Rattle.command.specs.declared.line.UsageFault.{UsageFault}
+use Rattle.command.specs.declared.usage_fault.UsageFault.{UsageFault}
 use Rattle.command.specs.declared.line_fault.LineFault.{LineFault}
 use Rattle.command.specs.declared.line_fault.LineFault.TheVariants.{Help, Version, Refused, OutOfMemory}
 

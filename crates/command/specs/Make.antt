@@ -15,8 +15,8 @@ use Rattle.state_file.specs.FileStore.{disk_of}
 use Rattle.state_file.specs.Slot.{version_code, versions}
 use Rattle.command.specs.declared.answer.Done.{Done}
 use Rattle.command.specs.declared.answer.Done.TheVariants.{Published}
-use Rattle.command.specs.declared.line.UsageFault.{UsageFault}
-use Rattle.command.specs.declared.line.UsageFault.TheVariants.{Command, Format}
+use Rattle.command.specs.declared.usage_fault.UsageFault.{UsageFault}
+use Rattle.command.specs.declared.usage_fault.UsageFault.TheVariants.{Command, Format}
 use Rattle.command.specs.declared.make.Make.{Make}
 use Rattle.command.specs.declared.refusal.Refusal.{Refusal}
 use Rattle.command.specs.declared.refusal.Refusal.TheVariants.{BadSpec, FileFailed}

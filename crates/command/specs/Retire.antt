@@ -6,8 +6,8 @@ use Rattle.state_file.specs.declared.store.Store as store
 use Rattle.state_file.specs.declared.store.file_store.FileStore.{FileStore}
 use Rattle.command.specs.declared.answer.Done.{Done}
 use Rattle.command.specs.declared.answer.Done.TheVariants.{Retired}
-use Rattle.command.specs.declared.line.UsageFault.{UsageFault}
-use Rattle.command.specs.declared.line.UsageFault.TheVariants.{Command, Number}
+use Rattle.command.specs.declared.usage_fault.UsageFault.{UsageFault}
+use Rattle.command.specs.declared.usage_fault.UsageFault.TheVariants.{Command, Number}
 use Rattle.command.specs.declared.refusal.Refusal.{Refusal}
 use Rattle.command.specs.declared.retire.Retire.{Retire}
 use Rattle.command.specs.declared.trace.Role.TheVariants as role

@@ -22,6 +22,7 @@ use crate::retire::Retire;
 use crate::serve::Serve;
 use crate::sign::Sign;
 use crate::texts::Texts;
+use crate::usage_fault::UsageFault;
 use crate::verify::Verify;
 use clap::error::ErrorKind;
 use clap::{ArgMatches, Command, Error};
@@ -103,25 +104,6 @@ impl<'a> Request<'a> {
             Request::Public(words) => report(&words.answer(alloc, folder), output),
         }
     }
-}
-
-/// Why words that `clap` accepts request nothing.
-#[derive(Clone, Copy, Debug, PartialEq, Eq)]
-pub enum UsageFault {
-    /// No command.
-    Command,
-    /// UPTO isn't a decimal number up to 2^25.
-    Number,
-    /// N of `--format` isn't 1 or 2.
-    Format,
-    /// K of `--count` isn't a decimal number up to 2^31.
-    Count,
-    /// T of `--tag` isn't 64 hex digits.
-    Tag,
-    /// Only one of `--count` and `--tag`.
-    Anchor,
-    /// A message without a signature.
-    Pairs,
 }
 
 impl UsageFault {

@@ -6,7 +6,7 @@ ghost use Rattle.typecodes.specs.Spec.{levels_text, ots_text, pair_text, spec_te
 ghost use Rattle.command.specs.Output.{entry_line, entry_lines, entry_text};
 ghost use Rattle.command.specs.ListingText.{after_comma};
 
-use crate::output::write_hex;
+use crate::hex_text::write_hex;
 use key_audit::Entry;
 use std::io;
 use std::io::Write;

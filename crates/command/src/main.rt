@@ -32,6 +32,7 @@ mod file_disk;
 mod file_id;
 mod files;
 mod foreground;
+mod hex_text;
 mod key_file;
 mod key_start;
 mod line;
@@ -57,6 +58,7 @@ mod state;
 mod target;
 mod texts;
 mod trace;
+mod usage_fault;
 mod verify;
 
 use answer::OUTPUT_FAILED;

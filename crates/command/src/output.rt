@@ -2,10 +2,10 @@
 
 ghost use Rattle.std.specs.Prelude.{◌≡◌, ℕ, OnOk};
 ghost use Rattle.std.specs.Io.KnownBytes.{Appends};
-ghost use Rattle.hex.specs.Hex.{encode_lower};
 ghost use Rattle.command.specs.Output.{CountsFailure, Prints, level_line, level_lines, part_text, taken_of};
 ghost use Rattle.command.specs.Output.{moved_line, text_of};
 
+use crate::hex_text::write_hex;
 use crate::listing_text::{write_entries, write_spec};
 use key_audit::Entry;
 use std::io;
@@ -141,20 +141,6 @@ fn write_moved<W: Write>(writer: &mut W, version: Option<u16>) -> io::Result<()>
     writer.write_all("moved ".as_bytes())?;
     writer.write_fmt(u64::from(version))?;
     writer.write_all("\n".as_bytes())
-}
-
-/// Writes bytes in lower-case hex.
-pub fn write_hex<W: Write>(writer: &mut W, bytes: &[u8]) -> io::Result<()>
-    ensures { OnOk result
-        (Appends (W.contents writer.old) (W.contents writer.new) (encode_lower bytes.now)) }
-{
-    for byte in bytes {
-        let mut digits = [0; 2];
-        // Two digits fit.
-        let _ = hex::encode_to_slice([*byte], &mut digits);
-        writer.write_all(&digits)?;
-    }
-    Ok(())
 }
 
 /// Returns the answer, and counts it if it failed. No other function counts.

@@ -6,8 +6,7 @@ ghost use Rattle.lmots.specs.Key.{ClimbTo, ends_of_signature, step_of};
 ghost use Rattle.typecodes.specs.Types.{chains_of, width_of};
 ghost use Rattle.winternitz.specs.Chain.{ends_of};
 
-use crate::hashes::PUBLIC;
-use crate::key::{LmOts, greatest_digit};
+use crate::key::{LmOts, PUBLIC, greatest_digit};
 use sha2::Digest;
 use typecodes::OtsType;
 use winternitz::{InLanes, OneByOne, climb, digits};

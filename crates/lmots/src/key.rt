@@ -1,25 +1,23 @@
-//! The one-time key of a leaf.
+//! The one-time key of a leaf, and what it hashes.
 
-ghost use Rattle.std.specs.Prelude.{◌≡◌, ◌<◌, ◌≤◌, ℕ, ◌+◌, ◌-◌, ◌*◌, ◌^◌, ◌++◌, List, [], length};
-ghost use Rattle.std.specs.Prelude.{slice_index, slice_index_or};
-ghost use Rattle.std.specs.List.{concat};
+ghost use Rattle.std.specs.Prelude.{◌≡◌, ◌<◌, ◌+◌, ◌-◌, ◌^◌, ◌++◌};
 ghost use Rattle.sha2.specs.Hashers.{Holds256};
-ghost use Rattle.lmots.specs.Hashes.{message_separator, u8str, u16str, u32str};
+ghost use Rattle.lmots.specs.Hashes.{message_separator, u16str, u32str};
 ghost use Rattle.lmots.specs.Key as spec;
-ghost use Rattle.lmots.specs.Key.{ClimbTo, ends_of_seed, ends_of_signature, message_digest_of, message_prefix_of};
-ghost use Rattle.lmots.specs.Key.{signed_values, step_of};
-ghost use Rattle.typecodes.specs.Fields.{first_values};
+ghost use Rattle.lmots.specs.Key.{message_digest_of, message_prefix_of};
+ghost use Rattle.lmots.specs.Key.{step_of};
 ghost use Rattle.typecodes.specs.Message.{Digests};
-ghost use Rattle.typecodes.specs.Types.{chains_of, width_of};
+ghost use Rattle.typecodes.specs.Types.{width_of};
 ghost use Rattle.winternitz.specs.Lanes.{lanes};
 
-use crate::chains::Chains;
-use crate::hashes::{MESSAGE, PUBLIC};
-use crate::lane_keys::LaneKeys;
 use sha2::{Digest, Sha256};
 use typecodes::{Message, MessageFailed, OtsType, put};
-use winternitz::lanes::LANES;
-use winternitz::{Step, climb_from, climb_to, climb_whole, digits, feed};
+use winternitz::{Step, feed};
+
+// D_PBLC (RFC 8554 4.3) and D_MESG (4.5).
+pub(crate) const PUBLIC: u16 = 0x8080;
+
+pub(crate) const MESSAGE: u16 = 0x8181;
 
 /// A leaf's one-time key: its tree's identifier I and its number q, with which each hash of the key begins (RFC 8554
 /// 4.2). As a `Step` it takes steps one by one; its own calls climb chains in lanes.
@@ -43,6 +41,17 @@ impl Step for LmOts {
 }
 
 impl LmOts {
+    // A hasher that holds I, q, and a chain's number or a separator.
+    pub(crate) fn hasher(&self, separator: u16) -> Sha256
+        ensures { Holds256 result (self.now.identifier ++ u32str self.now.leaf ++ u16str separator) }
+    {
+        let mut hasher = Sha256::new();
+        hasher.update(self.identifier);
+        hasher.update(self.leaf.to_be_bytes());
+        hasher.update(separator.to_be_bytes());
+        hasher
+    }
+
     /// Q, the digest that a signature with the randomizer C signs (RFC 8554 4.5).
     pub fn message_digest(&self, randomizer: &[u8; 32], message: &[u8]) -> [u8; 32]
         ensures { result ≡ message_digest_of self.now.identifier self.now.leaf randomizer.now message.now }
@@ -97,80 +106,6 @@ impl LmOts {
         hasher.update([0xff]);
         hasher.update(seed);
         hasher.finalize()
-    }
-
-    /// The public hash of the key whose private values are derived from the seed: each chain is climbed to its end (RFC
-    /// 8554 4.3).
-    pub fn public_hash(&self, ots: OtsType, seed: &[u8; 32]) -> [u8; 32]
-        ensures { result ≡ spec.public_hash self.now.identifier self.now.leaf
-            (ends_of_seed self.now.identifier self.now.leaf ots seed.now) }
-    {
-        let count = usize::from(ots.chains());
-        let chains = Chains::of(self);
-        let starts = chains.private_values(seed, count);
-        let ends = climb_whole(&chains, greatest_digit(ots), &starts[..count]);
-        self.hash_of_ends(&ends[..count])
-    }
-
-    /// As `public_hash`, for several leaves of a tree with one seed, side by side in lanes.
-    pub fn public_hashes_in_lanes(
-        identifier: [u8; 16],
-        leaves: [u32; LANES],
-        ots: OtsType,
-        seed: &[u8; 32],
-    ) -> [[u8; 32]; LANES]
-        ensures { (j : ℕ) → j < lanes → let q = slice_index leaves j in
-            slice_index_or result j [] ≡ spec.public_hash identifier q (ends_of_seed identifier q ots seed.now) }
-    {
-        LaneKeys::of(identifier, leaves).public_hashes(ots, seed)
-    }
-
-    fn hash_of_ends(&self, ends: &[[u8; 32]]) -> [u8; 32]
-        ensures { result ≡ spec.public_hash self.now.identifier self.now.leaf ends.now }
-    {
-        let mut hasher = self.hasher(PUBLIC);
-        hasher.update(ends.as_flattened());
-        hasher.finalize()
-    }
-
-    /// Writes the values of a digest's signature, one after the other: each chain climbed from its private value to its
-    /// digit (RFC 8554 4.5). The caller gives 32 bytes for each of the type's chains.
-    pub fn sign_digest(&self, ots: OtsType, seed: &[u8; 32], digest: &[u8; 32], into: &mut [u8])
-        requires { length into.old ≡ 32 * chains_of ots }
-        ensures value { into.new ≡ concat (signed_values self.now.identifier self.now.leaf ots seed.now digest.now) }
-        // They climb to the ends of the key's chains.
-        ensures climbs { ClimbTo self.now.identifier self.now.leaf ots digest.now
-            (first_values (chains_of ots) into.new) (ends_of_seed self.now.identifier self.now.leaf ots seed.now) }
-    {
-        let count = usize::from(ots.chains());
-        let chains = Chains::of(self);
-        let starts = chains.private_values(seed, count);
-        let values = climb_to(&chains, &digits(ots.width(), digest), &starts[..count]);
-        into.copy_from_slice(values[..count].as_flattened());
-    }
-
-    /// The public hash to which a signature's values lead: each chain climbed from its digit to its end (RFC 8554 4.6,
-    /// algorithm 4b, step 3). The caller gives a value for each of the type's chains.
-    pub fn hash_from_signature(
-        &self,
-        ots: OtsType,
-        digest: &[u8; 32],
-        values: &[[u8; 32]],
-    ) -> [u8; 32]
-        requires { length values.now ≡ chains_of ots }
-        ensures value { result ≡ spec.public_hash self.now.identifier self.now.leaf
-            (ends_of_signature self.now.identifier self.now.leaf ots digest.now values.now) }
-        // The hash of every valid list of ends (`only`); a valid list exists (`ends_exist`).
-        ensures only { (ends : List (List ℕ)) →
-            ClimbTo self.now.identifier self.now.leaf ots digest.now values.now ends →
-            result ≡ spec.public_hash self.now.identifier self.now.leaf ends }
-        ensures ends_exist { (ends : List (List ℕ)) ×
-            ClimbTo self.now.identifier self.now.leaf ots digest.now values.now ends ×
-            (result ≡ spec.public_hash self.now.identifier self.now.leaf ends) }
-    {
-        let digits = digits(ots.width(), digest);
-        let ends = climb_from(&Chains::of(self), &digits, greatest_digit(ots), values);
-        self.hash_of_ends(&ends[..values.len()])
     }
 }
 

@@ -11,8 +11,7 @@ ghost use Rattle.winternitz.specs.Beginning.{BeginsWith};
 ghost use Rattle.winternitz.specs.Lanes.{lanes, value_at};
 
 use crate::chains::key_prefix;
-use crate::hashes::PUBLIC;
-use crate::key::greatest_digit;
+use crate::key::{PUBLIC, greatest_digit};
 use typecodes::{OtsType, put};
 use winternitz::lanes::{Beginning, LANES, States, digests, in_words, sha256_in_lanes};
 

@@ -24,9 +24,9 @@
 
 mod chains;
 mod climbing;
-mod hashes;
 mod key;
 mod lane_keys;
+mod signature;
 
 pub use crate::climbing::Climbing;
 pub use crate::key::LmOts;

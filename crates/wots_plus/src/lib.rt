@@ -28,6 +28,7 @@ mod hashes;
 mod key;
 mod l_tree;
 mod lane_keys;
+mod signature;
 
 pub use crate::address::Address;
 pub use crate::climbing::Climbing;

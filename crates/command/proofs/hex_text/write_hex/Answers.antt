@@ -3,7 +3,7 @@ use Rattle.std.proofs.lemmas.List.{take_more}
 use Rattle.std.specs.Io.KnownBytes.{Appends}
 use Rattle.hex.specs.Hex.{encode_lower}
 use Rattle.command.proofs.HexText.{hex_begins, hex_writes, on_ok}
-use Rattle.command.proofs.output.write_hex.Goals as goal
+use Rattle.command.proofs.hex_text.write_hex.Goals as goal
 
 pub loop-byte-init : goal.loop-byte-init
 loop-byte-init g c = hex_begins (g.W.Write.contents c.args.writer.now)

@@ -1,7 +1,7 @@
 use Rattle.std.proofs.Common.{take}
 use Rattle.std.specs.Io.KnownBytes.{Appends}
 use Rattle.hex.specs.Hex.{encode_lower}
-use Rattle.command.proofs.output.write_hex.Given as goal
+use Rattle.command.proofs.hex_text.write_hex.Given as goal
 
 -- the digits of the bytes so far were written
 abbrev pub invariant-loop-byte : goal.invariant-loop-byte
