@@ -138,13 +138,13 @@ abbrev pub IsCount : List ℕ → ℕ → Type 0
 IsCount bytes count = length bytes < 2 ^ 64 → count ≡ length bytes
 
 -- After the bytes before them, these were counted too.
-abbrev pub Counts : (before : ℕ) (bytes : List ℕ) (after : ℕ) → Type 0
-Counts before bytes after = (seen : List ℕ) → IsCount seen before → IsCount (seen ++ bytes) after
+abbrev pub CountsBytes : (before : ℕ) (bytes : List ℕ) (after : ℕ) → Type 0
+CountsBytes before bytes after = (seen : List ℕ) → IsCount seen before → IsCount (seen ++ bytes) after
 
-pub counts_nothing : (count : ℕ) → Counts count [] count
+pub counts_nothing : (count : ℕ) → CountsBytes count [] count
 counts_nothing count seen is = subst (λ l. IsCount l count) (sym (append-nil seen)) is
 
-pub counts_more : (before middle after : ℕ) (first later : List ℕ) → Counts before first middle
-    → Counts middle later after → Counts before (first ++ later) after
+pub counts_more : (before middle after : ℕ) (first later : List ℕ) → CountsBytes before first middle
+    → CountsBytes middle later after → CountsBytes before (first ++ later) after
 counts_more before middle after first later one more seen is =
     subst (λ l. IsCount l after) (append_assoc seen first later) (more (seen ++ first) (one seen is))

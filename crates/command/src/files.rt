@@ -356,11 +356,11 @@ struct Counted {
 }
 
 impl PieceTaker for Counted {
-    ghost use Rattle.command.specs.Files.{Counts, counts_more, counts_nothing};
+    ghost use Rattle.command.specs.Files.{CountsBytes, counts_more, counts_nothing};
 
     type Error = Infallible;
 
-    ghost takes = { λ old bytes new. Counts old.bytes bytes new.bytes };
+    ghost takes = { λ old bytes new. CountsBytes old.bytes bytes new.bytes };
 
     ghost refuses = { λ _ _ _ _. ⊥ };
 

@@ -8,7 +8,7 @@ use Rattle.lms.specs.declared.key.LmsPublic.{LmsPublic}
 use Rattle.lms.specs.Signature.{Signature as LmsSignature}
 use Rattle.lms.specs.Secret.{leaf_path, public_of as lms_public_of}
 use Rattle.lms.specs.SigningTree.{path_of_tree}
-use Rattle.lms.specs.Writing.{signed as lms_signed, textbook as lms_textbook}
+use Rattle.lms.specs.Writing.{made_signature as lms_made_signature, textbook as lms_textbook}
 use Rattle.lms.specs.Verification.{IsValid as IsLmsValid}
 use Rattle.lms.proofs.Signing.{signed_valid}
 use Rattle.hss.specs.SignedKey.{SignedKey}
@@ -120,7 +120,7 @@ signed-at {L = L} signature key above bottom i other within =
 
 -- a level's signature is the textbook's, if its path is
 signature-from_secret : (level : Level) → path_of_tree level.tree ≡ leaf_path level.tree.secret level.tree.leaf → signature_of_level level ≡ signature_of (signing_of level)
-signature-from_secret level path = ap (lms_signed level.tree.secret level.tree.leaf level.randomizer level.digest) path
+signature-from_secret level path = ap (lms_made_signature level.tree.secret level.tree.leaf level.randomizer level.digest) path
 
 -- what level i signs with
 level_at-signing : (above : List Level) (bottom : Level) (i : ℕ) → i < length above + 1 → level_at (map signing_of above) (signing_of bottom) i ≡ signing_of (level_at above bottom i)

@@ -10,7 +10,7 @@ use Rattle.lms.specs.declared.signature.LmsSigView.{LmsSigView}
 use Rattle.lms.specs.Key.{public_key as lms_public_key}
 use Rattle.lms.specs.View.{pair_of as lms_pair_of, signature_of as lms_signature_of}
 use Rattle.hss.specs.declared.signed_key.SignedKeyView.{SignedKeyView}
-use Rattle.hss.specs.SignedKey.{AreFirst, StandInTurn, BeginsAt, shown_keys, signed_key_of, slot, bytes_taken}
+use Rattle.hss.specs.SignedKey.{AreFirst, StandInTurn, BeginsAt, shown_keys, signed_key_of, slot, signed_keys_size}
 use Rattle.hss.specs.Signature.{key_at, level_count, shown_signature, signature, signature_at, start_at}
 use Rattle.hss.proofs.Slots.{in-use, none-after, shown-count, signed-at, signed-cut}
 use Rattle.hss.proofs.Walking.{key_at-below, key_spelled, signature_at-above, start-more, starts}
@@ -53,8 +53,8 @@ module _ (n : ℕ) (slots : List (Option SignedKeyView)) (bottom : LmsSigView) (
   slot-key top i None is = tt
 
   -- where it stands
-  start : (i : ℕ) → i ≤ n → 4 + bytes_taken (shown_keys (take i slots)) ≡ start_at (shown_signature slots bottom) i
-  start i below = ap (λ keys. 4 + bytes_taken keys) (sym (front i below)) ∙ starts (shown_signature slots bottom) i (omega (arith, shown-count n slots first))
+  start : (i : ℕ) → i ≤ n → 4 + signed_keys_size (shown_keys (take i slots)) ≡ start_at (shown_signature slots bottom) i
+  start i below = ap (λ keys. 4 + signed_keys_size keys) (sym (front i below)) ∙ starts (shown_signature slots bottom) i (omega (arith, shown-count n slots first))
 
   pub slot-range : (bytes : List ℕ) (i : ℕ) (r : Option SignedKeyView) → StandInTurn 4 bytes slots → r ≡ slot slots i → IfSome r (BeginsAt (start_at (shown_signature slots bottom) i) bytes)
   slot-range bytes i (Some view) stand is =
@@ -80,5 +80,5 @@ module _ (n : ℕ) (slots : List (Option SignedKeyView)) (bottom : LmsSigView) (
   -- ---- level i, in its slot or at the bottom
 
   -- the bottom's
-  pub bottom-start : 4 + bytes_taken (shown_keys slots) ≡ start_at (shown_signature slots bottom) n
-  bottom-start = ap (λ keys. 4 + bytes_taken keys) (signed-cut slots n ∙ ap (λ keys. shown_keys (take n slots) ++ keys) first.1 ∙ append-nil (shown_keys (take n slots))) ∙ start n (omega arith)
+  pub bottom-start : 4 + signed_keys_size (shown_keys slots) ≡ start_at (shown_signature slots bottom) n
+  bottom-start = ap (λ keys. 4 + signed_keys_size keys) (signed-cut slots n ∙ ap (λ keys. shown_keys (take n slots) ++ keys) first.1 ∙ append-nil (shown_keys (take n slots))) ∙ start n (omega arith)

@@ -5,7 +5,7 @@ use Rattle.std.proofs.lemmas.Bool.{cases_lt, cases_order}
 use Rattle.std.proofs.lemmas.List.{get_or-drop, get_or-set_other, get_or-set_same, take-append-drop, take-set-le, take_more_set}
 use Rattle.std.proofs.lemmas.List.Concat.{flat_map-append}
 use Rattle.hss.specs.declared.signed_key.SignedKeyView.{SignedKeyView}
-use Rattle.hss.specs.SignedKey.{AreFirst, StandInTurn, BeginsAt, shown, shown_keys, signed_key_of, slot, bytes_taken}
+use Rattle.hss.specs.SignedKey.{AreFirst, StandInTurn, BeginsAt, shown, shown_keys, signed_key_of, slot, signed_keys_size}
 
 -- slots that show nothing are empty
 none-in : (slots : List (Option SignedKeyView)) (i : ℕ) (view : SignedKeyView) → shown_keys slots ≡ [] → slot slots i ≡ Some view → ⊥
@@ -77,7 +77,7 @@ module _ (slots : List (Option SignedKeyView)) (i : ℕ) (view : SignedKeyView) 
   )
 
   -- it stands after those before it
-  pub set-stand : (place : ℕ) (bytes : List ℕ) → StandInTurn place bytes slots → BeginsAt (place + bytes_taken (shown_keys (take i slots))) bytes view
+  pub set-stand : (place : ℕ) (bytes : List ℕ) → StandInTurn place bytes slots → BeginsAt (place + signed_keys_size (shown_keys (take i slots))) bytes view
       → StandInTurn place bytes (set slots i (Some view))
   set-stand place bytes stand here j other is =
       elim (cases_order j i) [
@@ -87,11 +87,11 @@ module _ (slots : List (Option SignedKeyView)) (i : ℕ) (view : SignedKeyView) 
             let view_is : view ≡ other = cc in
             let front : take i slots ≡ take j (set slots i (Some view)) =
             ap (λ k. take k slots) (sym same) ∙ sym (take-set-le j slots i (Some view) (omega arith)) in
-            subst (λ front. BeginsAt (place + bytes_taken (shown_keys front)) bytes other) front
-            (subst (BeginsAt (place + bytes_taken (shown_keys (take i slots))) bytes) view_is here)
+            subst (λ front. BeginsAt (place + signed_keys_size (shown_keys front)) bytes other) front
+            (subst (BeginsAt (place + signed_keys_size (shown_keys (take i slots))) bytes) view_is here)
         | inr (inl before) ↦
             let at : slot slots j ≡ Some other = sym (get_or-set_other slots i j (Some view) None (λ same. omega arith)) ∙ is in
-            subst (λ front. BeginsAt (place + bytes_taken (shown_keys front)) bytes other) (sym (take-set-le j slots i (Some view) (omega arith)))
+            subst (λ front. BeginsAt (place + signed_keys_size (shown_keys front)) bytes other) (sym (take-set-le j slots i (Some view) (omega arith)))
             (stand j other at)
         | inr (inr past) ↦
             let at : slot slots j ≡ Some other = sym (get_or-set_other slots i j (Some view) None (λ same. omega arith)) ∙ is in

@@ -21,7 +21,7 @@ use Rattle.typecodes.proofs.Parts.{in_turn, part_read}
 use Rattle.lms.proofs.Parts.{laid_out}
 use Rattle.lms.proofs.Sizes.{size-public_key}
 use Rattle.hss.specs.Key.{level_number}
-use Rattle.hss.specs.SignedKey.{SignedKey, signed_key, signed_keys, taken}
+use Rattle.hss.specs.SignedKey.{SignedKey, signed_key, signed_keys, signed_key_size}
 use Rattle.hss.specs.Signature.{Signature, key_at, keys_of, level_count, signature, signature_at, signature_size, signatures_of, start_at}
 use Rattle.hss.proofs.Passing.{keys-more, keys-split, read-after}
 
@@ -67,7 +67,7 @@ keys-prefix (suc i) (suc n) bytes place end keys within found =
 -- a signed key, by its parts
 signed_key-split : (bytes : List ℕ) (place end : ℕ) (signed : SignedKey) → place ≤ length bytes → read signed_key bytes place ≡ Ok (signed, end)
     → (read lms_signature bytes place ≡ Ok (signed.signature, place + lms_signature_len_of signed.signature.pair))
-    × (read lms_public_key bytes (place + lms_signature_len_of signed.signature.pair) ≡ Ok (signed.key, end)) × (end ≡ place + taken signed.signature) × (end ≤ length bytes)
+    × (read lms_public_key bytes (place + lms_signature_len_of signed.signature.pair) ≡ Ok (signed.key, end)) × (end ≡ place + signed_key_size signed.signature) × (end ≤ length bytes)
 unfolding signed_key
 signed_key-split bytes place end signed within found =
     let (x, x_found, key_follows) = in_turn lms_signature (λ s. lms_public_key >>= λ key. done (record { signature = s; key = key })) bytes place (signed, end) found in
@@ -89,14 +89,14 @@ signed_key-split bytes place end signed within found =
 
 -- there are n signed keys, and they end after all of them
 pub keys-end : (n : ℕ) (bytes : List ℕ) (place end : ℕ) (keys : List SignedKey) → place ≤ length bytes → read (signed_keys n) bytes place ≡ Ok (keys, end)
-    → (length keys ≡ n) × (end ≡ place + sum_by taken (map (λ signed. signed.signature) keys)) × (end ≤ length bytes)
+    → (length keys ≡ n) × (end ≡ place + sum_by signed_key_size (map (λ signed. signed.signature) keys)) × (end ≤ length bytes)
 unfolding signed_keys
 keys-end zero bytes place end keys within found =
     let pair : ◌≡◌ {A = List SignedKey × ℕ} ([], place) (keys, end) = cc in
     let keys_are = ap (λ p. p.0) pair in
     let end_is = ap (λ p. p.1) pair in (
       ap length (sym keys_are),
-      omega (arith, end_is, ap (λ ks. sum_by taken (map (λ signed. signed.signature) ks)) keys_are),
+      omega (arith, end_is, ap (λ ks. sum_by signed_key_size (map (λ signed. signed.signature) ks)) keys_are),
       omega (arith, end_is),
     )
 keys-end (suc n) bytes place end keys within found =
@@ -104,7 +104,7 @@ keys-end (suc n) bytes place end keys within found =
     let parts = signed_key-split bytes place middle first within first_found in
     let others = keys-end n bytes middle end rest parts.3 rest_found in (
       ap length keys_are ∙ ap suc others.0,
-      omega (arith, others.1, parts.2, ap (λ ks. sum_by taken (map (λ signed. signed.signature) ks)) keys_are, sum_by-cons taken first.signature (map (λ signed. signed.signature) rest)),
+      omega (arith, others.1, parts.2, ap (λ ks. sum_by signed_key_size (map (λ signed. signed.signature) ks)) keys_are, sum_by-cons signed_key_size first.signature (map (λ signed. signed.signature) rest)),
       others.2,
     )
 
@@ -175,11 +175,11 @@ is_read s bytes found =
     is_read-parts s bytes n.0 n.1 keys.1 bottom.1 keys.0 bottom.0 n_found keys_found bottom_found (cc)
 
 -- level i begins where the levels above it end
-pub starts : (s : Signature) (i : ℕ) → i ≤ length s.signed → 4 + sum_by taken (map (λ signed. signed.signature) (take i s.signed)) ≡ start_at s i
+pub starts : (s : Signature) (i : ℕ) → i ≤ length s.signed → 4 + sum_by signed_key_size (map (λ signed. signed.signature) (take i s.signed)) ≡ start_at s i
 starts s i within =
     let above = map (λ signed. signed.signature) s.signed in
     let few : i ≤ length above = omega (arith, length-map s.signed (λ signed. signed.signature)) in
-    ap (λ front. 4 + sum_by taken front) (sym (take-map (λ signed. signed.signature) i s.signed) ∙ sym (take-append-le i above (s.bottom ∷ []) few))
+    ap (λ front. 4 + sum_by signed_key_size front) (sym (take-map (λ signed. signed.signature) i s.signed) ∙ sym (take-append-le i above (s.bottom ∷ []) few))
 
 -- i signed keys stand before level i
 pub above_read : (s : Signature) (bytes : List ℕ) (i : ℕ) → IsRead s bytes → i ≤ length s.signed → read (signed_keys i) bytes 4 ≡ Ok (take i s.signed, start_at s i)
@@ -189,13 +189,13 @@ above_read s bytes i parts within =
     front ∙ ap (λ at. Ok (take i s.signed, at)) (ends.1 ∙ starts s i within)
 
 -- each level begins after the signature and the key of the one above
-pub start-more : (s : Signature) (i : ℕ) → i < length s.signed → start_at s (i + 1) ≡ start_at s i + taken (signature_at s i)
+pub start-more : (s : Signature) (i : ℕ) → i < length s.signed → start_at s (i + 1) ≡ start_at s i + signed_key_size (signature_at s i)
 start-more s i within =
     let all = signatures_of s in
     let above = map (λ signed. signed.signature) s.signed in
     let size : i < length all = omega (arith, length-append above (s.bottom ∷ []), length-map s.signed (λ signed. signed.signature)) in
-    let sum : sum_by taken (take (i + 1) all) ≡ sum_by taken (take i all) + taken (signature_at s i) =
-    ap (sum_by taken) (take_more all i s.bottom size) ∙ sum_by_push taken (take i all) (signature_at s i) in
+    let sum : sum_by signed_key_size (take (i + 1) all) ≡ sum_by signed_key_size (take i all) + signed_key_size (signature_at s i) =
+    ap (sum_by signed_key_size) (take_more all i s.bottom size) ∙ sum_by_push signed_key_size (take i all) (signature_at s i) in
     omega (arith, sum)
 
 -- above the bottom, a level's signature and the next key are its signed key's
@@ -222,7 +222,7 @@ signed_read-parts s bytes i top middle next first rest within at inside keys_are
     let (signature_found, key_found, next_is, _) = signed_key-split bytes middle next first inside first_found in
     let signature_is = signature_at-above s i first rest within keys_are in
     let key_is = key_at-below top s i first rest keys_are in
-    let next_at : next ≡ start_at s (i + 1) = next_is ∙ ap₂ (λ at s. at + taken s) at signature_is ∙ sym (start-more s i within) in (
+    let next_at : next ≡ start_at s (i + 1) = next_is ∙ ap₂ (λ at s. at + signed_key_size s) at signature_is ∙ sym (start-more s i within) in (
       ap (λ at. read lms_signature bytes at) (sym at) ∙ signature_found ∙ ap₂ (λ at s. Ok (s, at + lms_signature_len_of s.pair)) at signature_is,
       ap₂ (λ at s. read lms_public_key bytes (at + lms_signature_len_of s.pair)) (sym at) (sym signature_is) ∙ key_found ∙ ap₂ (λ k at. Ok (k, at)) key_is next_at,
     )
@@ -246,7 +246,7 @@ bottom_read s bytes parts =
     let n = length s.signed in
     let above = map (λ signed. signed.signature) s.signed in
     let ends = keys-end n bytes 4 parts.end s.signed parts.at_least_4 parts.keys in
-    let at : parts.end ≡ start_at s n = ends.1 ∙ ap (λ keys. 4 + sum_by taken (map (λ signed. signed.signature) keys)) (sym (take_all n s.signed (omega arith))) ∙ starts s n (omega arith) in
+    let at : parts.end ≡ start_at s n = ends.1 ∙ ap (λ keys. 4 + sum_by signed_key_size (map (λ signed. signed.signature) keys)) (sym (take_all n s.signed (omega arith))) ∙ starts s n (omega arith) in
     let bottom_is : s.bottom ≡ signature_at s n = sym (get_or_at above s.bottom [] s.bottom n (length-map s.signed (λ signed. signed.signature))) in
     ap (λ at. read lms_signature bytes at) (sym at) ∙ parts.bottom ∙ ap (λ b. Ok (b, length bytes)) bottom_is
 
@@ -261,7 +261,7 @@ level_read s bytes i parts within =
           let same : i ≡ n = omega arith in
           let found = bottom_read s bytes parts in
           let ends = keys-end n bytes 4 parts.end s.signed parts.at_least_4 parts.keys in
-          let at : parts.end ≡ start_at s n = ends.1 ∙ ap (λ keys. 4 + sum_by taken (map (λ signed. signed.signature) keys)) (sym (take_all n s.signed (omega arith))) ∙ starts s n (omega arith) in
+          let at : parts.end ≡ start_at s n = ends.1 ∙ ap (λ keys. 4 + sum_by signed_key_size (map (λ signed. signed.signature) keys)) (sym (take_all n s.signed (omega arith))) ∙ starts s n (omega arith) in
           let inside : start_at s n ≤ length bytes = omega (arith, at, ends.2) in
           let end_is = signature-end (signature_at s n) bytes (start_at s n) (length bytes) inside found in
           ap (λ k. read lms_signature bytes (start_at s k)) same ∙ found ∙ ap (λ at. Ok (signature_at s n, at)) end_is
@@ -301,9 +301,9 @@ key_spelled s bytes top i found above within =
     subst (λ n. Spells lms_public_key (key_at top s i) (take n (drop place bytes))) long spelled
 
 -- signatures with a key after each
-with-keys : (signatures : List LmsSignature) → sum_by taken signatures ≡ sum_by lms_signature_len_of (map (λ s. s.pair) signatures) + 56 * length signatures
+with-keys : (signatures : List LmsSignature) → sum_by signed_key_size signatures ≡ sum_by lms_signature_len_of (map (λ s. s.pair) signatures) + 56 * length signatures
 with-keys [] = refl
-with-keys (s ∷ rest) = omega (arith, with-keys rest, sum_by-cons taken s rest, sum_by-cons lms_signature_len_of s.pair (map (λ s. s.pair) rest))
+with-keys (s ∷ rest) = omega (arith, with-keys rest, sum_by-cons signed_key_size s rest, sum_by-cons lms_signature_len_of s.pair (map (λ s. s.pair) rest))
 
 -- all of a signature
 pub whole-size : (s : Signature) (bytes : List ℕ) → read signature bytes 0 ≡ Ok (s, length bytes) → length bytes ≡ signature_size (map (λ level. level.pair) (signatures_of s))
@@ -315,7 +315,7 @@ whole-size s bytes found =
     let n = length s.signed in
     let keys = keys-end n bytes 4 parts.end s.signed parts.at_least_4 parts.keys in
     let bottom = signature-end s.bottom bytes parts.end (length bytes) keys.2 parts.bottom in
-    let sum : sum_by taken all ≡ sum_by taken above + taken s.bottom = sum_by_push taken above s.bottom in
+    let sum : sum_by signed_key_size all ≡ sum_by signed_key_size above + signed_key_size s.bottom = sum_by_push signed_key_size above s.bottom in
     let count : length all ≡ n + 1 = omega (arith, length-append above (s.bottom ∷ []), length-map s.signed of) in
     let pairs : length (map (λ level. level.pair) all) ≡ n + 1 = length-map all (λ level. level.pair) ∙ count in
     omega (arith, keys.1, bottom, sum, with-keys all, count, pairs)

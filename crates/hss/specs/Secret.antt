@@ -4,7 +4,7 @@ use Rattle.lms.specs.declared.key.LmsPublic.{LmsPublic}
 use Rattle.typecodes.specs.declared.secret.LmsSecret.{LmsSecret}
 use Rattle.lms.specs.Signature.{Signature as LmsSignature}
 use Rattle.lms.specs.SigningTree.{key_of as key_of_tree, path_of_tree}
-use Rattle.lms.specs.Writing.{signed as lms_signed}
+use Rattle.lms.specs.Writing.{made_signature as lms_made_signature}
 use Rattle.hss.specs.declared.secret.Level.{Level}
 
 -- a tree's secret, a leaf, the randomizer C, and the digest Q of what the level signs
@@ -29,4 +29,4 @@ key_of level = key_of_tree level.tree
 
 abbrev pub signature_of_level : Level → LmsSignature
 signature_of_level level =
-    lms_signed level.tree.secret level.tree.leaf level.randomizer level.digest (path_of_tree level.tree)
+    lms_made_signature level.tree.secret level.tree.leaf level.randomizer level.digest (path_of_tree level.tree)

@@ -10,7 +10,7 @@ use Rattle.lms.specs.View.{signature_of as lms_signature_of}
 use Rattle.lms.specs.declared.signature.LmsSigView.{LmsSigView}
 use Rattle.hss.specs.Key.{level_number}
 use Rattle.hss.specs.declared.signed_key.SignedKeyView.{SignedKeyView}
-use Rattle.hss.specs.SignedKey.{SignedKey, shown_keys, signed_keys, taken}
+use Rattle.hss.specs.SignedKey.{SignedKey, shown_keys, signed_keys, signed_key_size}
 
 -- ---- how signatures are spelled
 
@@ -59,7 +59,7 @@ message_at message s i = slice_index_or (messages_of message s) i message
 
 -- where the signature of level i begins: after the first 4 bytes, and the signatures and keys of the levels above
 abbrev pub start_at : Signature → ℕ → ℕ
-start_at s i = 4 + sum_by taken (take i (signatures_of s))
+start_at s i = 4 + sum_by signed_key_size (take i (signatures_of s))
 
 abbrev pub pairs_of_signature : Signature → List LmsPair
 pairs_of_signature s = map (λ level. level.pair) (signatures_of s)

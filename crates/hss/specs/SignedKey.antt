@@ -30,11 +30,11 @@ signed_keys (suc n) = do
   done (first ∷ rest)
 
 -- the bytes of a signature with the key after it, and of several
-abbrev pub taken : LmsSignature → ℕ
-taken s = lms_signature_len_of s.pair + 56
+abbrev pub signed_key_size : LmsSignature → ℕ
+signed_key_size s = lms_signature_len_of s.pair + 56
 
-abbrev pub bytes_taken : List SignedKey → ℕ
-bytes_taken keys = sum_by taken (map (λ signed. signed.signature) keys)
+abbrev pub signed_keys_size : List SignedKey → ℕ
+signed_keys_size keys = sum_by signed_key_size (map (λ signed. signed.signature) keys)
 
 -- ---- what views show
 
@@ -69,4 +69,4 @@ AreFirst n slots =
 abbrev pub StandInTurn : ℕ → List ℕ → List (Option SignedKeyView) → Type 0
 StandInTurn place bytes slots =
     (i : ℕ) (view : SignedKeyView) → slot slots i ≡ Some view
-    → BeginsAt (place + bytes_taken (shown_keys (take i slots))) bytes view
+    → BeginsAt (place + signed_keys_size (shown_keys (take i slots))) bytes view

@@ -10,7 +10,7 @@ ghost use Rattle.lms.specs.declared.key.LmsPublic.{LmsPublic};
 ghost use Rattle.lms.specs.Key.{public_key as lms_public_key};
 ghost use Rattle.lms.specs.View.{bytes_of as lms_bytes_of, pair_of as lms_pair_of, signature_of as lms_signature_of};
 ghost use Rattle.hss.specs.Key.{level_number};
-ghost use Rattle.hss.specs.SignedKey.{BeginsAt, StandInTurn, shown_keys, bytes_taken};
+ghost use Rattle.hss.specs.SignedKey.{BeginsAt, StandInTurn, shown_keys, signed_keys_size};
 ghost use Rattle.hss.specs.Signature.{key_at, level_count, pairs_of_signature, shown_signature};
 ghost use Rattle.hss.specs.Signature.{signature, signature_at, signature_size, start_at};
 
@@ -28,7 +28,7 @@ pub struct HssSigView<'a> {
     ghost spelled: { read signature bytes.now 0 ≡ Ok (shown_signature signed.slots bottom, length bytes.now) },
     ghost stand: { StandInTurn 4 bytes.now signed.slots },
     ghost last: { lms_bytes_of bottom ≡ take (lms_signature_len_of (lms_pair_of bottom))
-        (drop (4 + bytes_taken (shown_keys signed.slots)) bytes.now) },
+        (drop (4 + signed_keys_size (shown_keys signed.slots)) bytes.now) },
 }
 
 impl<'a> HssSigView<'a> {

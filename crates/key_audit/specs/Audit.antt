@@ -75,9 +75,9 @@ pub record Reports (records : List Record) (report : Report) : Type 0 where
 -- ---- anchors
 
 -- The anchor, if given, counts at least one record, and no more than there are.
-abbrev pub IsWithin : Option Anchor → List Record → Type 0
-IsWithin None records = Unit {0}
-IsWithin (Some anchor) records = (0 < anchor.count) × (anchor.count ≤ length records)
+abbrev pub AnchorCounts : Option Anchor → List Record → Type 0
+AnchorCounts None records = Unit {0}
+AnchorCounts (Some anchor) records = (0 < anchor.count) × (anchor.count ≤ length records)
 
 -- An anchor is given that counts none, or more than there are.
 abbrev pub IsBeyond : Option Anchor → List Record → Type 0
@@ -97,7 +97,7 @@ IsSlotTag d on k tag = tag ≡ tag_at (d.state on).content k
 -- The answer about these records, tags aside. Legality comes before the anchor's count, and that before its tag. 46
 -- needs a record, and 43 a disk that isn't honest.
 abbrev pub Judges : (honest : Bool) → List Record → Option Anchor → Result Report AuditFault → Type 0
-Judges honest records anchor (Ok report) = IsLegal records × IsWithin anchor records × Reports records report
+Judges honest records anchor (Ok report) = IsLegal records × AnchorCounts anchor records × Reports records report
 Judges honest records anchor (Err Stopped) = Unit {0}
 Judges honest records anchor (Err NoKey) = records ≡ []
 Judges honest records anchor (Err (Damaged k)) = (honest ≡ false) × (k < length records)
@@ -105,7 +105,7 @@ Judges honest records anchor (Err (Illegal k)) = first_illegal records ≡ Some 
 Judges honest records anchor (Err DeviceFailed) = Unit {0}
 Judges honest records anchor (Err OutOfMemory) = 0 < length records
 Judges honest records anchor (Err AnchorCount) = IsLegal records × IsBeyond anchor records
-Judges honest records anchor (Err AnchorTag) = IsLegal records × IsSome anchor × IsWithin anchor records
+Judges honest records anchor (Err AnchorTag) = IsLegal records × IsSome anchor × AnchorCounts anchor records
 
 -- What the answer says of tags: Ok, the report's and the anchor's are right; 48, the anchor's isn't.
 abbrev pub AreTags : (IsTagOf : ℕ → List ℕ → Type 0) → Option Anchor → Result Report AuditFault → Type 0
@@ -140,12 +140,12 @@ IsOutsideRecords _ = ⊥
 pub record AuditLaw : Type 0 where
   -- legal records that fit the anchor are refused only for reasons outside them
   pub accepts : (records : List Record) (anchor : Option Anchor) (fault : AuditFault) → IsLegal records
-      → IsWithin anchor records → IsTagged (IsTag records) anchor → Judges true records anchor (Err fault)
+      → AnchorCounts anchor records → IsTagged (IsTag records) anchor → Judges true records anchor (Err fault)
       → AreTags (IsTag records) anchor (Err fault) → IsOutsideRecords fault
   -- a report is an anchor that its records fit, whatever records follow
   pub anchors : (honest : Bool) (records more : List Record) (anchor : Option Anchor) (report : Report)
       → Judges honest records anchor (Ok report) → AreTags (IsTag records) anchor (Ok report)
-      → IsWithin (Some (anchor_of report)) (records ++ more)
+      → AnchorCounts (Some (anchor_of report)) (records ++ more)
       × IsTagged (IsTag (records ++ more)) (Some (anchor_of report))
   -- fewer records don't fit it
   pub put_back : (honest : Bool) (records : List Record) (anchor : Option Anchor) (report : Report) (n : ℕ)

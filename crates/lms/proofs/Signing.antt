@@ -8,7 +8,7 @@ use Rattle.lmots.specs.Key.{ends_of_seed, message_digest_of}
 use Rattle.lmots.proofs.Signing.{signed_climbs}
 use Rattle.typecodes.specs.declared.secret.LmsSecret.{LmsSecret}
 use Rattle.lms.specs.Secret.{joins_of, leaves_of, leaf_path, public_of}
-use Rattle.lms.specs.Writing.{signed, textbook}
+use Rattle.lms.specs.Writing.{made_signature, textbook}
 use Rattle.lms.specs.Verification.{IsValid}
 
 -- The textbook signature of a message is valid under the secret's public key.
@@ -31,6 +31,6 @@ textbook_valid secret q randomizer message inside =
 -- The same of a signature whose digest and path are the textbook's.
 pub signed_valid : (secret : LmsSecret) (q : ℕ) (randomizer message digest : List ℕ) (path : List (List ℕ)) → q < 2 ^ height_of secret.pair.tree
     → digest ≡ message_digest_of secret.identifier q randomizer message → path ≡ leaf_path secret q
-    → IsValid (public_of secret) message (signed secret q randomizer digest path)
+    → IsValid (public_of secret) message (made_signature secret q randomizer digest path)
 signed_valid secret q randomizer message digest path inside digest_is path_is =
     rw (digest_is, path_is) (textbook_valid secret q randomizer message inside)

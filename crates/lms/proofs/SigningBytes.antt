@@ -16,7 +16,7 @@ use Rattle.lms.specs.declared.key.LmsPublic.{LmsPublic}
 use Rattle.typecodes.specs.declared.secret.LmsSecret.{LmsSecret}
 use Rattle.lms.specs.Key.{public_key}
 use Rattle.lms.specs.Signature.{Signature, signature}
-use Rattle.lms.specs.Writing.{public_bytes, signature_bytes, signed}
+use Rattle.lms.specs.Writing.{public_bytes, signature_bytes, made_signature}
 use Rattle.lms.proofs.After.{after_chains, after_identifier, after_q, after_key_tree, after_ots, after_randomizer, after_root, after_tree, after_types}
 
 -- The parts have the sizes that the types say, and q is a leaf.
@@ -68,9 +68,9 @@ signature_spelled s sized =
 -- So is the signature that a secret makes, with a randomizer of 32 bytes and h path nodes of 32 bytes.
 pub signed_spelled : (secret : LmsSecret) (q : ℕ) (randomizer digest : List ℕ) (path : List (List ℕ)) → q < 2 ^ height_of secret.pair.tree
     → length randomizer ≡ 32 → length path ≡ height_of secret.pair.tree → ((i : ℕ) → i < height_of secret.pair.tree → length (get_or path i []) ≡ 32)
-    → Spells signature (signed secret q randomizer digest path) (signature_bytes (signed secret q randomizer digest path))
+    → Spells signature (made_signature secret q randomizer digest path) (signature_bytes (made_signature secret q randomizer digest path))
 signed_spelled secret q randomizer digest path inside size count sizes =
-    let sized : IsSized (signed secret q randomizer digest path) = record {
+    let sized : IsSized (made_signature secret q randomizer digest path) = record {
       is_leaf = inside;
       randomizer = size;
       chain_count = length-map-range_with_len _ 0 (chains_of secret.pair.ots);
@@ -78,7 +78,7 @@ signed_spelled secret q randomizer digest path inside size count sizes =
       path_count = count;
       path = sizes;
     } in
-    signature_spelled (signed secret q randomizer digest path) sized
+    signature_spelled (made_signature secret q randomizer digest path) sized
 
 -- A public key is spelled by its bytes.
 pub public_spelled : (key : LmsPublic) → length key.identifier ≡ 16 → length key.root ≡ 32

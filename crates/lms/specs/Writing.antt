@@ -10,14 +10,14 @@ use Rattle.lms.specs.Secret.{leaf_path}
 use Rattle.lms.specs.Signature.{Signature, whole_signature}
 
 -- the signature of the digest Q by leaf q, with the randomizer C and a path
-abbrev pub signed : LmsSecret → ℕ → List ℕ → List ℕ → List (List ℕ) → Signature
-signed secret q randomizer digest path =
+abbrev pub made_signature : LmsSecret → ℕ → List ℕ → List ℕ → List (List ℕ) → Signature
+made_signature secret q randomizer digest path =
     let chains = signed_values secret.identifier q secret.pair.ots secret.seed digest in
     whole_signature secret.pair q randomizer chains path
 
 -- The textbook signature: it has the path of leaf q.
 abbrev pub textbook : LmsSecret → ℕ → List ℕ → List ℕ → Signature
-textbook secret q randomizer digest = signed secret q randomizer digest (leaf_path secret q)
+textbook secret q randomizer digest = made_signature secret q randomizer digest (leaf_path secret q)
 
 -- the bytes of a signature (5.4)
 abbrev pub signature_bytes : Signature → List ℕ

@@ -5,7 +5,7 @@ ghost use Rattle.typecodes.specs.Layout.{Spells};
 ghost use Rattle.typecodes.specs.Types.{height_of, lms_signature_len_of};
 ghost use Rattle.lms.specs.Secret.{leaf_path};
 ghost use Rattle.lms.specs.Signature.{signature};
-ghost use Rattle.lms.specs.Writing.{signature_bytes, signed, textbook};
+ghost use Rattle.lms.specs.Writing.{signature_bytes, made_signature, textbook};
 
 use crate::key::LmsPublic;
 use crate::writing::write_signature;
@@ -42,9 +42,9 @@ impl SigningTree {
     pub fn write(&self, randomizer: &[u8; 32], digest: &[u8; 32], into: &mut [u8])
         requires { length into.old ≡ lms_signature_len_of self.now.secret.pair }
         ensures bytes { into.new ≡ signature_bytes
-            (signed self.now.secret self.now.leaf randomizer.now digest.now (path_of_tree self.now)) }
+            (made_signature self.now.secret self.now.leaf randomizer.now digest.now (path_of_tree self.now)) }
         ensures spells { Spells signature
-            (signed self.now.secret self.now.leaf randomizer.now digest.now (path_of_tree self.now)) into.new }
+            (made_signature self.now.secret self.now.leaf randomizer.now digest.now (path_of_tree self.now)) into.new }
         // If the path is the leaf's, it is the textbook signature.
         ensures textbook { path_of_tree self.now ≡ leaf_path self.now.secret self.now.leaf →
             into.new ≡ signature_bytes (textbook self.now.secret self.now.leaf randomizer.now digest.now) }

@@ -6,7 +6,7 @@ ghost use Rattle.typecodes.specs.Types.{height_of, lms_signature_len_of};
 ghost use Rattle.lms.specs.Key.{public_key};
 ghost use Rattle.lms.specs.Signature.{signature};
 ghost use Rattle.lms.specs.Secret.{digest_at, leaf_path, public_of};
-ghost use Rattle.lms.specs.Writing.{public_bytes, signature_bytes, signed, textbook};
+ghost use Rattle.lms.specs.Writing.{public_bytes, signature_bytes, made_signature, textbook};
 ghost use Rattle.lms.specs.Verification.{IsValid};
 
 use crate::key::LmsPublic;
@@ -50,8 +50,8 @@ pub fn write_signature(
     requires is_leaf { leaf < 2 ^ height_of secret.now.pair.tree }
     requires path { length path.now ≡ height_of secret.now.pair.tree }
     requires exact_length { length into.old ≡ lms_signature_len_of secret.now.pair }
-    ensures bytes { into.new ≡ signature_bytes (signed secret.now leaf randomizer.now digest.now path.now) }
-    ensures spells { Spells signature (signed secret.now leaf randomizer.now digest.now path.now) into.new }
+    ensures bytes { into.new ≡ signature_bytes (made_signature secret.now leaf randomizer.now digest.now path.now) }
+    ensures spells { Spells signature (made_signature secret.now leaf randomizer.now digest.now path.now) into.new }
     // If the path is the leaf's, it is the textbook signature.
     ensures textbook { path.now ≡ leaf_path secret.now leaf →
         into.new ≡ signature_bytes (textbook secret.now leaf randomizer.now digest.now) }
@@ -59,7 +59,7 @@ pub fn write_signature(
     ensures valid { (message : List ℕ) →
         digest.now ≡ digest_at secret.now leaf randomizer.now message →
         path.now ≡ leaf_path secret.now leaf →
-        IsValid (public_of secret.now) message (signed secret.now leaf randomizer.now digest.now path.now) }
+        IsValid (public_of secret.now) message (made_signature secret.now leaf randomizer.now digest.now path.now) }
 {
     let key = LmOts {
         identifier: secret.identifier,

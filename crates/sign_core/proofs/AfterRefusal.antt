@@ -18,12 +18,12 @@ use Rattle.sign_core.specs.declared.fault.SignFault.{SignFault}
 use Rattle.sign_core.specs.declared.fault.SignFault.TheVariants.{LedgerFull, Moved, OutOfMemory, RandomRepeated}
 use Rattle.sign_core.specs.declared.fault.SignFault.TheVariants.{RetireRange, Stopped}
 use Rattle.sign_core.specs.AfterRefusal.{AfterRefusalLaw, AreDrawnFor, BeginsDrawn, IsDrawnKey, IsNextWanted, IsRefusal}
-use Rattle.sign_core.specs.AfterRefusal.{Leaves, LeavesRequested, LeavesTrees, WantsRecords}
+use Rattle.sign_core.specs.AfterRefusal.{LeavesRecords, LeavesRequested, LeavesTrees, WantsRecords}
 use Rattle.sign_core.specs.Events.{AreFields, key_sizes}
 use Rattle.sign_core.specs.Requests.{BeginsTree, BindsName}
 use Rattle.sign_core.specs.Records.{binding_at, first_illegal, has_identifier, has_moved, the_key}
 use Rattle.sign_core.specs.Records.{leaves_of_current, next_at}
-use Rattle.sign_core.specs.Textbook.{Trees, any_public_of, signature_at, trees_of}
+use Rattle.sign_core.specs.Textbook.{Trees, any_public_of, textbook_signature, trees_of}
 use Rattle.sign_core.specs.World.{Chance, Creation, Draw, Fate, Opening, Outcome, State, acked, answered, appended}
 use Rattle.sign_core.specs.World.{cut_new, cut_old, drawing}
 use Rattle.sign_core.specs.inner.Cases.{begun, bound_message, created_load, extended, extended_identifier}
@@ -48,17 +48,17 @@ some_none x is = absurd (cc)
 -- ---- all that stands was acknowledged
 
 whole : {A : Type 0} {IsWanted : Record → Type 0} (records : List Record) (outcome : Outcome A) → outcome.acknowledged ≡ records
-    → outcome.state.records ≡ records → outcome.failed ≡ None → Leaves records IsWanted outcome
+    → outcome.state.records ≡ records → outcome.failed ≡ None → LeavesRecords records IsWanted outcome
 whole records outcome acknowledged stands uncut = record {
   acknowledged = acknowledged;
   whole = λ none. stands;
   cut = λ entry is. absurd (some_none entry (sym uncut ∙ is));
 }
 
--- `Leaves` along equal records and a weaker property.
+-- `LeavesRecords` along equal records and a weaker property.
 leaves_along : {A : Type 0} (IsOld IsNew : Record → Type 0) (records others : List Record) (outcome : Outcome A)
-    → records ≡ others → ((entry : Record) → IsOld entry → IsNew entry) → Leaves records IsOld outcome
-    → Leaves others IsNew outcome
+    → records ≡ others → ((entry : Record) → IsOld entry → IsNew entry) → LeavesRecords records IsOld outcome
+    → LeavesRecords others IsNew outcome
 leaves_along IsOld IsNew records others outcome same turned leaves = record {
   acknowledged = leaves.acknowledged ∙ same;
   whole = λ uncut. leaves.whole uncut ∙ same;
@@ -77,7 +77,7 @@ module _ (key : Key) (name : List ℕ) where
   Quiet level before chance outcome = IsRefusal outcome → LeavesTrees key before level name chance outcome
 
   none : (level : ℕ) (records : List Record) (chance : Chance) (outcome : Outcome (List ℕ))
-      → Leaves records (IsNextWanted key records level name chance []) outcome
+      → LeavesRecords records (IsNextWanted key records level name chance []) outcome
       → LeavesTrees key records level name chance outcome
   none level records chance outcome leaves =
       let nil = append-nil records in
@@ -85,7 +85,7 @@ module _ (key : Key) (name : List ℕ) where
         trees = [];
         few = omega arith;
         each = λ i entry at. absurd (none-some entry at);
-        leaves = subst (λ all. Leaves all (IsNextWanted key records level name chance []) outcome) (sym nil) leaves;
+        leaves = subst (λ all. LeavesRecords all (IsNextWanted key records level name chance []) outcome) (sym nil) leaves;
         unbound = λ other. ap (λ all. binding_at all other) nil;
       }
 
@@ -242,7 +242,7 @@ module _ (key : Key) (name : List ℕ) where
       λ refusal. reads level records chance _ (kept level chance (open_state records) _)
   quiet_bound level records chance (Some randomizer) (Some message) fate here drawn is = λ refusal.
       let bound = new_bound key records name (next_at key.secret records (bottom_of key.secret)) randomizer message in
-      let next = λ (all : List Record). answered (open_state all) (signature_at key all (length records) bound) in
+      let next = λ (all : List Record). answered (open_state all) (textbook_signature key all (length records) bound) in
       let own : BindsName key records name message chance.bound.fields bound =
       record { named = refl; leaf = refl; randomizer = drawn; digest = refl } in
       reads level records chance _ (cut_off level records chance (BoundRecord bound) fate next
@@ -323,7 +323,7 @@ module _ (key : Key) (name : List ℕ) where
 
 -- The old records are left, and nothing was drawn; or these trees, and what was drawn for them.
 abbrev HasLeft : State → (name : List ℕ) → Chance → Outcome (List ℕ) → Type 0
-HasLeft state name chance outcome = (Leaves state.records (λ entry. ⊥) outcome × (outcome.drawn ≡ []))
+HasLeft state name chance outcome = (LeavesRecords state.records (λ entry. ⊥) outcome × (outcome.drawn ≡ []))
     ⊎ ((key : Key) × (level : ℕ) × WantsRecords state name key level
     × LeavesTrees key state.records level name chance outcome
     × (outcome.answer ≢ Err RandomRepeated → DrawsWanted state.records (bottom_of key.secret - level) chance outcome))
@@ -382,7 +382,7 @@ as_requested state name chance outcome (inr (key, level, wants, left, draws)) = 
 -- ---- the other events
 
 abbrev QuietIn : {A : Type 0} → List Record → (Record → Type 0) → Outcome A → Type 0
-QuietIn before IsWanted outcome = IsRefusal outcome → Leaves before IsWanted outcome
+QuietIn before IsWanted outcome = IsRefusal outcome → LeavesRecords before IsWanted outcome
 
 plain : {A : Type 0} {IsWanted : Record → Type 0} (state : State) (fault : SignFault) → QuietIn {A = A} state.records IsWanted (refused state fault)
 plain state fault refusal = whole state.records (refused state fault) refl refl refl

@@ -37,7 +37,7 @@ use Rattle.sign_core.specs.Ledger.{Table, binding_kept, kept_of}
 use Rattle.sign_core.specs.World.{Fate, Outcome, acked, answered, appended, cut_new, cut_old, drawing, no_memory}
 use Rattle.sign_core.specs.inner.Cases.{bound_message}
 use Rattle.sign_core.specs.World.{open_state, randomizer_of_fields, reading}
-use Rattle.sign_core.specs.Textbook.{Trees, damaged_at, digest_at, signature_at, current_at, trees_of}
+use Rattle.sign_core.specs.Textbook.{Trees, damaged_at, digest_at, textbook_signature, current_at, trees_of}
 use Rattle.sign_core.proofs.Adding.{LeavesItsList}
 use Rattle.sign_core.proofs.Draws.{draw_fails}
 use Rattle.sign_core.proofs.Appended.{added_records, counts_answered, ends_alike, comes_after_draws, is_tried, no_draw_fails, same_fault}
@@ -290,13 +290,13 @@ never_damaged (Err k) mapped damaged cases found none = absurd (none-some _ (sym
 -- What is written for it is the signature of the record.
 pub written_last : (key own : Key) (old new records : List Record) (name : List ℕ) (bound : Bound) (binding : Binding) (linked : Result (Unit {0}) ℕ)
     (x : Unit {0}) (bytes : List ℕ) → linked ≡ Ok x → IsBoundLast key old new name bound binding → records ≡ new → key ≡ own
-    → OnOk linked ((k : ℕ) (other : Bound) → kept_of own.secret records (k, other) ≡ binding → bytes ≡ signature_at own records k other)
-    → bytes ≡ signature_at key (old ++ BoundRecord bound ∷ []) (length old) bound
+    → OnOk linked ((k : ℕ) (other : Bound) → kept_of own.secret records (k, other) ≡ binding → bytes ≡ textbook_signature own records k other)
+    → bytes ≡ textbook_signature key (old ++ BoundRecord bound ∷ []) (length old) bound
 written_last key own old new records name bound binding linked x bytes ok last same is writes =
     let written = subst (λ (r : Result (Unit {0}) ℕ). OnOk r ((k : ℕ) (other : Bound) → kept_of own.secret records (k, other) ≡ binding
-    → bytes ≡ signature_at own records k other)) ok writes in
+    → bytes ≡ textbook_signature own records k other)) ok writes in
     written (length old) bound (kept_along key own old new records name bound binding last same is)
-    ∙ ap₂ (λ (k : Key) l. signature_at k l (length old) bound) (sym is) (same ∙ last.grown)
+    ∙ ap₂ (λ (k : Key) l. textbook_signature k l (length old) bound) (sym is) (same ∙ last.grown)
 
 -- ---- C for a binding
 
@@ -387,10 +387,10 @@ module _ {S R M : Type 0} (g : store.Ghosts S) (r : source.Ghosts R) (m : messag
       → ReadWhole m.transition m.remaining text before after
       → bound ≡ new_bound key ledger.records name (next_at key.secret ledger.records (bottom_of key.secret)) bound.randomizer text
       → Adds g (view_of kept_in mid ledger caches is_open) new (BoundRecord bound) a
-      → answer ≡ answered_value a (signature_at key (ledger.records ++ BoundRecord bound ∷ []) (length ledger.records) bound)
+      → answer ≡ answered_value a (textbook_signature key (ledger.records ++ BoundRecord bound ∷ []) (length ledger.records) bound)
       → BindsBelow g r m name 0 (view_of kept_in random ledger caches is_open) new before after answer key
   bound_added {caches = caches} new bound text a answer opened drawn whole is adds answers =
-      let sign : Bound → List Record → List ℕ = λ b records. signature_at key records (length ledger.records) b in
+      let sign : Bound → List Record → List ℕ = λ b records. textbook_signature key records (length ledger.records) b in
       subst (λ (x : Result (List ℕ) SignFault). BindsBelow g r m name 0 (view_of kept_in random ledger caches is_open) new before after x key) (sym answers) (record {
         trees = [];
         bound = record { fields = drawn.fields; fate = adds.fate };

@@ -7,7 +7,7 @@ use Rattle.state_file.specs.declared.record.Secret.{Secret}
 use Rattle.state_file.specs.declared.record.Secret.TheVariants.{Lms, Hss, Xmss}
 use Rattle.state_file.specs.declared.store.Store as store
 use Rattle.sign_core.specs.declared.key.AnyPublic.{AnyPublic}
-use Rattle.sign_core.specs.Calls.{AreCalls, AreSteps, Call, CallsLaw, IsRun, IsStep, IsStoppedIn, Step, StoppedLaw, after_steps, ends, events_of}
+use Rattle.sign_core.specs.Calls.{AreCalls, AreSteps, Call, CallsLaw, IsRun, IsStep, IsStoppedIn, RunStep, StoppedLaw, after_steps, ends, events_of}
 use Rattle.sign_core.specs.Calls.{reached_records, stepped, stops, store_after_calls}
 use Rattle.sign_core.specs.Events.{AllEvents, AreDraws, AreDrawsOf, AreFields, IsEvent, randomizer_sizes}
 use Rattle.sign_core.specs.Cuts.{IsBeginning, IsLeftBy, reached}
@@ -55,7 +55,7 @@ stop_left limit world (retire upto fate) left can is = stop_law.retires limit wo
 stop_left limit world (migrate fate) left can is = left_by_stop limit world left (whole_left world.state.records world.state.records left refl is)
 stop_left limit world stop left can is = left_by_stop limit world left (whole_left world.state.records world.state.records left refl is)
 
-step_run : (limit : ℕ) (world : World) (step : Step) → IsStep limit world step → IsRun limit world (stepped limit world step)
+step_run : (limit : ℕ) (world : World) (step : RunStep) → IsStep limit world step → IsRun limit world (stepped limit world step)
 step_run limit world (ends event) can = record { events = event ∷ []; possible = (can, tt); leads = refl }
 step_run limit world (stops event left) can =
     let by = stop_left limit world event left can.0 can.1 in
@@ -71,7 +71,7 @@ pub all_both : (first later : List Event) → AllEvents first → AllEvents late
 all_both [] later all more = more
 all_both (event ∷ first) later all more = (all.0, all_both first later all.1 more)
 
-steps_run : (limit : ℕ) (world : World) (steps : List Step) → AreSteps limit world steps → IsRun limit world (after_steps limit world steps)
+steps_run : (limit : ℕ) (world : World) (steps : List RunStep) → AreSteps limit world steps → IsRun limit world (after_steps limit world steps)
 steps_run limit world [] all = record { events = []; possible = tt; leads = refl }
 steps_run limit world (step ∷ steps) all =
     let first = step_run limit world step all.0 in
@@ -82,7 +82,7 @@ steps_run limit world (step ∷ steps) all =
       leads = run_both limit world first.events later.events ∙ ap (λ w. run limit w later.events) first.leads ∙ later.leads;
     }
 
-steps_once : (limit : ℕ) (steps : List Step) → AreSteps limit beginning steps → IsOnce limit (after_steps limit beginning steps)
+steps_once : (limit : ℕ) (steps : List RunStep) → AreSteps limit beginning steps → IsOnce limit (after_steps limit beginning steps)
 steps_once limit steps all =
     let by = steps_run limit beginning steps all in
     subst (IsOnce limit) by.leads (once limit (run limit beginning by.events) (kept_by_run limit by.events by.possible))

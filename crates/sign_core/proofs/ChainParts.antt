@@ -26,7 +26,7 @@ use Rattle.sign_core.specs.Records.{current, the_key}
 use Rattle.sign_core.specs.inner.Links.{IsTreeAt, signings_of}
 use Rattle.sign_core.specs.Signing.{IsXmssKey}
 use Rattle.sign_core.specs.inner.Signing.{pairs_of}
-use Rattle.sign_core.specs.Textbook.{Trees, damaged_at, digest_at, any_digest, secret_at, made_secret, signature_at, any_signature}
+use Rattle.sign_core.specs.Textbook.{Trees, damaged_at, digest_at, any_digest, secret_at, made_secret, textbook_signature, any_signature}
 use Rattle.sign_core.proofs.Found.{digest_under}
 use Rattle.sign_core.specs.Textbook.{parent_signing, chain_signings, current_at, trees_of}
 use Rattle.sign_core.proofs.Keys.{key_stands, legal_key}
@@ -180,7 +180,7 @@ pub xmss_leaf_digest : (records : List Record) (key : Key) (secret : XmssSecret)
 xmss_leaf_digest records key secret k leaf randomizer text is = ap (λ s. any_digest s key.root records k leaf randomizer text) is
 
 pub xmss_signed : (records : List Record) (key : Key) (secret : XmssSecret) (k : ℕ) (bound : Bound) → IsXmssKey secret key
-    → signature_at key records k bound ≡ xmss_signature_bytes (xmss_textbook secret bound.leaf bound.digest)
+    → textbook_signature key records k bound ≡ xmss_signature_bytes (xmss_textbook secret bound.leaf bound.digest)
 xmss_signed records key secret k bound is = ap (λ s. any_signature s records k bound) is
 
 -- the chain of an XMSS key is its tree alone

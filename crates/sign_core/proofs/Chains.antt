@@ -16,7 +16,7 @@ use Rattle.state_file.specs.declared.record.Key.{Key}
 use Rattle.state_file.specs.declared.record.Record.{Record}
 use Rattle.state_file.specs.declared.record.Record.TheVariants.{Key as KeyRecord, Extend as ExtendRecord, Bound as BoundRecord, Retire, Moved}
 use Rattle.sign_core.specs.Records.{are_same, current, last_extend, makes, same_tree, under}
-use Rattle.sign_core.specs.Textbook.{Trees, chain, damaged_at, is_sound_at, is_sound_extend, is_sound_record, secret_at, made_secret, parent_signing}
+use Rattle.sign_core.specs.Textbook.{Trees, tree_chain, damaged_at, is_sound_at, is_sound_extend, is_sound_record, secret_at, made_secret, parent_signing}
 use Rattle.sign_core.specs.Textbook.{chain_signings, current_at, trees_of}
 
 -- ---- lists
@@ -203,7 +203,7 @@ chained key trees records (suc level) k tree last these first is last_is sound =
     let parent = current_at level records tree in
     let above = chain_signings trees level records parent in
     let s = named_by (secret_at trees records parent) made.extend in
-    let (chain_sound, tree_sound) = none_of_both (λ j. not (is_sound_at key records j)) (chain level records parent) tree sound in
+    let (chain_sound, tree_sound) = none_of_both (λ j. not (is_sound_at key records j)) (tree_chain level records parent) tree sound in
     let (count, before) = chained key trees records level tree parent s these first made.above refl chain_sound in
     let sound_here : is_sound_extend (Some trees) records tree made.extend ≡ true =
     ap (λ t. is_sound_extend t records tree made.extend) (sym these) ∙ ap (is_sound_record key records tree) (sym made.stands)

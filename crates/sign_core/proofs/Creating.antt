@@ -22,7 +22,7 @@ use Rattle.sign_core.specs.declared.source.Source as source
 use Rattle.sign_core.specs.Source.{Provides}
 use Rattle.sign_core.specs.Cuts.{IsBeginning}
 use Rattle.state_file.specs.declared.refused.Refused.{Refused}
-use Rattle.sign_core.specs.inner.Signer.{DrawsSecret, Holds, IsAppended, IsTakenUp, LooksForKey}
+use Rattle.sign_core.specs.inner.Signer.{DrawsSecret, HoldsParts, IsAppended, IsTakenUp, LooksForKey}
 use Rattle.sign_core.specs.Ledger.{Table}
 use Rattle.sign_core.specs.Records.{the_key}
 use Rattle.sign_core.specs.Signer.{Creates, IsAnswered, KeepsStore, LeavesOld, LeavesSource, LoadFails, MakesKey, View}
@@ -350,7 +350,7 @@ made_with g r version spec old new before after P Q to makes = record {
 
 pub held_new : {S R : Type 0} (g : store.Ghosts S) (r : source.Ghosts R) (version : Version) (spec : Spec) (old new : S) (before after : R)
     (made : Result Table SignFault) (result : Result (View S R) (Refused (S × R) SignFault))
-    → MakesKey g r version spec old new before after (IsTakenUp made) → Holds new after made result → Creates g r version spec old before result
+    → MakesKey g r version spec old new before after (IsTakenUp made) → HoldsParts new after made result → Creates g r version spec old before result
 held_new {S = S} {R = R} g r version spec old new before after made result makes holds =
     subst (λ (p : S × R). MakesKey g r version spec old p.0 before p.1 (IsAnswered result)) (λ i. (sym holds.store_is i, sym holds.random_is i))
     (made_with g r version spec old new before after (IsTakenUp made) (IsAnswered result) holds.answer makes)

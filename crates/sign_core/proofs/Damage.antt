@@ -10,7 +10,7 @@ use Rattle.state_file.specs.declared.record.Record.{Record}
 use Rattle.sign_core.specs.declared.fault.SignFault.TheVariants.{Damaged}
 use Rattle.sign_core.specs.Opened.{IsDamagedFor, IsFirstDamaged}
 use Rattle.sign_core.specs.Records.{are_same, binding_at, deepest, has_moved, the_key, wanted_count, is_long}
-use Rattle.sign_core.specs.Textbook.{chain, damaged_at, digest_at, is_sound_at, current_at}
+use Rattle.sign_core.specs.Textbook.{tree_chain, damaged_at, digest_at, is_sound_at, current_at}
 use Rattle.sign_core.specs.World.{Chance, Outcome, State, requested}
 use Rattle.sign_core.specs.inner.Cases.{bound_level, bound_sound, repeated, repeated_sound, requested_binding, requested_key}
 use Rattle.sign_core.proofs.Ends.{ended_bound_below, not_damaged}
@@ -64,7 +64,7 @@ not_false false is = absurd (cc)
 first_damaged : (key : Key) (records : List Record) (level tree slot : ℕ) → damaged_at key level records tree ≡ Some slot
     → IsFirstDamaged key records level tree slot
 first_damaged key records level tree slot is =
-    let first = find_first (λ k. not (is_sound_at key records k)) (chain level records tree) slot is in
+    let first = find_first (λ k. not (is_sound_at key records k)) (tree_chain level records tree) slot is in
     record {
       place = first.place;
       is = first.is;

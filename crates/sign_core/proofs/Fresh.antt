@@ -18,7 +18,7 @@ use Rattle.sign_core.specs.World.{Chance, Draw, Fate, Outcome, acked, drawing}
 use Rattle.sign_core.specs.inner.Cases.{bound_message, extended, extended_seed}
 use Rattle.sign_core.specs.World.{open_state, randomizer_of_fields, refused}
 use Rattle.sign_core.specs.inner.Cases.{bound_trees}
-use Rattle.sign_core.specs.Textbook.{Trees, digest_at, signature_at, trees_of}
+use Rattle.sign_core.specs.Textbook.{Trees, digest_at, textbook_signature, trees_of}
 use Rattle.sign_core.proofs.BoundBelow.{extends_by, fields_drawn_before, next_extend, whole_draw}
 use Rattle.sign_core.proofs.Found.{new_bound}
 
@@ -64,7 +64,7 @@ pub record IsDone (key : Key) (name message : List ℕ) (chance : Chance) (below
   pub randomizer : randomizer_of_fields key.secret chance.bound.fields ≡ Some bound.randomizer
   pub digest : bound.digest ≡ digest_at key (records ++ trees) (length (records ++ trees)) bound.leaf bound.randomizer message
   pub state : outcome.state ≡ open_state (records ++ trees ++ BoundRecord bound ∷ [])
-  pub answer : outcome.answer ≡ Ok (signature_at key (records ++ trees ++ BoundRecord bound ∷ []) (length (records ++ trees)) bound)
+  pub answer : outcome.answer ≡ Ok (textbook_signature key (records ++ trees ++ BoundRecord bound ∷ []) (length (records ++ trees)) bound)
   pub drawn : outcome.drawn ≡ bytes_drawn draws ++ concat chance.bound.fields
   pub read : outcome.is_read ≡ true
   pub uncut : outcome.failed ≡ None
@@ -95,7 +95,7 @@ bound_done key name message drawn chance records given is acknowledged =
       digest = ap (λ all. digest_at key all (length all) bound.leaf drawn message) (sym none);
       state = ap (λ (o : Outcome (List ℕ)). o.state) came ∙ ap (λ all. open_state (all ++ BoundRecord bound ∷ [])) (sym none);
       answer = ap (λ (o : Outcome (List ℕ)). o.answer) came
-          ∙ ap (λ all. Ok (signature_at key (all ++ BoundRecord bound ∷ []) (length all) bound)) (sym none);
+          ∙ ap (λ all. Ok (textbook_signature key (all ++ BoundRecord bound ∷ []) (length all) bound)) (sym none);
       drawn = ap (λ (o : Outcome (List ℕ)). o.drawn) came ∙ append-nil (concat chance.bound.fields);
       read = ap (λ (o : Outcome (List ℕ)). o.is_read) came;
       uncut = ap (λ (o : Outcome (List ℕ)). o.failed) came;
@@ -151,7 +151,7 @@ tree_done key trees name message chance below draws records identifier seed rand
       randomizer = done.randomizer;
       digest = done.digest ∙ ap (λ all. digest_at key all (length all) done.bound.leaf done.bound.randomizer message) all_records;
       state = done.state ∙ ap (λ all. open_state (all ++ BoundRecord done.bound ∷ [])) all_records;
-      answer = done.answer ∙ ap (λ all. Ok (signature_at key (all ++ BoundRecord done.bound ∷ []) (length all) done.bound)) all_records;
+      answer = done.answer ∙ ap (λ all. Ok (textbook_signature key (all ++ BoundRecord done.bound ∷ []) (length all) done.bound)) all_records;
       drawn = ap (λ bytes. identifier ++ ((seed ++ randomizer) ++ bytes)) done.drawn
           ∙ fields_drawn_before identifier seed randomizer (bytes_drawn draws) (concat chance.bound.fields);
       read = done.read;

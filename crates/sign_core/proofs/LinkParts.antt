@@ -23,7 +23,7 @@ use Rattle.sign_core.specs.declared.ledger.Made.{Made}
 use Rattle.sign_core.specs.Records.{current, the_key}
 use Rattle.sign_core.specs.inner.Links.{AreMade, IsMade, IsTreeAt, IsTreeBy, signings_of}
 use Rattle.sign_core.specs.Ledger.{made_at, made_entry}
-use Rattle.sign_core.specs.Textbook.{Trees, chain, damaged_at, is_sound_at, secret_at, made_secret, current_at}
+use Rattle.sign_core.specs.Textbook.{Trees, tree_chain, damaged_at, is_sound_at, secret_at, made_secret, current_at}
 use Rattle.sign_core.specs.Textbook.{parent_signing, leaf_signing, chain_signings, trees_of}
 use Rattle.sign_core.proofs.Chains.{got_front, got_last, named_by}
 use Rattle.sign_core.proofs.Keys.{key_stands, legal_key}
@@ -159,19 +159,19 @@ top_damaged key records place damaged = ap (λ b. cond (not b) (Some place) None
 pub below_sound : (key : Key) (records : List Record) (level place : ℕ) → damaged_at key level records (current_at level records place) ≡ None
     → is_sound_at key records place ≡ true → damaged_at key (suc level) records place ≡ None
 below_sound key records level place above sound =
-    found_after (λ k. not (is_sound_at key records k)) (chain level records (current_at level records place)) (place ∷ []) above
+    found_after (λ k. not (is_sound_at key records k)) (tree_chain level records (current_at level records place)) (place ∷ []) above
     ∙ top_sound key records place sound
 
 pub below_damaged : (key : Key) (records : List Record) (level place : ℕ) → damaged_at key level records (current_at level records place) ≡ None
     → is_sound_at key records place ≡ false → damaged_at key (suc level) records place ≡ Some place
 below_damaged key records level place above damaged =
-    found_after (λ k. not (is_sound_at key records k)) (chain level records (current_at level records place)) (place ∷ []) above
+    found_after (λ k. not (is_sound_at key records k)) (tree_chain level records (current_at level records place)) (place ∷ []) above
     ∙ top_damaged key records place damaged
 
 pub above_damaged : (key : Key) (records : List Record) (level place k : ℕ) → damaged_at key level records (current_at level records place) ≡ Some k
     → damaged_at key (suc level) records place ≡ Some k
 above_damaged key records level place k above =
-    found_front (λ j. not (is_sound_at key records j)) (chain level records (current_at level records place)) (place ∷ []) k above
+    found_front (λ j. not (is_sound_at key records j)) (tree_chain level records (current_at level records place)) (place ∷ []) k above
 
 -- ---- the levels of a chain
 

@@ -29,7 +29,7 @@ use Rattle.sign_core.specs.Records.{is_free, is_moved, the_key, last_extend, nex
 use Rattle.sign_core.proofs.Found.{migrated_key, next_of}
 use Rattle.sign_core.specs.Textbook.{AllHaveSizes, AreSound, HasSizes, Trees, digest_at, any_digest, is_sound_at, is_sound_extend}
 use Rattle.sign_core.proofs.Found.{digest_under, hss_signature_under}
-use Rattle.sign_core.specs.Textbook.{is_sound_record, secret_at, made_secret, signature_at, any_signature, parent_signing, chain_signings, current_at, trees_of}
+use Rattle.sign_core.specs.Textbook.{is_sound_record, secret_at, made_secret, textbook_signature, any_signature, parent_signing, chain_signings, current_at, trees_of}
 use Rattle.sign_core.specs.World.{Handed, Migration, State, carried_over, closed_state, left_alone, migrated, migrated_list, sealed}
 use Rattle.sign_core.proofs.Bindings.{binding_other, binding_stands, is_of}
 use Rattle.sign_core.proofs.Follow.{key_stays as key_of_front, moved_means, none_moved}
@@ -270,7 +270,7 @@ module _ (version : Version) (key : Key) where
           digest = digest_head key.secret key.root rest is.k is.bound.leaf is.bound.randomizer x.message
               ∙ ap (λ own. digest_at own (old_list rest) is.k is.bound.leaf is.bound.randomizer x.message) same ∙ is.is_bound.digest;
         };
-        signature = is.signature ∙ sym (ap (λ own. signature_at own (old_list rest) is.k is.bound) same) ∙ sym (signature_head key.secret rest is.k is.bound);
+        signature = is.signature ∙ sym (ap (λ own. textbook_signature own (old_list rest) is.k is.bound) same) ∙ sym (signature_head key.secret rest is.k is.bound);
       }
 
   sound_whole : (rest : List Record) → NoMoved rest → AreSound (old_list rest) → AreSound (new_list rest)

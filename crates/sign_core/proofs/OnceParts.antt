@@ -33,7 +33,7 @@ use Rattle.sign_core.specs.World.{reading, refused, request, requested}
 use Rattle.sign_core.specs.inner.Cases.{opened_illegal, opened_key, published, repeated, repeated_sound, requested_binding}
 use Rattle.sign_core.specs.World.{secret_of_fields}
 use Rattle.sign_core.specs.inner.Cases.{requested_key}
-use Rattle.sign_core.specs.Textbook.{AreSound, damaged_at, digest_at, any_public_of, signature_at, current_at}
+use Rattle.sign_core.specs.Textbook.{AreSound, damaged_at, digest_at, any_public_of, textbook_signature, current_at}
 use Rattle.sign_core.proofs.Illegal.{none_from_legal}
 use Rattle.sign_core.proofs.Opened.{reopens}
 use Rattle.sign_core.proofs.Valid.{undamaged}
@@ -119,7 +119,7 @@ pub answers_repeated : (limit : ℕ) (state : State) (handed : List Handed) (key
     → IsKept state.records handed → state.is_open ≡ true → has_moved state.records ≡ false → chance.given ≡ Some message
     → IsBoundTo state.records key name message k bound
     → requested limit state name chance
-    ≡ reading (if chance.has_room then answered state (signature_at key state.records k bound) else refused state OutOfMemory)
+    ≡ reading (if chance.has_room then answered state (textbook_signature key state.records k bound) else refused state OutOfMemory)
 answers_repeated limit state handed key k bound name message chance kept open_now stays given is =
     let digest = digest_at key state.records k bound.leaf bound.randomizer message in
     let bottom = bottom_of key.secret in
@@ -131,7 +131,7 @@ answers_repeated limit state handed key k bound name message chance kept open_no
     ∙ ap (repeated state key k bound chance) given
     ∙ ap (λ same. reading (if not same then refused state Changed else rest (damaged_at key bottom state.records tree))) test
     ∙ ap (λ damaged. reading (rest damaged)) whole
-    ∙ ap reading (turned_choice chance.has_room (refused state OutOfMemory) (answered state (signature_at key state.records k bound)))
+    ∙ ap reading (turned_choice chance.has_room (refused state OutOfMemory) (answered state (textbook_signature key state.records k bound)))
 
 -- ---- a name that isn't bound
 

@@ -16,7 +16,7 @@ use Rattle.sign_core.specs.Headline.{IsBoundTo, IsLast, IsOneLeaf, IsRecorded, I
 use Rattle.sign_core.specs.Textbook.{public_of_key}
 use Rattle.sign_core.specs.Headline.{LeafUse, MakesUses}
 use Rattle.sign_core.specs.World.{Handed, World}
-use Rattle.sign_core.specs.Textbook.{AreSound, any_public_of, signature_at}
+use Rattle.sign_core.specs.Textbook.{AreSound, any_public_of, textbook_signature}
 use Rattle.sign_core.proofs.Bindings.{binding_stands}
 use Rattle.sign_core.proofs.Uses.{IsTreeOf, IsUseOf, Signs, last_recorded, use_recorded}
 use Rattle.sign_core.proofs.Valid.{all_valid}
@@ -78,7 +78,7 @@ record IsUnder (records : List Record) (key : Key) (x : Handed) : Type 0 where
   k : ℕ
   bound : Bound
   is_bound : IsBoundTo records key x.name x.message k bound
-  signature : x.signature ≡ signature_at key records k bound
+  signature : x.signature ≡ textbook_signature key records k bound
 
 recorded_under : (records : List Record) (key : Key) (x : Handed) → the_key records ≡ Some key → IsRecorded records x → IsUnder records key x
 recorded_under records key x keyed is =
@@ -87,7 +87,7 @@ recorded_under records key x keyed is =
       k = is.k;
       bound = is.bound;
       is_bound = subst (λ own. IsBoundTo records own x.name x.message is.k is.bound) same is.is_bound;
-      signature = subst (λ own. x.signature ≡ signature_at own records is.k is.bound) same is.signature;
+      signature = subst (λ own. x.signature ≡ textbook_signature own records is.k is.bound) same is.signature;
     }
 
 public_under : (records : List Record) (key : Key) (public : AnyPublic) → the_key records ≡ Some key → public_of_key (the_key records) ≡ Some public
@@ -104,8 +104,8 @@ record AreHanded (world : World) (x y : Handed) (uses others : List LeafUse) : T
   own : sound.legal.key ≡ key
   first : IsUnder world.state.records key x
   second : IsUnder world.state.records key y
-  first_uses : MakesUses public x.message (signature_at key world.state.records first.k first.bound) uses
-  second_uses : MakesUses public y.message (signature_at key world.state.records second.k second.bound) others
+  first_uses : MakesUses public x.message (textbook_signature key world.state.records first.k first.bound) uses
+  second_uses : MakesUses public y.message (textbook_signature key world.state.records second.k second.bound) others
 
 are_handed : (world : World) (x y : Handed) (uses others : List LeafUse) → IsKept world.state.records world.handed → WasHanded world x uses
     → WasHanded world y others → AreHanded world x y uses others
@@ -181,7 +181,7 @@ one_signature records x y is_x is_y name =
     let found : ◌≡◌ {A = Option (ℕ × Bound)} (Some (first.k, first.bound)) (Some (second.k, second.bound)) =
     sym first.is_bound.named ∙ ap (binding_at records) name ∙ second.is_bound.named in
     let pair : ◌≡◌ {A = ℕ × Bound} (first.k, first.bound) (second.k, second.bound) = cc in
-    first.signature ∙ ap₂ (λ k b. signature_at is_x.key records k b) (ap (λ p. p.0) pair) (ap (λ p. p.1) pair) ∙ sym second.signature
+    first.signature ∙ ap₂ (λ k b. textbook_signature is_x.key records k b) (ap (λ p. p.0) pair) (ap (λ p. p.1) pair) ∙ sym second.signature
 
 pub handed_valid : (world : World) (x : Handed) → IsKept world.state.records world.handed → Contains world.handed x
     → (public : AnyPublic) × (public_of_world world ≡ Some public) × IsValidUnder public x.message x.signature

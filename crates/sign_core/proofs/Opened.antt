@@ -33,7 +33,7 @@ use Rattle.sign_core.specs.World.{randomizer_of_fields, refused, reopen, request
 use Rattle.sign_core.specs.inner.Cases.{repeated, repeated_sound, requested_binding, requested_key}
 use Rattle.sign_core.specs.World.{run, secret_of_fields, stop, migrate}
 use Rattle.sign_core.specs.inner.Cases.{retired_key}
-use Rattle.sign_core.specs.Textbook.{Trees, damaged_at, digest_at, any_public_of, signature_at, current_at, trees_of}
+use Rattle.sign_core.specs.Textbook.{Trees, damaged_at, digest_at, any_public_of, textbook_signature, current_at, trees_of}
 use Rattle.sign_core.proofs.Damage.{names_damaged}
 use Rattle.sign_core.proofs.Events.{retire_can}
 use Rattle.sign_core.proofs.DrawnAgain.{signed_read}
@@ -131,7 +131,7 @@ module _ (key : Key) (public : AnyPublic) (is_public : any_public_of key ≡ Som
       let stands = bound_stands key name message randomizer records ready size fits in
       let valid = checked all key name message (length records) bound public stands.are.legal stands.are.sizes stands.is_bound stands.sound is_public in
       fits_append (Some message) (open_state records) (BoundRecord bound) fate _ ready.are stands.are
-      (stands.are, λ other signature read is. same_valid public message other (signature_at key all (length records) bound) signature read is valid)
+      (stands.are, λ other signature read is. same_valid public message other (textbook_signature key all (length records) bound) signature read is valid)
 
   fits_bound_below : (name : List ℕ) (chance : Chance) (below : ℕ) (draws : List Draw) (records : List Record) → AllByRecursion IsTreeDraw draws
       → AreFields (32 ∷ []) chance.bound.fields → IsStanding key name below records
@@ -180,7 +180,7 @@ module _ (key : Key) (public : AnyPublic) (is_public : any_public_of key ≡ Som
   fits_repeated_sound state name message k bound (Some slot) are is whole = fits_refused (Some message) state (Damaged slot) are
   fits_repeated_sound state name message k bound None are is whole = (
     are,
-    λ other signature read gives. same_valid public message other (signature_at key state.records k bound) signature read gives
+    λ other signature read gives. same_valid public message other (textbook_signature key state.records k bound) signature read gives
         (checked state.records key name message k bound public are.legal are.sizes is whole is_public),
   )
 

@@ -21,7 +21,7 @@ use Rattle.sign_core.specs.declared.fault.SignFault.TheVariants.{Unreadable, Key
 use Rattle.sign_core.specs.Records.{can_follow, first_illegal, next_illegal, the_key}
 use Rattle.sign_core.specs.Textbook.{public_of_key}
 use Rattle.state_file.specs.declared.refused.Refused.{Refused}
-use Rattle.sign_core.specs.inner.Signer.{Holds, IsTakenUp, LoadsRecord, TakesUpLoaded}
+use Rattle.sign_core.specs.inner.Signer.{HoldsParts, IsTakenUp, LoadsRecord, TakesUpLoaded}
 use Rattle.sign_core.specs.Signer.{IsAnswered, Opens, View}
 use Rattle.sign_core.specs.Signer.{IsTied, LeavesOld, LoadsAll, RefusesToOpen, StopsOpening, is_device_failed, unreadable_slot}
 use Rattle.sign_core.specs.Signer.{GoesTo, first_slots}
@@ -593,7 +593,7 @@ loaded_with g old new P Q to loads = record {
 }
 
 pub held_old : {S R : Type 0} (g : store.Ghosts S) (old new : S) (random : R) (ledger : Result Table SignFault)
-    (result : Result (View S R) (Refused (S × R) SignFault)) → LoadsAll g old new (IsTakenUp ledger) → Holds new random ledger result
+    (result : Result (View S R) (Refused (S × R) SignFault)) → LoadsAll g old new (IsTakenUp ledger) → HoldsParts new random ledger result
     → Opens g old random result
 held_old g old new random ledger result loads holds = record {
   loads = subst (λ s. LoadsAll g old s (IsAnswered result)) (sym holds.store_is)

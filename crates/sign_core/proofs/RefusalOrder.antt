@@ -22,7 +22,7 @@ use Rattle.sign_core.specs.declared.fault.SignFault.TheVariants.{Changed, Damage
 use Rattle.sign_core.specs.declared.fault.SignFault.TheVariants.{OutOfMemory, RandomFailed, RandomRepeated, RetireRange, Stopped, StoreFailed}
 use Rattle.sign_core.specs.Records.{are_same, binding_at, deepest, first_illegal, has_identifier, has_moved, the_key, leaves_of_current, next_at, is_long}
 use Rattle.sign_core.specs.Records.{wanted_count}
-use Rattle.sign_core.specs.Textbook.{AllHaveSizes, Trees, damaged_at, digest_at, lms_secret, any_public_of, signature_at, current_at, trees_of}
+use Rattle.sign_core.specs.Textbook.{AllHaveSizes, Trees, damaged_at, digest_at, lms_secret, any_public_of, textbook_signature, current_at, trees_of}
 use Rattle.sign_core.specs.Events.{AreDrawsOf, AreFields, key_sizes, randomizer_sizes, tree_sizes}
 use Rattle.sign_core.specs.World.{Chance, Creation, Draw, Fate, Opening, Outcome, State, acked, answered, appended, drawing}
 use Rattle.sign_core.specs.inner.Cases.{begun, bound_level, bound_sound, bound_message}
@@ -32,7 +32,7 @@ use Rattle.sign_core.specs.World.{no_memory, open_state, randomizer_of_fields, r
 use Rattle.sign_core.specs.inner.Cases.{opened_illegal, opened_key, published, repeated, repeated_sound}
 use Rattle.sign_core.specs.World.{requested, retired, secret_of_fields, new_key}
 use Rattle.sign_core.specs.inner.Cases.{requested_binding, requested_key, retired_key}
-use Rattle.sign_core.specs.RefusalOrder.{AfterAppend, BeginsWith, IsIllegalFirst, IsUnsound, Of, RefusalLaw, RefuseAlike, RefusesAt}
+use Rattle.sign_core.specs.RefusalOrder.{AfterAppend, FirstFieldIs, IsIllegalFirst, IsUnsound, Of, RefusalLaw, RefuseAlike, RefusesAt}
 use Rattle.sign_core.specs.RefusalOrder.{RefusesCreate, RefusesName, RefusesNew, RefusesOpening, RefusesRecord, RefusesRepeat, RefusesRequest}
 use Rattle.sign_core.specs.RefusalOrder.{RefusesRetire, RefusesTree, RefusesWanted, Unless, WhereOpen}
 use Rattle.sign_core.proofs.Bindings.{identifier_appended, identifier_stands, is_of, stands_identifier}
@@ -146,11 +146,11 @@ record Knows (records : List Record) (IsKnown : List ℕ → Type 0) : Type 0 wh
 
 -- and one more record's
 knows_more : (records : List Record) (IsKnown : List ℕ → Type 0) (fields : List (List ℕ)) (identifier : List ℕ) (entry : Record)
-    → BeginsWith fields identifier → identifier_of entry ≡ Some identifier → Knows records IsKnown
-    → Knows (records ++ entry ∷ []) (λ i. IsKnown i ⊎ BeginsWith fields i)
+    → FirstFieldIs fields identifier → identifier_of entry ≡ Some identifier → Knows records IsKnown
+    → Knows (records ++ entry ∷ []) (λ i. IsKnown i ⊎ FirstFieldIs fields i)
 knows_more records IsKnown fields identifier entry first own knows = record { forth = forth; back = back }
   where
-    forth : (i : List ℕ) → has_identifier (records ++ entry ∷ []) i ≡ true → IsKnown i ⊎ BeginsWith fields i
+    forth : (i : List ℕ) → has_identifier (records ++ entry ∷ []) i ≡ true → IsKnown i ⊎ FirstFieldIs fields i
     forth i is =
         let (k, other, at, its) = identifier_stands (records ++ entry ∷ []) i is in
         elim (old_or_new records entry k other at) [
@@ -160,7 +160,7 @@ knows_more records IsKnown fields identifier entry first own knows = record { fo
               inr (first.0, first.1 ∙ ap (λ n. n ∷ first.0) is_own)
         ]
 
-    back : (i : List ℕ) → IsKnown i ⊎ BeginsWith fields i → has_identifier (records ++ entry ∷ []) i ≡ true
+    back : (i : List ℕ) → IsKnown i ⊎ FirstFieldIs fields i → has_identifier (records ++ entry ∷ []) i ≡ true
     back i (inl known) = identifier_appended records entry i ∙ ap (λ b. b || is_of i (identifier_of entry)) (knows.back i known)
     back i (inr (others, is)) =
         let same : identifier ≡ i = cc (sym first.1 ∙ is) in
@@ -182,7 +182,7 @@ by_fields state trees level leaf identifier (seed ∷ randomizer ∷ other ∷ r
 
 by_known : (state : State) (trees : Trees) (level leaf : ℕ) (fields : List (List ℕ)) (fate : Fate) (IsKnown : List ℕ → Type 0)
     (Rest : Result (List ℕ) SignFault → Type 0) (next : List Record → Outcome (List ℕ)) → AreFields tree_sizes fields → Knows state.records IsKnown
-    → ((entry : Record) (identifier : List ℕ) → BeginsWith fields identifier → identifier_of entry ≡ Some identifier
+    → ((entry : Record) (identifier : List ℕ) → FirstFieldIs fields identifier → identifier_of entry ≡ Some identifier
     → Rest (next (state.records ++ entry ∷ [])).answer)
     → RefusesTree IsKnown (record { fields = fields; fate = fate }) Rest (extended_identifier state trees level leaf fields fate next).answer
 by_known state trees level leaf [] fate IsKnown Rest next are knows more = is_there RandomFailed (omega arith) refl
@@ -206,7 +206,7 @@ trees_there (Xmss secret) more = absurd (omega (arith, more))
 by_tree : (state : State) (key : Key) (trees : Option Trees) (level : ℕ) (draw : Draw) (IsKnown : List ℕ → Type 0)
     (Rest : Result (List ℕ) SignFault → Type 0) (next : List Record → Outcome (List ℕ)) (these : Trees) → trees ≡ Some these → IsTreeDraw draw
     → Knows state.records IsKnown
-    → ((entry : Record) (identifier : List ℕ) → BeginsWith draw.fields identifier → identifier_of entry ≡ Some identifier
+    → ((entry : Record) (identifier : List ℕ) → FirstFieldIs draw.fields identifier → identifier_of entry ≡ Some identifier
     → Rest (next (state.records ++ entry ∷ [])).answer)
     → RefusesTree IsKnown draw Rest (extended state key level trees draw next).answer
 by_tree state key None level draw IsKnown Rest next these is are knows more = absurd (cc)
@@ -222,7 +222,7 @@ by_given state key name randomizer (Some message) fate =
     let bound = new_bound key state.records name leaf randomizer message in
     is_absent MessageRead (some_not_none message)
     (by_append state (BoundRecord bound) fate
-    (λ records. answered (open_state records) (signature_at key records (length state.records) bound)) refl)
+    (λ records. answered (open_state records) (textbook_signature key records (length state.records) bound)) refl)
 
 by_randomizer : (state : State) (key : Key) (name : List ℕ) (secret : Secret) (fields : List (List ℕ)) (given : Option (List ℕ)) (fate : Fate)
     → AreFields (randomizer_sizes secret) fields
@@ -248,7 +248,7 @@ by_wanted key name chance zero low possible draws records IsKnown are knows =
     by_randomizer (open_state records) key name key.secret chance.bound.fields chance.given chance.bound.fate possible.bound
 by_wanted key name chance (suc below) low possible draws records IsKnown are knows =
     let fields = (first_draw draws).fields in
-    let IsKnownNext = λ (i : List ℕ). IsKnown i ⊎ BeginsWith fields i in
+    let IsKnownNext = λ (i : List ℕ). IsKnown i ⊎ FirstFieldIs fields i in
     let (these, is) = trees_there key.secret (omega (arith, low)) in
     by_tree (open_state records) key (trees_of key.secret) (bottom_of key.secret - below) (first_draw draws) IsKnown
     (RefusesWanted key chance below (drop 1 draws) IsKnownNext) (bound_trees key name chance below (drop 1 draws)) these is
@@ -472,7 +472,7 @@ alike_wanted key chance zero draws IsKnown one other = λ first second.
     alike_of (λ a b. alike_of (λ c d. alike_append alike_ok c d) a b) first second
 alike_wanted key chance (suc below) draws IsKnown one other = λ first second.
     alike_of (λ a b. alike_of (λ c d. alike_of (λ e f. alike_append
-    (alike_wanted key chance below (drop 1 draws) (λ i. IsKnown i ⊎ BeginsWith (first_draw draws).fields i) one other) e f) c d) a b) first second
+    (alike_wanted key chance below (drop 1 draws) (λ i. IsKnown i ⊎ FirstFieldIs (first_draw draws).fields i) one other) e f) c d) a b) first second
 
 module _ (limit : ℕ) (state : State) (key : Key) (chance : Chance) (one other : Result (List ℕ) SignFault) where
   alike_at : (level : ℕ) → RefusesAt limit state key chance level one → RefusesAt limit state key chance level other → RefuseAlike one other

@@ -30,7 +30,7 @@ use Rattle.sign_core.specs.Signing.{IsXmssKey, answered_value}
 use Rattle.sign_core.specs.Ledger.{kept_of}
 use Rattle.sign_core.specs.World.{Outcome, State, refused}
 use Rattle.sign_core.specs.inner.Cases.{repeated_sound, requested_binding}
-use Rattle.sign_core.specs.Textbook.{Trees, damaged_at, digest_at, secret_at, signature_at, leaf_signing, chain_signings, current_at, trees_of}
+use Rattle.sign_core.specs.Textbook.{Trees, damaged_at, digest_at, secret_at, textbook_signature, leaf_signing, chain_signings, current_at, trees_of}
 use Rattle.sign_core.proofs.Bindings.{binding_stands}
 use Rattle.sign_core.proofs.Refusals.{never_such}
 use Rattle.sign_core.proofs.ChainParts.{bound_tree, key_chain, xmss_damaged, xmss_leaf_inside, xmss_signed}
@@ -148,7 +148,7 @@ module _ {S R M : Type 0} (m : message.Ghosts M) (view : View S R) (before after
   pub signed : {cached : Cached} (text digest bytes : List ℕ) → ReadWhole m.transition m.remaining text before after → IsDigest text digest
       → not (are_same digest binding.digest) ≡ false
       → damaged_at key (bottom_of key.secret) view.records (current_at (bottom_of key.secret) view.records found.place) ≡ None
-      → bytes ≡ signature_at key view.records found.place found.bound
+      → bytes ≡ textbook_signature key view.records found.place found.bound
       → Repeats m (state_of view) cached before after capacity (Ok bytes) key name
   signed text digest bytes whole is same chain made = record {
     has_room = true;
@@ -229,7 +229,7 @@ xmss_bound_chain records key secret name binding P keyed of_key kept each =
 -- the signature of a binding
 pub xmss_bound_signed : (records : List Record) (key : Key) (secret : XmssSecret) (k : ℕ) (bound : Bound) (binding : Binding) (bytes : List ℕ) → IsXmssKey secret key
     → kept_of key.secret records (k, bound) ≡ binding → bytes ≡ xmss_signature_bytes (xmss_textbook secret binding.leaf binding.digest)
-    → bytes ≡ signature_at key records k bound
+    → bytes ≡ textbook_signature key records k bound
 xmss_bound_signed records key secret k bound binding bytes of_key is made =
     made ∙ ap (λ (b : Binding). xmss_signature_bytes (xmss_textbook secret b.leaf b.digest)) (sym is) ∙ sym (xmss_signed records key secret k bound of_key)
 
@@ -290,5 +290,5 @@ module _ (own key : Key) (ledger records : List Record) (name : List ℕ) (bindi
       ∙ ap (damaged_at key (bottom_of key.secret) records) (sym (ap (λ (kept : Binding). kept.tree) found.is))
 
   -- It is its signature, too.
-  pub found_signature : signature_at own ledger found.place found.bound ≡ signature_at key records found.place found.bound
-  found_signature = ap₂ (λ (k : Key) l. signature_at k l found.place found.bound) own_is same_records
+  pub found_signature : textbook_signature own ledger found.place found.bound ≡ textbook_signature key records found.place found.bound
+  found_signature = ap₂ (λ (k : Key) l. textbook_signature k l found.place found.bound) own_is same_records

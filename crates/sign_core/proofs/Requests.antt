@@ -32,7 +32,7 @@ use Rattle.sign_core.specs.World.{first_draw}
 use Rattle.sign_core.specs.inner.Cases.{extended_identifier, extended_seed, bound_trees}
 use Rattle.sign_core.specs.World.{open_state, randomizer_of_fields, requested}
 use Rattle.sign_core.specs.inner.Cases.{repeated, repeated_sound, requested_binding, requested_key}
-use Rattle.sign_core.specs.Textbook.{HasSizes, Trees, damaged_at, digest_at, is_sound_extend, lms_secret, secret_at, signature_at, current_at, trees_of}
+use Rattle.sign_core.specs.Textbook.{HasSizes, Trees, damaged_at, digest_at, is_sound_extend, lms_secret, secret_at, textbook_signature, current_at, trees_of}
 use Rattle.sign_core.proofs.Append.{current_new, next_new, some_leaves}
 use Rattle.sign_core.proofs.Bindings.{binding_new, binding_other}
 use Rattle.sign_core.proofs.Leaves.{deepest_is}
@@ -220,7 +220,7 @@ kept_bound key name (Some message) records handed (Some randomizer) fate ready d
     let secret_sized = key_has_sizes records key ready.kept.sizes ready.keyed in
     let sized : HasSizes entry = (size, digest_size key.secret key.root records (length records) leaf randomizer message secret_sized) in
     let more = kept_grown records handed key entry ready.kept ready.keyed can refl sized in
-    let x : Handed = record { name = name; message = message; signature = signature_at key all (length records) bound } in
+    let x : Handed = record { name = name; message = message; signature = textbook_signature key all (length records) bound } in
     let is : IsRecorded all x = record {
       key = key;
       k = length records;

@@ -12,7 +12,7 @@ use Rattle.sign_core.specs.Records.{binding_at, can_follow, current, free_at, ha
 use Rattle.sign_core.specs.Events.{AreFields, tree_sizes}
 use Rattle.sign_core.specs.Headline.{IsBoundTo}
 use Rattle.sign_core.specs.World.{extend_record}
-use Rattle.sign_core.specs.Textbook.{AllHaveSizes, HasSizes, Trees, chain, damaged_at, is_sound_at, is_sound_extend, is_sound_record}
+use Rattle.sign_core.specs.Textbook.{AllHaveSizes, HasSizes, Trees, tree_chain, damaged_at, is_sound_at, is_sound_extend, is_sound_record}
 use Rattle.sign_core.specs.Textbook.{lms_secret, current_at, trees_of}
 use Rattle.sign_core.proofs.Append.{current_new, next_new}
 use Rattle.sign_core.proofs.Bindings.{binding_new, binding_other}
@@ -58,11 +58,11 @@ chain_stays key zero xs ys tree low sound =
     none_of_more (λ k. not (is_sound_at key (xs ++ ys) k)) [] tree refl (ap not (sound_stays key xs ys tree low) ∙ last)
 chain_stays key (suc level) xs ys tree low sound =
     let parent = current_at level xs tree in
-    let (above, last) = none_of_both (λ k. not (is_sound_at key xs k)) (chain level xs parent) tree sound in
+    let (above, last) = none_of_both (λ k. not (is_sound_at key xs k)) (tree_chain level xs parent) tree sound in
     let inside : parent < length xs = tree_low level xs tree (omega (arith, low)) (omega (arith, low)) in
     let still = subst (λ p. damaged_at key level (xs ++ ys) p ≡ None) (sym (before_stays level xs ys tree (omega (arith, low))))
     (chain_stays key level xs ys parent inside above) in
-    none_of_more (λ k. not (is_sound_at key (xs ++ ys) k)) (chain level (xs ++ ys) (current_at level (xs ++ ys) tree)) tree still
+    none_of_more (λ k. not (is_sound_at key (xs ++ ys) k)) (tree_chain level (xs ++ ys) (current_at level (xs ++ ys) tree)) tree still
     (ap not (sound_stays key xs ys tree low) ∙ last)
 
 -- the tree that was current at the end
@@ -97,7 +97,7 @@ new_chain key above records entry some sound new now =
     ap (is_sound_record key all (length records)) (slice_get_new records entry)
     ∙ record_stays key records (entry ∷ []) (length records) (Some entry) some (omega arith) ∙ new in
     subst (λ t. damaged_at key (suc above) all t ≡ None) (sym tree)
-    (none_of_more (λ k. not (is_sound_at key all k)) (chain above all (current_at above all (length records))) (length records)
+    (none_of_more (λ k. not (is_sound_at key all k)) (tree_chain above all (current_at above all (length records))) (length records)
     (chain_at_end key above records entry some sound) (ap not own))
 
 -- one new tree: the level below stands

@@ -22,7 +22,7 @@ use Rattle.sign_core.specs.Records.{same_tree, under}
 use Rattle.sign_core.specs.Textbook.{Trees, digest_at, any_digest, is_sound_at, is_sound_extend, is_sound_record}
 use Rattle.sign_core.proofs.Found.{digest_under, hss_signature_under}
 use Rattle.sign_core.specs.Textbook.{secret_at, made_secret}
-use Rattle.sign_core.specs.Textbook.{signature_at, any_signature, parent_signing, chain_signings, current_at, trees_of}
+use Rattle.sign_core.specs.Textbook.{textbook_signature, any_signature, parent_signing, chain_signings, current_at, trees_of}
 
 -- ---- places
 
@@ -134,7 +134,7 @@ signature_by_stays (Hss levels identifier seed) xs ys k bound some within =
     ∙ hss_stays trees xs ys bottom (current_at bottom xs k) bound (tree_low bottom xs k some within)
 
 pub signature_stays : (key : Key) (xs ys : List Record) (k : ℕ) (bound : Bound) → 0 < length xs → k ≤ length xs
-    → signature_at key (xs ++ ys) k bound ≡ signature_at key xs k bound
+    → textbook_signature key (xs ++ ys) k bound ≡ textbook_signature key xs k bound
 signature_stays key = signature_by_stays key.secret
 
 digest_under_stays : (trees : Option Trees) (xs ys : List Record) (tree leaf : ℕ) (randomizer message : List ℕ) → tree < length xs

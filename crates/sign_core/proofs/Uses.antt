@@ -43,7 +43,7 @@ use Rattle.sign_core.specs.Records.{current}
 use Rattle.sign_core.specs.Headline.{IsBoundTo, IsLast}
 use Rattle.sign_core.specs.Headline.{LeafUse, MakesUses, lms_use, xmss_use}
 use Rattle.sign_core.specs.Textbook.{AllHaveSizes, AreSound, Trees, damaged_at, lms_secret, any_public, any_public_of, secret_at, made_secret}
-use Rattle.sign_core.specs.Textbook.{signature_at, chain_signings, current_at}
+use Rattle.sign_core.specs.Textbook.{textbook_signature, chain_signings, current_at}
 use Rattle.sign_core.proofs.Chains.{SignsNext, current_made}
 use Rattle.sign_core.proofs.TreeSteps.{current_before}
 use Rattle.sign_core.proofs.Valid.{AreLevelsOf, IsSoundlyBound, hss_levels, hss_trees, key_with, soundly_bound, undamaged}
@@ -112,7 +112,7 @@ of_one key records k x uses are is =
 
 lms_uses : (records : List Record) (version : Version) (secret : LmsSecret) (root message : List ℕ) (k : ℕ) (bound : Bound) (uses : List LeafUse)
     → IsSoundlyBound records (key_with version (Lms secret) root) message k bound
-    → MakesUses (AnyLms (lms_rooted_public secret root)) message (signature_at (key_with version (Lms secret) root) records k bound) uses
+    → MakesUses (AnyLms (lms_rooted_public secret root)) message (textbook_signature (key_with version (Lms secret) root) records k bound) uses
     → AreUsesOf (key_with version (Lms secret) root) records k uses
 lms_uses records version secret root message k bound uses is (s, spelled, are) =
     let key = key_with version (Lms secret) root in
@@ -136,7 +136,7 @@ xmss_uses : (records : List Record) (version : Version) (secret : XmssSecret) (r
     (uses : List LeafUse)
     → IsSoundlyBound records (key_with version (Xmss secret) root) message k bound
     → MakesUses (AnyXmss (record { tree = secret.tree; root = root; seed = secret.public_seed })) message
-    (signature_at (key_with version (Xmss secret) root) records k bound) uses
+    (textbook_signature (key_with version (Xmss secret) root) records k bound) uses
     → AreUsesOf (key_with version (Xmss secret) root) records k uses
 xmss_uses records version secret root message k bound uses is (s, spelled, are) =
     let key = key_with version (Xmss secret) root in
@@ -271,7 +271,7 @@ hss_uses : (records : List Record) (version : Version) (pair : LmsPair) (rest : 
     (uses : List LeafUse)
     → IsSoundlyBound records (key_with version (Hss (pair ∷ rest) identifier seed) root) message k bound
     → MakesUses (AnyHss (record { levels = length (pair ∷ rest); top = lms_rooted_public (lms_secret pair identifier seed) root })) message
-    (signature_at (key_with version (Hss (pair ∷ rest) identifier seed) root) records k bound) uses
+    (textbook_signature (key_with version (Hss (pair ∷ rest) identifier seed) root) records k bound) uses
     → AreUsesOf (key_with version (Hss (pair ∷ rest) identifier seed) root) records k uses
 unfolding use_by signature_of key_of
 hss_uses records version pair rest identifier seed root message k bound uses is (s, spelled, are) =
@@ -318,27 +318,27 @@ hss_uses records version pair rest identifier seed root message k bound uses is 
 uses_by : (records : List Record) (version : Version) (secret : Secret) (root message : List ℕ) (k : ℕ) (bound : Bound) (public : AnyPublic)
     (uses : List LeafUse)
     → IsSoundlyBound records (key_with version secret root) message k bound → any_public secret root ≡ Some public
-    → MakesUses public message (signature_at (key_with version secret root) records k bound) uses
+    → MakesUses public message (textbook_signature (key_with version secret root) records k bound) uses
     → AreUsesOf (key_with version secret root) records k uses
 uses_by records version (Lms secret) root message k bound public uses is is_public makes =
     lms_uses records version secret root message k bound uses is
-    (subst (λ p. MakesUses p message (signature_at (key_with version (Lms secret) root) records k bound) uses)
+    (subst (λ p. MakesUses p message (textbook_signature (key_with version (Lms secret) root) records k bound) uses)
     (sym (same_Some (AnyLms (lms_rooted_public secret root)) public is_public)) makes)
 uses_by records version (Hss [] identifier seed) root message k bound public uses is is_public makes = absurd (cc)
 uses_by records version (Hss (pair ∷ rest) identifier seed) root message k bound public uses is is_public makes =
     hss_uses records version pair rest identifier seed root message k bound uses is
-    (subst (λ p. MakesUses p message (signature_at (key_with version (Hss (pair ∷ rest) identifier seed) root) records k bound) uses)
+    (subst (λ p. MakesUses p message (textbook_signature (key_with version (Hss (pair ∷ rest) identifier seed) root) records k bound) uses)
     (sym (same_Some (AnyHss (record { levels = length (pair ∷ rest); top = lms_rooted_public (lms_secret pair identifier seed) root })) public is_public)) makes)
 uses_by records version (Xmss secret) root message k bound public uses is is_public makes =
     xmss_uses records version secret root message k bound uses is
-    (subst (λ p. MakesUses p message (signature_at (key_with version (Xmss secret) root) records k bound) uses)
+    (subst (λ p. MakesUses p message (textbook_signature (key_with version (Xmss secret) root) records k bound) uses)
     (sym (same_Some (AnyXmss (record { tree = secret.tree; root = root; seed = secret.public_seed })) public is_public)) makes)
 
 -- Over legal records where the chain of its trees is sound, each use of a binding's textbook signature is a record's ..
 pub use_checked : (records : List Record) (key : Key) (name message : List ℕ) (k : ℕ) (bound : Bound) (public : AnyPublic) (uses : List LeafUse) (u : LeafUse)
     → IsLegal records → AllHaveSizes records → IsBoundTo records key name message k bound
     → damaged_at key (bottom_of key.secret) records (current_at (bottom_of key.secret) records k) ≡ None → any_public_of key ≡ Some public
-    → MakesUses public message (signature_at key records k bound) uses → Contains uses u
+    → MakesUses public message (textbook_signature key records k bound) uses → Contains uses u
     → (place : ℕ) × IsUseOf key records place u
 use_checked records key name message k bound public uses u legal sizes is sound is_public makes there =
     (uses_by records key.version key.secret key.root message k bound public uses
@@ -348,7 +348,7 @@ use_checked records key name message k bound public uses u legal sizes is sound 
 pub last_checked : (records : List Record) (key : Key) (name message : List ℕ) (k : ℕ) (bound : Bound) (public : AnyPublic) (uses : List LeafUse) (u : LeafUse)
     → IsLegal records → AllHaveSizes records → IsBoundTo records key name message k bound
     → damaged_at key (bottom_of key.secret) records (current_at (bottom_of key.secret) records k) ≡ None → any_public_of key ≡ Some public
-    → MakesUses public message (signature_at key records k bound) uses → IsLast u uses
+    → MakesUses public message (textbook_signature key records k bound) uses → IsLast u uses
     → IsUseOf key records k u
 last_checked records key name message k bound public uses u legal sizes is sound is_public makes last =
     (uses_by records key.version key.secret key.root message k bound public uses
@@ -357,7 +357,7 @@ last_checked records key name message k bound public uses u legal sizes is sound
 -- The same over sound records.
 pub use_recorded : (records : List Record) (key : Key) (name message : List ℕ) (k : ℕ) (bound : Bound) (public : AnyPublic) (uses : List LeafUse) (u : LeafUse)
     → AreSound records → AllHaveSizes records → IsBoundTo records key name message k bound → any_public_of key ≡ Some public
-    → MakesUses public message (signature_at key records k bound) uses → Contains uses u
+    → MakesUses public message (textbook_signature key records k bound) uses → Contains uses u
     → (place : ℕ) × IsUseOf key records place u
 use_recorded records key name message k bound public uses u sound sizes is is_public makes there =
     let undamaged_here = undamaged records key (bottom_of key.secret) (current_at (bottom_of key.secret) records k) sound is.keyed in
@@ -365,7 +365,7 @@ use_recorded records key name message k bound public uses u sound sizes is is_pu
 
 pub last_recorded : (records : List Record) (key : Key) (name message : List ℕ) (k : ℕ) (bound : Bound) (public : AnyPublic) (uses : List LeafUse) (u : LeafUse)
     → AreSound records → AllHaveSizes records → IsBoundTo records key name message k bound → any_public_of key ≡ Some public
-    → MakesUses public message (signature_at key records k bound) uses → IsLast u uses
+    → MakesUses public message (textbook_signature key records k bound) uses → IsLast u uses
     → IsUseOf key records k u
 last_recorded records key name message k bound public uses u sound sizes is is_public makes last =
     let undamaged_here = undamaged records key (bottom_of key.secret) (current_at (bottom_of key.secret) records k) sound is.keyed in

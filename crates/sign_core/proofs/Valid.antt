@@ -37,8 +37,8 @@ use Rattle.sign_core.specs.declared.key.AnyPublic.TheVariants.{Lms as AnyLms, Hs
 use Rattle.sign_core.specs.Records.{current, the_key}
 use Rattle.sign_core.specs.Headline.{IsBoundTo, IsValidUnder}
 use Rattle.sign_core.specs.Key.{KeyVerdict}
-use Rattle.sign_core.specs.Textbook.{AllHaveSizes, AreSound, Trees, chain, damaged_at, digest_at, is_sound_at, is_sound_record}
-use Rattle.sign_core.specs.Textbook.{lms_secret, any_public, any_public_of, key_root, signature_at, chain_signings, current_at}
+use Rattle.sign_core.specs.Textbook.{AllHaveSizes, AreSound, Trees, tree_chain, damaged_at, digest_at, is_sound_at, is_sound_record}
+use Rattle.sign_core.specs.Textbook.{lms_secret, any_public, any_public_of, key_root, textbook_signature, chain_signings, current_at}
 use Rattle.sign_core.proofs.Bindings.{binding_stands}
 use Rattle.sign_core.proofs.Keys.{key_stands, legal_key}
 use Rattle.sign_core.proofs.TreeSteps.{before_current}
@@ -58,7 +58,7 @@ top_sound key records zero k tree is sound =
     (ap (λ n. not (is_sound_at key records n)) (same_Some 0 tree is) ∙ (none_of_both (λ j. not (is_sound_at key records j)) [] tree sound).1)
 top_sound key records (suc level) k tree is sound =
     let parent = current_at level records tree in
-    let (chain_sound, tree_sound) = none_of_both (λ j. not (is_sound_at key records j)) (chain level records parent) tree sound in
+    let (chain_sound, tree_sound) = none_of_both (λ j. not (is_sound_at key records j)) (tree_chain level records parent) tree sound in
     top_sound key records level tree parent (current_made level k records tree is).1.above chain_sound
 
 -- A name is bound over legal records to a digest of the message, and the chain of its trees is sound.
@@ -104,7 +104,7 @@ key_with version secret root = record { version = version; secret = secret; root
 
 lms_checked : (records : List Record) (version : Version) (secret : LmsSecret) (root message : List ℕ) (k : ℕ) (bound : Bound)
     → IsSoundlyBound records (key_with version (Lms secret) root) message k bound
-    → IsValidUnder (AnyLms (lms_rooted_public secret root)) message (signature_at (key_with version (Lms secret) root) records k bound)
+    → IsValidUnder (AnyLms (lms_rooted_public secret root)) message (textbook_signature (key_with version (Lms secret) root) records k bound)
 lms_checked records version secret root message k bound is =
     let (has_tree, inside, randomizer) = is.fits k (BoundRecord bound) is.stands in
     let s = lms_textbook secret bound.leaf bound.randomizer bound.digest in
@@ -120,7 +120,7 @@ lms_checked records version secret root message k bound is =
 xmss_checked : (records : List Record) (version : Version) (secret : XmssSecret) (root message : List ℕ) (k : ℕ) (bound : Bound)
     → IsSoundlyBound records (key_with version (Xmss secret) root) message k bound
     → IsValidUnder (AnyXmss (record { tree = secret.tree; root = root; seed = secret.public_seed })) message
-    (signature_at (key_with version (Xmss secret) root) records k bound)
+    (textbook_signature (key_with version (Xmss secret) root) records k bound)
 xmss_checked records version secret root message k bound is =
     let (has_tree, inside, randomizer) = is.fits k (BoundRecord bound) is.stands in
     let s = xmss_textbook secret bound.leaf bound.digest in
@@ -198,7 +198,7 @@ hss_public_is trees records above bottom message levels public count is links va
 hss_checked : (records : List Record) (version : Version) (pair : LmsPair) (rest : List LmsPair) (identifier seed root message : List ℕ) (k : ℕ) (bound : Bound)
     → IsSoundlyBound records (key_with version (Hss (pair ∷ rest) identifier seed) root) message k bound
     → IsValidUnder (AnyHss (record { levels = length (pair ∷ rest); top = lms_rooted_public (lms_secret pair identifier seed) root })) message
-    (signature_at (key_with version (Hss (pair ∷ rest) identifier seed) root) records k bound)
+    (textbook_signature (key_with version (Hss (pair ∷ rest) identifier seed) root) records k bound)
 hss_checked records version pair rest identifier seed root message k bound is =
     let trees = hss_trees pair rest identifier seed in
     let level = length (pair ∷ rest) - 1 in
@@ -217,24 +217,24 @@ hss_checked records version pair rest identifier seed root message k bound is =
 
 checked_by : (records : List Record) (version : Version) (secret : Secret) (root message : List ℕ) (k : ℕ) (bound : Bound) (public : AnyPublic)
     → IsSoundlyBound records (key_with version secret root) message k bound → any_public secret root ≡ Some public
-    → IsValidUnder public message (signature_at (key_with version secret root) records k bound)
+    → IsValidUnder public message (textbook_signature (key_with version secret root) records k bound)
 checked_by records version (Lms secret) root message k bound public is is_public =
     subst (λ p. IsValidUnder p message
-    (signature_at (key_with version (Lms secret) root) records k bound))
+    (textbook_signature (key_with version (Lms secret) root) records k bound))
     (same_Some (AnyLms (lms_rooted_public secret root)) public is_public) (lms_checked records version secret root message k bound is)
 checked_by records version (Hss [] identifier seed) root message k bound public is is_public = absurd (cc)
 checked_by records version (Hss (pair ∷ rest) identifier seed) root message k bound public is is_public =
-    subst (λ p. IsValidUnder p message (signature_at (key_with version (Hss (pair ∷ rest) identifier seed) root) records k bound))
+    subst (λ p. IsValidUnder p message (textbook_signature (key_with version (Hss (pair ∷ rest) identifier seed) root) records k bound))
     (same_Some (AnyHss (record { levels = length (pair ∷ rest); top = lms_rooted_public (lms_secret pair identifier seed) root })) public is_public)
     (hss_checked records version pair rest identifier seed root message k bound is)
 checked_by records version (Xmss secret) root message k bound public is is_public =
-    subst (λ p. IsValidUnder p message (signature_at (key_with version (Xmss secret) root) records k bound))
+    subst (λ p. IsValidUnder p message (textbook_signature (key_with version (Xmss secret) root) records k bound))
     (same_Some (AnyXmss (record { tree = secret.tree; root = root; seed = secret.public_seed })) public is_public)
     (xmss_checked records version secret root message k bound is)
 
 pub checked : (records : List Record) (key : Key) (name message : List ℕ) (k : ℕ) (bound : Bound) (public : AnyPublic) → IsLegal records → AllHaveSizes records
     → IsBoundTo records key name message k bound → damaged_at key (bottom_of key.secret) records (current_at (bottom_of key.secret) records k) ≡ None
-    → any_public_of key ≡ Some public → IsValidUnder public message (signature_at key records k bound)
+    → any_public_of key ≡ Some public → IsValidUnder public message (textbook_signature key records k bound)
 checked records key name message k bound public legal sizes is sound is_public =
     checked_by records key.version key.secret key.root message k bound public (soundly_bound records key name message k bound legal sizes is sound) is_public
 
@@ -245,12 +245,12 @@ none_passes test (x ∷ xs) none = ap (λ b. cond b (Some x) (find test xs)) (no
 pub undamaged : (records : List Record) (key : Key) (level tree : ℕ) → AreSound records → the_key records ≡ Some key → damaged_at key level records tree ≡ None
 undamaged records key level tree sound keyed =
     let same : sound.key ≡ key = same_Some sound.key key (sym sound.keyed ∙ keyed) in
-    none_passes (λ k. not (is_sound_at key records k)) (chain level records tree)
+    none_passes (λ k. not (is_sound_at key records k)) (tree_chain level records tree)
     (λ k. ap not (subst (λ own. is_sound_at own records k ≡ true) same (sound.sound k)))
 
 pub all_valid : (records : List Record) (key : Key) (name message : List ℕ) (k : ℕ) (bound : Bound) (public : AnyPublic) → AreSound records
     → AllHaveSizes records
-    → IsBoundTo records key name message k bound → any_public_of key ≡ Some public → IsValidUnder public message (signature_at key records k bound)
+    → IsBoundTo records key name message k bound → any_public_of key ≡ Some public → IsValidUnder public message (textbook_signature key records k bound)
 all_valid records key name message k bound public sound sizes is is_public =
     checked records key name message k bound public sound.legal sizes is
     (undamaged records key (bottom_of key.secret) (current_at (bottom_of key.secret) records k) sound is.keyed) is_public

@@ -23,7 +23,7 @@ use Rattle.sign_core.specs.World.{requested, retired, secret_of_fields}
 
 -- These records were acknowledged and stand. Only after 25 one more may stand, the one whose append failed, and it has
 -- this property.
-pub record Leaves {A : Type 0} (records : List Record) (IsWanted : Record → Type 0) (outcome : Outcome A)
+pub record LeavesRecords {A : Type 0} (records : List Record) (IsWanted : Record → Type 0) (outcome : Outcome A)
     : Type 0 where
   pub acknowledged : outcome.acknowledged ≡ records
   pub whole : outcome.failed ≡ None → outcome.state.records ≡ records
@@ -70,7 +70,7 @@ pub record LeavesTrees (key : Key) (before : List Record) (level : ℕ) (name : 
   pub few : length trees ≤ bottom_of key.secret - level
   pub each : (i : ℕ) (entry : Record) → slice_get trees i ≡ Some entry
       → BeginsDrawn key (before ++ take i trees) level chance.trees i entry
-  pub leaves : Leaves (before ++ trees) (IsNextWanted key before level name chance trees) outcome
+  pub leaves : LeavesRecords (before ++ trees) (IsNextWanted key before level name chance trees) outcome
   pub unbound : (other : List ℕ) → binding_at (before ++ trees) other ≡ binding_at before other
 
 -- what is drawn for the begun trees and for the next record, which may fail
@@ -92,7 +92,7 @@ pub record LeavesBegun (state : State) (name : List ℕ) (chance : Chance) (outc
 -- What a request for a name leaves: the old records, with nothing drawn; or what it began.
 abbrev pub LeavesRequested : State → (name : List ℕ) → Chance → Outcome (List ℕ) → Type 0
 LeavesRequested state name chance outcome =
-    (Leaves state.records (λ entry. ⊥) outcome × (outcome.drawn ≡ [])) ⊎ LeavesBegun state name chance outcome
+    (LeavesRecords state.records (λ entry. ⊥) outcome × (outcome.drawn ≡ [])) ⊎ LeavesBegun state name chance outcome
 
 -- ---- the other events
 
@@ -113,10 +113,10 @@ pub record AfterRefusalLaw : Type 0 where
       → IsRefusal (requested limit state name chance)
       → LeavesRequested state name chance (requested limit state name chance)
   pub retire : (limit : ℕ) (state : State) (upto : ℕ) (fate : Fate) → IsRefusal (retired limit state upto fate)
-      → Leaves state.records (λ entry. entry ≡ Retire upto) (retired limit state upto fate)
+      → LeavesRecords state.records (λ entry. entry ≡ Retire upto) (retired limit state upto fate)
   pub create : (state : State) (spec : Spec) (chance : Creation) → IsSpec spec
       → AreFields (key_sizes spec) chance.fields → IsRefusal (created state spec chance)
-      → Leaves state.records (IsDrawnKey chance.version spec chance.fields (created state spec chance).drawn)
+      → LeavesRecords state.records (IsDrawnKey chance.version spec chance.fields (created state spec chance).drawn)
       (created state spec chance)
   pub opening : (state : State) (chance : Opening) → IsRefusal (opened state chance)
-      → Leaves state.records (λ entry. ⊥) (opened state chance)
+      → LeavesRecords state.records (λ entry. ⊥) (opened state chance)

@@ -12,9 +12,9 @@ use Rattle.sign_core.specs.World.{migrate, migrated, request, requested, retire,
 
 -- An event ends; or a crash comes at a moment of it, or after its append failed and before the next opening, and leaves
 -- these records.
-pub data Step : Type 0 where
-  ends : Event → Step
-  stops : Event → (left : List Record) → Step
+pub data RunStep : Type 0 where
+  ends : Event → RunStep
+  stops : Event → (left : List Record) → RunStep
 
 -- The records that an event reaches. What a crash in a migration leaves, some whole migration leaves.
 abbrev pub reached_records : (limit : ℕ) → World → Event → List Record
@@ -37,21 +37,21 @@ abbrev pub IsOpenAfter : (limit : ℕ) → World → Event → Type 0
 IsOpenAfter limit world event = (after limit world event).state.is_open ≡ true
 
 -- The step can come: a crash leaves a beginning of the records that the event reaches, no shorter than the old records.
-abbrev pub IsStep : (limit : ℕ) → World → Step → Type 0
+abbrev pub IsStep : (limit : ℕ) → World → RunStep → Type 0
 IsStep limit world (ends event) = IsEvent event
 IsStep limit world (stops event left) =
     IsEvent event × IsBeginning (length world.state.records) (reached_records limit world event) left
 
 -- the world after it; a crash hands nothing out, and leaves no signer open
-abbrev pub stepped : (limit : ℕ) → World → Step → World
+abbrev pub stepped : (limit : ℕ) → World → RunStep → World
 stepped limit world (ends event) = after limit world event
 stepped limit world (stops event left) = record { state = closed_state left; handed = world.handed }
 
-abbrev pub AreSteps : (limit : ℕ) → World → List Step → Type 0
+abbrev pub AreSteps : (limit : ℕ) → World → List RunStep → Type 0
 AreSteps limit world [] = Unit {0}
 AreSteps limit world (step ∷ steps) = IsStep limit world step × AreSteps limit (stepped limit world step) steps
 
-abbrev pub after_steps : (limit : ℕ) → World → List Step → World
+abbrev pub after_steps : (limit : ℕ) → World → List RunStep → World
 after_steps limit world [] = world
 after_steps limit world (step ∷ steps) = after_steps limit (stepped limit world step) steps
 
@@ -63,10 +63,10 @@ pub record IsRun (limit : ℕ) (before left : World) : Type 0 where
 
 pub record CallsLaw : Type 0 where
   -- a chain of calls, with crashes at any moment, is a run of the world
-  pub runs : (limit : ℕ) (world : World) (steps : List Step) → AreSteps limit world steps
+  pub runs : (limit : ℕ) (world : World) (steps : List RunStep) → AreSteps limit world steps
       → IsRun limit world (after_steps limit world steps)
   -- so the law over all runs holds after it
-  pub once : (limit : ℕ) (steps : List Step) → AreSteps limit beginning steps
+  pub once : (limit : ℕ) (steps : List RunStep) → AreSteps limit beginning steps
       → IsOnce limit (after_steps limit beginning steps)
   -- while a signer is open, all its records are acknowledged
   pub acknowledged : (limit : ℕ) (world : World) (event : Event) → IsOpenAfter limit world event

@@ -12,7 +12,7 @@ use Rattle.xmss.specs.Writing.{public_bytes as xmss_public_bytes}
 use Rattle.hss.specs.Signature.{Signature as HssSignature, signature as hss_signature}
 use Rattle.hss.specs.Signature.{key_at, message_at, signature_at as hss_signature_at}
 use Rattle.hss.specs.Verification.{IsValid as IsHssValid}
-use Rattle.sign_core.specs.Textbook.{digest_at, public_of_key, signature_at}
+use Rattle.sign_core.specs.Textbook.{digest_at, public_of_key, textbook_signature}
 use Rattle.sign_core.specs.declared.key.AnyPublic.{AnyPublic}
 use Rattle.sign_core.specs.declared.key.AnyPublic.TheVariants.{Lms, Hss, Xmss}
 use Rattle.state_file.specs.declared.record.Bound.{Bound}
@@ -70,7 +70,7 @@ pub record IsRecorded (records : List Record) (x : Handed) : Type 0 where
   pub k : ℕ
   pub bound : Bound
   pub is_bound : IsBoundTo records key x.name x.message k bound
-  pub signature : x.signature ≡ signature_at key records k bound
+  pub signature : x.signature ≡ textbook_signature key records k bound
 
 -- the public key of the world's record 0
 abbrev pub public_of_world : World → Option AnyPublic

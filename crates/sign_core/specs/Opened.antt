@@ -12,7 +12,7 @@ use Rattle.sign_core.specs.Textbook.{public_of_key}
 use Rattle.sign_core.specs.Openings.{Reopens}
 use Rattle.sign_core.specs.declared.fault.SignFault.TheVariants.{Damaged}
 use Rattle.sign_core.specs.Records.{binding_at, deepest, the_key}
-use Rattle.sign_core.specs.Textbook.{AllHaveSizes, chain, is_sound_at, current_at}
+use Rattle.sign_core.specs.Textbook.{AllHaveSizes, tree_chain, is_sound_at, current_at}
 use Rattle.sign_core.specs.World.{Chance, Event, Handed, State, World, after, requested, run}
 
 -- They are legal, and each part has its size in bytes.
@@ -29,9 +29,9 @@ pub record IsValidOver (records : List Record) (message signature : List ℕ) : 
 -- The record at `slot` is the first that isn't sound in the chain from the Key's tree down to this one.
 pub record IsFirstDamaged (key : Key) (records : List Record) (level tree slot : ℕ) : Type 0 where
   pub place : ℕ
-  pub is : slice_get (chain level records tree) place ≡ Some slot
+  pub is : slice_get (tree_chain level records tree) place ≡ Some slot
   pub damaged : is_sound_at key records slot ≡ false
-  pub above : (i k : ℕ) → i < place → slice_get (chain level records tree) i ≡ Some k
+  pub above : (i k : ℕ) → i < place → slice_get (tree_chain level records tree) i ≡ Some k
       → is_sound_at key records k ≡ true
 
 -- the same in the chain of a name's binding, or without one in the chain by which a new name signs

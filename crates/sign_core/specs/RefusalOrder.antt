@@ -70,15 +70,15 @@ RefusesRepeat state key k bound chance =
 abbrev pub HasNoLeaf : Secret → List Record → Type 0
 HasNoLeaf secret records = (level : ℕ) → level < levels_of secret → free_at secret records level ≡ 0
 
-abbrev pub BeginsWith : (fields : List (List ℕ)) → (identifier : List ℕ) → Type 0
-BeginsWith fields identifier = (others : List (List ℕ)) × (fields ≡ identifier ∷ others)
+abbrev pub FirstFieldIs : (fields : List (List ℕ)) → (identifier : List ℕ) → Type 0
+FirstFieldIs fields identifier = (others : List (List ℕ)) × (fields ≡ identifier ∷ others)
 
 -- For a new tree: 23 where I isn't drawn, 24 where it is known, 23 where SEED or C isn't drawn, and its append's.
 abbrev pub RefusesTree : (IsKnown : List ℕ → Type 0) → Draw → (Rest : Result (List ℕ) SignFault → Type 0)
     → Result (List ℕ) SignFault → Type 0
 RefusesTree IsKnown draw Rest =
     Unless (Of RandomFailed (length draw.fields < 1))
-    (Unless (Of RandomRepeated ((identifier : List ℕ) × BeginsWith draw.fields identifier × IsKnown identifier))
+    (Unless (Of RandomRepeated ((identifier : List ℕ) × FirstFieldIs draw.fields identifier × IsKnown identifier))
     (Unless (Of RandomFailed (length draw.fields < 3)) (AfterAppend draw.fate Rest)))
 
 -- For `below` new trees, one after the other: the I of each is known to the later ones. Then for the binding: 23 where
@@ -92,7 +92,7 @@ RefusesWanted key chance (suc below) = λ draws IsKnown.
     let fields = (first_draw draws).fields in
     RefusesTree IsKnown (first_draw draws)
     (RefusesWanted key chance below (drop 1 draws)
-    (λ identifier. IsKnown identifier ⊎ BeginsWith fields identifier))
+    (λ identifier. IsKnown identifier ⊎ FirstFieldIs fields identifier))
 
 -- Under a new name, where this level is the deepest with a free leaf: 30, 29, 28, and `RefusesWanted`.
 abbrev pub RefusesAt : (limit : ℕ) → State → Key → Chance → (level : ℕ) → Result (List ℕ) SignFault → Type 0

@@ -2,7 +2,7 @@
 use Rattle.std.specs.Prelude.{◌≡◌, ℕ, ◌+◌, List, [], ◌∷◌, length, map, ◌≢◌, ◌⊎◌, ◌↔◌, ◌-◌, ◌*◌, ◌<◌, ◌≤◌}
 use Rattle.std.specs.Prelude.{true, false, ◌++◌}
 use Rattle.std.specs.Prelude.{Contains, sum, IsSome, Some, None, Ok, Err, if◌then◌else◌, slice_get, take}
-use Rattle.sign_core.specs.Textbook.{signature_at, digest_at}
+use Rattle.sign_core.specs.Textbook.{textbook_signature, digest_at}
 use Rattle.std.specs.List.{concat}
 use Rattle.state_file.specs.Laws.{bottom_of}
 use Rattle.state_file.specs.Slot.{name_most}
@@ -77,7 +77,7 @@ pub record IsSigned (key : Key) (records : List Record) (level : ℕ) (name mess
   pub state : outcome.state ≡ open_state (records ++ trees ++ BoundRecord bound ∷ [])
   pub longer : length outcome.state.records ≡ length records + wanted_count key.secret level
   pub answer : outcome.answer
-      ≡ Ok (signature_at key (records ++ trees ++ BoundRecord bound ∷ []) (length (records ++ trees)) bound)
+      ≡ Ok (textbook_signature key (records ++ trees ++ BoundRecord bound ∷ []) (length (records ++ trees)) bound)
   pub drawn : outcome.drawn ≡ all_drawn chance
   pub read : outcome.is_read ≡ true
   pub uncut : outcome.failed ≡ None
@@ -119,7 +119,7 @@ pub record AreRequestsAnswered (limit : ℕ) (world : World) : Type 0 where
       → world.state.is_open ≡ true → has_moved world.state.records ≡ false → chance.given ≡ Some message
       → IsBoundTo world.state.records key name message k bound
       → requested limit world.state name chance
-      ≡ reading (if chance.has_room then answered world.state (signature_at key world.state.records k bound)
+      ≡ reading (if chance.has_room then answered world.state (textbook_signature key world.state.records k bound)
       else refused world.state OutOfMemory)
   -- one whose message can't be read is refused, and changes nothing
   pub unread : (key : Key) (k : ℕ) (bound : Bound) (name : List ℕ) (chance : Chance)

@@ -52,9 +52,9 @@ abbrev pub current_at : (level : ℕ) → List Record → (k : ℕ) → ℕ
 current_at level records k = unwrap_or (current level (take k records)) 0
 
 -- the trees from the Key's down to a level's tree, each under the one that was current above it when it was made
-abbrev pub chain : (level : ℕ) → List Record → (tree : ℕ) → List ℕ
-chain zero records tree = tree ∷ []
-chain (suc level) records tree = chain level records (current_at level records tree) ++ tree ∷ []
+abbrev pub tree_chain : (level : ℕ) → List Record → (tree : ℕ) → List ℕ
+tree_chain zero records tree = tree ∷ []
+tree_chain (suc level) records tree = tree_chain level records (current_at level records tree) ++ tree ∷ []
 
 abbrev pub leaf_signing : LmsSecret → (leaf : ℕ) → (randomizer digest : List ℕ) → Signing
 leaf_signing secret leaf randomizer digest =
@@ -128,8 +128,8 @@ any_signature (Hss levels identifier seed) records k bound =
     (leaf_signing (secret_at trees records tree) bound.leaf bound.randomizer bound.digest)))
 any_signature (Xmss secret) records k bound = xmss_signature_bytes (xmss_textbook secret bound.leaf bound.digest)
 
-abbrev pub signature_at : Key → List Record → (k : ℕ) → Bound → List ℕ
-signature_at key records k bound = any_signature key.secret records k bound
+abbrev pub textbook_signature : Key → List Record → (k : ℕ) → Bound → List ℕ
+textbook_signature key records k bound = any_signature key.secret records k bound
 
 -- ---- what is sound
 
@@ -160,7 +160,7 @@ is_sound_at key records k = is_sound_record key records k (slice_get records k)
 
 -- the first record of a chain of trees, from the top down, that isn't sound
 abbrev pub damaged_at : Key → (level : ℕ) → List Record → (tree : ℕ) → Option ℕ
-damaged_at key level records tree = find (λ k. not (is_sound_at key records k)) (chain level records tree)
+damaged_at key level records tree = find (λ k. not (is_sound_at key records k)) (tree_chain level records tree)
 
 pub record AreSound (records : List Record) : Type 0 where
   pub legal : IsLegal records

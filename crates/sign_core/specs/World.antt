@@ -31,7 +31,7 @@ use Rattle.sign_core.specs.Records.{are_same, binding_at, can_move, deepest, fir
 use Rattle.sign_core.specs.Records.{has_moved}
 use Rattle.sign_core.specs.Records.{is_long, the_key, leaves_of_current, next_at, wanted_count}
 use Rattle.sign_core.specs.Textbook.{Trees, damaged_at, digest_at, lms_secret, any_public_of, public_of_key, key_root}
-use Rattle.sign_core.specs.Textbook.{secret_at, signature_at, current_at, trees_of}
+use Rattle.sign_core.specs.Textbook.{secret_at, textbook_signature, current_at, trees_of}
 
 -- ---- states and outcomes
 
@@ -252,7 +252,7 @@ repeat key k bound chance = do
   refuse_if OutOfMemory (not chance.has_room)
   bottom ← give (bottom_of key.secret)
   refuse_any (option_map Damaged (damaged_at key bottom records (current_at bottom records k)))
-  give (signature_at key records k bound)
+  give (textbook_signature key records k bound)
 
 -- a new tree of a level, whose public key a leaf of its parent tree signs
 abbrev pub extend_record : Trees → List Record → (level : ℕ) → LmsSecret → (randomizer : List ℕ) → (leaf : ℕ) → Record
@@ -314,7 +314,7 @@ bind key name chance = do
   bound ← give {A = Bound} (record { name = name; leaf = leaf; randomizer = randomizer; digest = digest })
   append (BoundRecord bound) chance.bound.fate
   records ← the_records
-  give (signature_at key records (length old) bound)
+  give (textbook_signature key records (length old) bound)
 
 -- A new name: new trees for the levels below the deepest one with a free leaf, and then the binding.
 abbrev pub bind_new_name : (limit : ℕ) → Key → (name : List ℕ) → Chance → Step (List ℕ) (List ℕ)

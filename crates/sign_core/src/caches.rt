@@ -62,7 +62,7 @@ impl<X: TreeSecret> Model for TreeCache<X> {
 
     ghost view = { λ s. s.secret };
 
-    ghost invariant = { λ s. IsTreeCache (X.height_in s.secret) (X.tree_leaves_at s.secret) (X.joins_in s.secret)
+    ghost invariant = { λ s. IsTreeCache (X.tree_height s.secret) (X.tree_leaves s.secret) (X.tree_joins s.secret)
         s.cache.height (X.Tree.leaf_of s.cache.tree) (X.Tree.join_of s.cache.tree) };
 }
 
@@ -110,13 +110,13 @@ impl<X: TreeSecret, P: TreeProgress> TreeRequest<'_, X, P> {
     // Writes the authentication path of the leaf, and answers the root: from the cache, if that is the secret's. Else
     // each leaf is made once.
     fn root_and_path(self, kept: &mut Option<TreeCache<X>>, into: &mut [[u8; 32]]) -> [u8; 32]
-        requires inside { self.leaf < 2 ^ X.height_in self.secret }
-        requires room { length into.old ≡ X.height_in self.secret }
+        requires inside { self.leaf < 2 ^ X.tree_height self.secret }
+        requires room { length into.old ≡ X.tree_height self.secret }
         ensures path { let secret = self.entry.secret in
-            into.new ≡ path_of (X.tree_leaves_at secret) (X.joins_in secret) (X.height_in secret) self.entry.leaf }
-        ensures length { length into.new ≡ X.height_in self.entry.secret }
+            into.new ≡ path_of (X.tree_leaves secret) (X.tree_joins secret) (X.tree_height secret) self.entry.leaf }
+        ensures length { length into.new ≡ X.tree_height self.entry.secret }
         ensures root { let secret = self.entry.secret in
-            result ≡ root_of (X.tree_leaves_at secret) (X.joins_in secret) (X.height_in secret) }
+            result ≡ root_of (X.tree_leaves secret) (X.tree_joins secret) (X.tree_height secret) }
         ensures same { kept.new ≡ kept.old }
     {
         if let Some(cache) = kept {

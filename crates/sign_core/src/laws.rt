@@ -25,7 +25,8 @@ ghost use Rattle.sign_core.specs.Moves.{MovesLaw};
 ghost use Rattle.sign_core.specs.Opened.{OpenedLaw};
 ghost use Rattle.sign_core.specs.RefusalOrder.{RefusalLaw};
 ghost use Rattle.sign_core.specs.SignerCalls.{SignerLaw};
-ghost use Rattle.sign_core.specs.Textbook.{AllHaveSizes, AreSound, damaged_at, any_public_of, signature_at, current_at};
+ghost use Rattle.sign_core.specs.Textbook.{AllHaveSizes, AreSound, any_public_of, current_at, damaged_at};
+ghost use Rattle.sign_core.specs.Textbook.{textbook_signature};
 
 use crate::source::Source;
 use state_file::{Disk, FileStore, Store};
@@ -74,11 +75,11 @@ pub fn textbook_laws()
     ensures valid { (records : List Record) (key : Key) (name message : List ℕ) (k : ℕ) (bound : Bound)
         (public : AnyPublic) →
         AreSound records → AllHaveSizes records → IsBoundTo records key name message k bound →
-        any_public_of key ≡ Some public → IsValidUnder public message (signature_at key records k bound) }
+        any_public_of key ≡ Some public → IsValidUnder public message (textbook_signature key records k bound) }
     ensures checked { (records : List Record) (key : Key) (name message : List ℕ) (k : ℕ) (bound : Bound)
         (public : AnyPublic) → IsLegal records → AllHaveSizes records → IsBoundTo records key name message k bound →
         damaged_at key (bottom_of key.secret) records (current_at (bottom_of key.secret) records k) ≡ None →
-        any_public_of key ≡ Some public → IsValidUnder public message (signature_at key records k bound) }
+        any_public_of key ≡ Some public → IsValidUnder public message (textbook_signature key records k bound) }
     ensures undamaged { (records : List Record) (key : Key) (level tree : ℕ) → AreSound records →
         the_key records ≡ Some key → damaged_at key level records tree ≡ None }
     ensures accepted { (public : AnyPublic) (message bytes : List ℕ) →

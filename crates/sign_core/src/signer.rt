@@ -111,7 +111,7 @@ fn root_of<P: TreeProgress>(secret: &Secret, progress: &P) -> [u8; 32]
 
 // The root of a secret's tree, of which `progress` is told as a top tree.
 fn top_root<X: TreeSecret, P: TreeProgress>(secret: X, progress: &P) -> [u8; 32]
-    ensures { result ≡ tree_root (X.tree_leaves_at secret) (X.joins_in secret) (X.height_in secret) }
+    ensures { result ≡ tree_root (X.tree_leaves secret) (X.tree_joins secret) (X.tree_height secret) }
 {
     let height = secret.height();
     let leaves = TreeLeaves::begin(progress, 0, height);
@@ -191,7 +191,7 @@ impl<S: Store, R: Source> Signer<S, R> {
     ghost use Rattle.sign_core.specs.Records.{can_follow, free_counts, has_moved, the_key};
     ghost use Rattle.state_file.specs.declared.record.Key.{Key as K};
     ghost use Rattle.sign_core.specs.Textbook.{public_of_key};
-    ghost use Rattle.sign_core.specs.inner.Signer.{Adds, Holds, IsBottom};
+    ghost use Rattle.sign_core.specs.inner.Signer.{Adds, HoldsParts, AreBottomLeaves};
     ghost use Rattle.sign_core.specs.Signer.{Creates, Opens, Retires};
     ghost use Rattle.sign_core.specs.Ledger.{TakesMemory};
     ghost use Rattle.state_file.specs.Slot.{FitsVersion, file_version};
@@ -255,7 +255,7 @@ impl<S: Store, R: Source> Signer<S, R> {
         ledger: Result<Ledger, SignFault>,
     ) -> Result<Self, Refused<(S, R), SignFault>>
         requires tied { IfOk ledger (λ table. IsTied S.Store store table.records) }
-        ensures { Holds store random ledger result }
+        ensures { HoldsParts store random ledger result }
     {
         match ledger {
             Ok(ledger) => Ok(Signer {
@@ -324,7 +324,7 @@ impl<S: Store, R: Source> Signer<S, R> {
 
     // The current bottom tree's next leaf, and its number of leaves; both 0 where there is none.
     fn bottom(&self) -> (u32, u32)
-        ensures { IsBottom self.now.records result }
+        ensures { AreBottomLeaves self.now.records result }
     {
         let secret = &self.ledger.key().secret;
         let bottom = secret.levels() - 1;

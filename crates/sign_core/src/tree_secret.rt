@@ -14,21 +14,21 @@ pub(crate) trait TreeSecret: Copy {
     type Tree: TreeHash + Drop;
 
     // the tree's height, leaves and joins
-    ghost height_in: { Self → ℕ };
+    ghost tree_height: { Self → ℕ };
 
-    ghost tree_leaves_at: { Self → Leaves };
+    ghost tree_leaves: { Self → Leaves };
 
-    ghost joins_in: { Self → Joins };
+    ghost tree_joins: { Self → Joins };
 
     /// How high the tree is.
     fn height(&self) -> u8
-        ensures value { result ≡ height_in self.now }
+        ensures value { result ≡ tree_height self.now }
         ensures at_most_25 { result ≤ 25 };
 
     /// The tree, with no leaf made yet.
     fn tree(self) -> Self::Tree
-        ensures leaves { Self.Tree.leaf_of result ≡ tree_leaves_at self }
-        ensures joins { Self.Tree.join_of result ≡ joins_in self }
+        ensures leaves { Self.Tree.leaf_of result ≡ tree_leaves self }
+        ensures joins { Self.Tree.join_of result ≡ tree_joins self }
         ensures fresh { Self.Tree.made result ≡ 0 };
 
     /// Whether another secret is the same.
@@ -42,11 +42,11 @@ impl TreeSecret for LmsSecret {
 
     type Tree = LmsTree;
 
-    ghost height_in = { λ secret. height_of secret.pair.tree };
+    ghost tree_height = { λ secret. height_of secret.pair.tree };
 
-    ghost tree_leaves_at = { leaves_of };
+    ghost tree_leaves = { leaves_of };
 
-    ghost joins_in = { joins_of };
+    ghost tree_joins = { joins_of };
 
     fn height(&self) -> u8 {
         self.pair.tree.height()
@@ -67,11 +67,11 @@ impl TreeSecret for XmssSecret {
 
     type Tree = XmssTree;
 
-    ghost height_in = { λ secret. xmss_height_of secret.tree };
+    ghost tree_height = { λ secret. xmss_height_of secret.tree };
 
-    ghost tree_leaves_at = { leaves_of };
+    ghost tree_leaves = { leaves_of };
 
-    ghost joins_in = { joins_of };
+    ghost tree_joins = { joins_of };
 
     fn height(&self) -> u8 {
         self.tree.height()

@@ -5,7 +5,7 @@ use Rattle.state_file.specs.Carried.{carried}
 use Rattle.state_file.specs.Disk.{ChangesOnly}
 use Rattle.state_file.specs.File.{HasNoKey, IsClosed, IsFileOf, SpellsRecords}
 use Rattle.state_file.specs.FileStore.{file_stands}
-use Rattle.state_file.specs.Filling.{LeftByFill, after_first_gate, first_offsets, opened}
+use Rattle.state_file.specs.Filling.{LeftByFill, after_first_gate, first_offsets, gate_opened}
 use Rattle.state_file.specs.declared.record.Record.{Record}
 use Rattle.state_file.specs.declared.record.Record.TheVariants.{Key as KeyRecord}
 use Rattle.state_file.proofs.Carried.{IsCarriedList}
@@ -44,11 +44,11 @@ module _ (honest : Bool) (records : List Record) (end : ℕ) (some : 1 ≤ end) 
   }
 
   -- while the first gate is opened
-  pub left_finished : (base content c : List ℕ) → ChangesOnly (first_offsets 1 ∷ []) first base → (IsTrue honest → SpellsRecords (opened content) (carried records)) → (HasNoKey c ⊎ (c ≡ opened content)) × ChangesOnly (first_offsets end ∷ []) base c
+  pub left_finished : (base content c : List ℕ) → ChangesOnly (first_offsets 1 ∷ []) first base → (IsTrue honest → SpellsRecords (gate_opened content) (carried records)) → (HasNoKey c ⊎ (c ≡ gate_opened content)) × ChangesOnly (first_offsets end ∷ []) base c
       → LeftByFill honest records end first c
   left_finished base content c before spelled left = record {
     changes = both end first base c some before left.1;
-    kind = λ is. ⊎_elim (λ (none : HasNoKey c). inl none) (λ (same : c ≡ opened content). inr (subst (λ (l : List ℕ). SpellsRecords l (carried records)) (sym same) (spelled is))) left.0;
+    kind = λ is. ⊎_elim (λ (none : HasNoKey c). inl none) (λ (same : c ≡ gate_opened content). inr (subst (λ (l : List ℕ). SpellsRecords l (carried records)) (sym same) (spelled is))) left.0;
   }
 
 -- how many records are carried over

@@ -8,7 +8,7 @@ use Rattle.std.proofs.lemmas.List.Prefix.{front_from_reads, front_reads}
 use Rattle.std.proofs.lemmas.Bool.{cases_eq}
 use Rattle.state_file.specs.Disk.{ChangesOnly, DiskState, IsOutside, MayLeave, Range, greatest_end, range_of}
 use Rattle.state_file.specs.File.{HasNoKey, IsClosed, open_value}
-use Rattle.state_file.specs.Filling.{AreWithin, IsUnfinished, after_first_gate, first_offsets, opened}
+use Rattle.state_file.specs.Filling.{AreWithin, IsUnfinished, after_first_gate, first_offsets, gate_opened}
 use Rattle.state_file.specs.Gates.{IsClosedAfter}
 use Rattle.state_file.proofs.SlotWrites.{Stages, split, join, stage_done}
 
@@ -53,7 +53,7 @@ gate_same content c bytes some one changes = same_lists c (slice_index c 0 ∷ d
         ∙ ap (λ n. get_or content n d) (let e : suc j ≡ 1 + j = omega arith in e) ∙ sym (get_or-drop 1 content j d)
 
 -- what a crash leaves meanwhile
-pub gate_leaves_all : (content c : List ℕ) (bytes : List ℕ) → 0 < length content → length bytes ≡ 1 → bytes ≡ open_value ∷ [] → ChangesOnly (range_of 0 bytes ∷ []) content c → HasNoKey c ⊎ (c ≡ opened content)
+pub gate_leaves_all : (content c : List ℕ) (bytes : List ℕ) → 0 < length content → length bytes ≡ 1 → bytes ≡ open_value ∷ [] → ChangesOnly (range_of 0 bytes ∷ []) content c → HasNoKey c ⊎ (c ≡ gate_opened content)
 gate_leaves_all content c bytes some one is changes = elim (cases_eq (slice_index c 0) open_value) [
   | inl is_open ↦ inr (gate_same content c bytes some one changes ∙ ap (λ n. n ∷ drop 1 content) is_open)
   | inr shut ↦ inl (inr (omega (arith, some, changes.no_shorter), shut))
@@ -63,7 +63,7 @@ first_of : (new bytes : List ℕ) (n : ℕ) → take 1 new ≡ n ∷ [] → slic
 first_of [] bytes n is = absurd cc
 first_of (x ∷ rest) bytes n is = let same : x ≡ n = cc in same
 
-pub gate_opens : (content new : List ℕ) (bytes : List ℕ) → 0 < length content → bytes ≡ open_value ∷ [] → ChangesOnly (range_of 0 bytes ∷ []) content new → slice_range new 0 (0 + length bytes) ≡ bytes → new ≡ opened content
+pub gate_opens : (content new : List ℕ) (bytes : List ℕ) → 0 < length content → bytes ≡ open_value ∷ [] → ChangesOnly (range_of 0 bytes ∷ []) content new → slice_range new 0 (0 + length bytes) ≡ bytes → new ≡ gate_opened content
 gate_opens content new bytes some is changes put =
     let one : length bytes ≡ 1 = ap length is in
     let width : 0 + length bytes - 0 ≡ 1 = omega (arith, one) in
@@ -116,16 +116,16 @@ over_gate front body content new bytes at len holds is changes put =
     })
 
 -- Slot 0 was written after its gate.
-pub put_first : (body content new bytes : List ℕ) → IsClosed content 0 → bytes ≡ body ++ 0 ∷ [] → ChangesOnly (range_of 1 bytes ∷ []) content new → slice_range new 1 (1 + length bytes) ≡ bytes → IsClosedAfter (open_value ∷ body) (opened new)
+pub put_first : (body content new bytes : List ℕ) → IsClosed content 0 → bytes ≡ body ++ 0 ∷ [] → ChangesOnly (range_of 1 bytes ∷ []) content new → slice_range new 1 (1 + length bytes) ≡ bytes → IsClosedAfter (open_value ∷ body) (gate_opened new)
 put_first body content new bytes closed is changes put =
     let staged : Stages [] body new = stage_done [] body 0 refl content new bytes (record { begins = refl; closed = closed }) is changes put in
-    join (open_value ∷ body) (opened new) (record { gate = 0; rest = staged.rest; whole = ap opened staged.whole; closed = omega arith })
+    join (open_value ∷ body) (gate_opened new) (record { gate = 0; rest = staged.rest; whole = ap gate_opened staged.whole; closed = omega arith })
 
 -- the same with the first gate open
-opened_size : (content : List ℕ) → 0 < length content → length (opened content) ≡ length content
+opened_size : (content : List ℕ) → 0 < length content → length (gate_opened content) ≡ length content
 opened_size content some = omega (arith, some, length-drop 1 content)
 
-opened_changes : (content new bytes : List ℕ) (at : ℕ) → 0 < length content → 0 < at → ChangesOnly (range_of at bytes ∷ []) content new → ChangesOnly (range_of at bytes ∷ []) (opened content) (opened new)
+opened_changes : (content new bytes : List ℕ) (at : ℕ) → 0 < length content → 0 < at → ChangesOnly (range_of at bytes ∷ []) content new → ChangesOnly (range_of at bytes ∷ []) (gate_opened content) (gate_opened new)
 opened_changes content new bytes at some after changes =
     let size = opened_size content some in
     let new_size = opened_size new (omega (arith, some, changes.no_shorter)) in record {
@@ -134,23 +134,23 @@ opened_changes content new bytes at some after changes =
       no_longer = omega (arith, size, new_size, changes.no_longer);
     }
   where
-    kept : (offset : ℕ) → offset < length (opened content) → IsOutside offset (range_of at bytes ∷ []) → slice_index (opened new) offset ≡ slice_index (opened content) offset
+    kept : (offset : ℕ) → offset < length (gate_opened content) → IsOutside offset (range_of at bytes ∷ []) → slice_index (gate_opened new) offset ≡ slice_index (gate_opened content) offset
     kept zero inside outside = refl
     kept (suc j) inside outside =
         let e : 1 + j ≡ suc j = omega arith in
         get_or-drop 1 new j 0 ∙ ap (λ n. slice_index new n) e ∙ changes.kept (suc j) (omega (arith, inside, opened_size content some)) outside ∙ sym (ap (λ n. slice_index content n) e) ∙ sym (get_or-drop 1 content j 0)
 
-opened_tail : (content : List ℕ) (at : ℕ) → 0 < at → 0 < length content → drop at (opened content) ≡ drop at content
+opened_tail : (content : List ℕ) (at : ℕ) → 0 < at → 0 < length content → drop at (gate_opened content) ≡ drop at content
 opened_tail [] at after some = absurd (omega (arith, some))
 opened_tail (x ∷ rest) zero after some = absurd (omega (arith, after))
 opened_tail (x ∷ rest) (suc n) after some = refl
 
 -- A later slot was written over its closed gate.
-pub put_next : (front body content new bytes : List ℕ) (at : ℕ) → 0 < at → length front ≡ at → IsClosedAfter front (opened content) → 0 < length content → bytes ≡ open_value ∷ (body ++ 0 ∷ []) → ChangesOnly (range_of at bytes ∷ []) content new
-    → slice_range new at (at + length bytes) ≡ bytes → IsClosedAfter (front ++ open_value ∷ body) (opened new)
+pub put_next : (front body content new bytes : List ℕ) (at : ℕ) → 0 < at → length front ≡ at → IsClosedAfter front (gate_opened content) → 0 < length content → bytes ≡ open_value ∷ (body ++ 0 ∷ []) → ChangesOnly (range_of at bytes ∷ []) content new
+    → slice_range new at (at + length bytes) ≡ bytes → IsClosedAfter (front ++ open_value ∷ body) (gate_opened new)
 put_next front body content new bytes at after len holds some is changes put =
-    let same : drop at (opened new) ≡ drop at new = opened_tail new at after (omega (arith, some, changes.no_shorter)) in
-    over_gate front body (opened content) (opened new) bytes at len holds is (opened_changes content new bytes at some after changes) (ap (λ (l : List ℕ). take (at + length bytes - at) l) same ∙ put)
+    let same : drop at (gate_opened new) ≡ drop at new = opened_tail new at after (omega (arith, some, changes.no_shorter)) in
+    over_gate front body (gate_opened content) (gate_opened new) bytes at len holds is (opened_changes content new bytes at some after changes) (ap (λ (l : List ℕ). take (at + length bytes - at) l) same ∙ put)
 
 -- ---- all changes
 
@@ -171,12 +171,12 @@ gate_widened end base content c bytes some one first second = record {
 }
 
 -- what a crash leaves before the first gate is opened
-pub before_gate : (end : ℕ) (base content c : List ℕ) → IsClosed base 0 → ChangesOnly (after_first_gate end ∷ []) base c → (HasNoKey c ⊎ (c ≡ opened content)) × ChangesOnly (first_offsets end ∷ []) base c
+pub before_gate : (end : ℕ) (base content c : List ℕ) → IsClosed base 0 → ChangesOnly (after_first_gate end ∷ []) base c → (HasNoKey c ⊎ (c ≡ gate_opened content)) × ChangesOnly (first_offsets end ∷ []) base c
 before_gate end base content c closed changes = (inl (inr (still_closed end base c closed changes)), widened end base c changes)
 
 -- and meanwhile
 pub at_gate : (end : ℕ) (base content mid c bytes : List ℕ) → IsClosed base 0 → 1 ≤ end → bytes ≡ open_value ∷ [] → mid ≡ content → ChangesOnly (after_first_gate end ∷ []) base content → ChangesOnly (range_of 0 bytes ∷ []) mid c
-    → (HasNoKey c ⊎ (c ≡ opened content)) × ChangesOnly (first_offsets end ∷ []) base c
+    → (HasNoKey c ⊎ (c ≡ gate_opened content)) × ChangesOnly (first_offsets end ∷ []) base c
 at_gate end base content mid c bytes closed some is same first second =
     let one : length bytes ≡ 1 = ap length is in
     let changes = subst (λ (l : List ℕ). ChangesOnly (range_of 0 bytes ∷ []) l c) same second in (
@@ -186,7 +186,7 @@ at_gate end base content mid c bytes closed some is same first second =
 
 -- and afterwards
 pub gate_done : (end : ℕ) (base content : List ℕ) (mid new : List ℕ) (bytes : List ℕ) → IsClosed base 0 → bytes ≡ open_value ∷ [] → mid ≡ content → ChangesOnly (after_first_gate end ∷ []) base content → ChangesOnly (range_of 0 bytes ∷ []) mid new
-    → slice_range new 0 (0 + length bytes) ≡ bytes → new ≡ opened content
+    → slice_range new 0 (0 + length bytes) ≡ bytes → new ≡ gate_opened content
 gate_done end base content mid new bytes closed is same first second put =
     gate_opens content new bytes (omega (arith, closed.0, first.no_shorter)) is (subst (λ (l : List ℕ). ChangesOnly (range_of 0 bytes ∷ []) l new) same second) put
 

@@ -29,14 +29,14 @@ pub record IsUnfinished (end : ℕ) (base : List ℕ) (state : DiskState) : Type
   pub within : AreWithin (after_first_gate end) state.ranges
 
 -- the content with its first gate open
-abbrev pub opened : List ℕ → List ℕ
-opened content = open_value ∷ drop 1 content
+abbrev pub gate_opened : List ℕ → List ℕ
+gate_opened content = open_value ∷ drop 1 content
 
 -- The first k records are in the slots, and this is the last one's tag. If its first gate were open, the content would
 -- be a file of them. For k = 0 that gate is closed.
 pub record IsCopied (list : List Record) (k : ℕ) (tag content : List ℕ) : Type 0 where
   pub none : k ≡ 0 → IsClosed content 0 × (tag ≡ first_tag)
-  pub some : 0 < k → IsFileOf (take k list) (opened content) × (tag ≡ previous_tag (opened content) k)
+  pub some : 0 < k → IsFileOf (take k list) (gate_opened content) × (tag ≡ previous_tag (gate_opened content) k)
 
 -- What a crash leaves while a place is filled. Bytes from `end` on stay. If the old disk is honest, the place has no
 -- key, or spells all that is carried over.

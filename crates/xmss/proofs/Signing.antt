@@ -7,7 +7,7 @@ use Rattle.wots_plus.specs.Key.{ends_of_secret}
 use Rattle.wots_plus.proofs.Signing.{signed_climbs}
 use Rattle.typecodes.specs.declared.secret.XmssSecret.{XmssSecret}
 use Rattle.xmss.specs.Secret.{digest_at, joins_of, leaves_of, leaf_path, public_of, root_of_secret}
-use Rattle.xmss.specs.Writing.{signed, textbook}
+use Rattle.xmss.specs.Writing.{made_signature, textbook}
 use Rattle.xmss.specs.Verification.{IsValid}
 
 -- It is valid for the message under the secret's public key.
@@ -27,6 +27,6 @@ textbook_valid secret i message inside = record {
 -- So is a signature whose digest and path are the textbook's.
 pub signed_valid : (secret : XmssSecret) (i : ℕ) (message digest : List ℕ) (path : List (List ℕ)) → i < 2 ^ xmss_height_of secret.tree
     → digest ≡ digest_at secret (root_of_secret secret) i message → path ≡ leaf_path secret i
-    → IsValid (public_of secret) message (signed secret i digest path)
+    → IsValid (public_of secret) message (made_signature secret i digest path)
 signed_valid secret i message digest path inside digest_is path_is =
     rw (digest_is, path_is) (textbook_valid secret i message inside)

@@ -17,7 +17,7 @@ use Rattle.xmss.specs.declared.key.XmssPublic.{XmssPublic}
 use Rattle.typecodes.specs.declared.secret.XmssSecret.{XmssSecret}
 use Rattle.xmss.specs.Key.{public_key}
 use Rattle.xmss.specs.Signature.{Signature, leaf_index, signature}
-use Rattle.xmss.specs.Writing.{public_bytes, signature_bytes, signed}
+use Rattle.xmss.specs.Writing.{public_bytes, signature_bytes, made_signature}
 use Rattle.xmss.proofs.After.{after_chains, after_index, after_randomizer, after_root, after_tree, checked}
 
 index_spelled : (h index : ℕ) → index < 2 ^ h → index < 2 ^ 32 → Spells (leaf_index h) index (to_byte index 4)
@@ -54,9 +54,9 @@ signature_spelled tree s sized =
 -- A secret's signature is spelled by its bytes, if its path has a value of 32 bytes for each height.
 pub signed_spelled : (secret : XmssSecret) (i : ℕ) (digest : List ℕ) (path : List (List ℕ)) → i < 2 ^ xmss_height_of secret.tree
     → length path ≡ xmss_height_of secret.tree → ((k : ℕ) → k < xmss_height_of secret.tree → length (get_or path k []) ≡ 32)
-    → Spells (signature secret.tree) (signed secret i digest path) (signature_bytes (signed secret i digest path))
+    → Spells (signature secret.tree) (made_signature secret i digest path) (signature_bytes (made_signature secret i digest path))
 signed_spelled secret i digest path is_leaf count sizes =
-    let sized : IsSized secret.tree (signed secret i digest path) = record {
+    let sized : IsSized secret.tree (made_signature secret i digest path) = record {
       is_leaf = is_leaf;
       randomizer = length-sha256 _;
       chain_count = refl;
@@ -64,7 +64,7 @@ signed_spelled secret i digest path is_leaf count sizes =
       path_count = count;
       path = sizes;
     } in
-    signature_spelled secret.tree (signed secret i digest path) sized
+    signature_spelled secret.tree (made_signature secret i digest path) sized
 
 pub public_spelled : (key : XmssPublic) → length key.root ≡ 32 → length key.seed ≡ 32 → Spells public_key key (public_bytes key)
 unfolding public_key

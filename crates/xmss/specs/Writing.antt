@@ -10,14 +10,14 @@ use Rattle.xmss.specs.Secret.{leaf_path, randomizer_of}
 use Rattle.xmss.specs.Signature.{Signature}
 
 -- a leaf's signature of the digest M', with any path
-abbrev pub signed : XmssSecret → ℕ → List ℕ → List (List ℕ) → Signature
-signed secret index digest path =
+abbrev pub made_signature : XmssSecret → ℕ → List ℕ → List (List ℕ) → Signature
+made_signature secret index digest path =
     let chains = signed_values secret.public_seed index secret.secret_seed digest in
     record { index = index; randomizer = randomizer_of secret.prf_key index; chains = chains; path = path }
 
 -- the textbook signature, with the leaf's own path
 abbrev pub textbook : XmssSecret → ℕ → List ℕ → Signature
-textbook secret index digest = signed secret index digest (leaf_path secret index)
+textbook secret index digest = made_signature secret index digest (leaf_path secret index)
 
 -- the bytes of a signature (4.1.8)
 abbrev pub signature_bytes : Signature → List ℕ

@@ -6,7 +6,7 @@ ghost use Rattle.typecodes.specs.Types.{xmss_height_of, xmss_signature_len_of};
 ghost use Rattle.xmss.specs.Key.{public_key};
 ghost use Rattle.xmss.specs.Signature.{signature};
 ghost use Rattle.xmss.specs.Secret.{digest_at, leaf_path, public_of, randomizer_of, root_of_secret};
-ghost use Rattle.xmss.specs.Writing.{public_bytes, signature_bytes, signed, textbook};
+ghost use Rattle.xmss.specs.Writing.{public_bytes, signature_bytes, made_signature, textbook};
 ghost use Rattle.xmss.specs.Verification.{IsValid};
 
 use crate::key::XmssPublic;
@@ -50,8 +50,8 @@ pub fn write_signature(
     requires randomizer { randomizer.now ≡ randomizer_of secret.now.prf_key leaf }
     requires path { length path.now ≡ xmss_height_of secret.now.tree }
     requires room { length into.old ≡ xmss_signature_len_of secret.now.tree }
-    ensures bytes { into.new ≡ signature_bytes (signed secret.now leaf digest.now path.now) }
-    ensures spells { Spells (signature secret.now.tree) (signed secret.now leaf digest.now path.now) into.new }
+    ensures bytes { into.new ≡ signature_bytes (made_signature secret.now leaf digest.now path.now) }
+    ensures spells { Spells (signature secret.now.tree) (made_signature secret.now leaf digest.now path.now) into.new }
     // With the leaf's own path it is the textbook signature.
     ensures textbook { path.now ≡ leaf_path secret.now leaf →
         into.new ≡ signature_bytes (textbook secret.now leaf digest.now) }
@@ -59,7 +59,7 @@ pub fn write_signature(
     ensures valid { (message : List ℕ) →
         digest.now ≡ digest_at secret.now (root_of_secret secret.now) leaf message →
         path.now ≡ leaf_path secret.now leaf →
-        IsValid (public_of secret.now) message (signed secret.now leaf digest.now path.now) }
+        IsValid (public_of secret.now) message (made_signature secret.now leaf digest.now path.now) }
 {
     let offset = put(into, 0, &leaf.to_be_bytes());
     let offset = put(into, offset, randomizer);

@@ -16,7 +16,7 @@ use Rattle.sign_core.specs.declared.fault.SignFault.TheVariants.{Damaged, Moved,
 use Rattle.sign_core.specs.Records.{are_same, binding_at, has_identifier, has_moved, the_key}
 use Rattle.sign_core.specs.Records.{leaves_of_current, next_at, wanted_count}
 use Rattle.sign_core.specs.Textbook.{Trees, damaged_at, digest_at, lms_secret, any_public_of, public_of_key}
-use Rattle.sign_core.specs.Textbook.{signature_at, current_at}
+use Rattle.sign_core.specs.Textbook.{textbook_signature, current_at}
 use Rattle.sign_core.specs.World.{◌>>=◌, ◌>>◌, Chance, Creation, Draw, Fate, Opening, Outcome, State, answer_if}
 use Rattle.sign_core.specs.World.{append, begin_trees, bind, draw, draw_identifier, draw_seed, event}
 use Rattle.sign_core.specs.World.{extend_record, first_refusal, give, new_key, open_state}
@@ -67,7 +67,7 @@ opened_illegal state chance illegal = event (do
 abbrev pub repeated_sound : State → Key → (k : ℕ) → Bound → (damaged : Option ℕ) → Outcome (List ℕ)
 repeated_sound state key k bound damaged = event (do
   refuse_any (option_map Damaged damaged)
-  give (signature_at key state.records k bound)) state
+  give (textbook_signature key state.records k bound)) state
 
 -- the message's reader gave this
 abbrev pub repeated : State → Key → (k : ℕ) → Bound → Chance → (given : Option (List ℕ)) → Outcome (List ℕ)
@@ -77,7 +77,7 @@ repeated state key k bound chance given = event (do
   refuse_if OutOfMemory (not chance.has_room)
   bottom ← give (bottom_of key.secret)
   refuse_any (option_map Damaged (damaged_at key bottom state.records (current_at bottom state.records k)))
-  give (signature_at key state.records k bound)) state
+  give (textbook_signature key state.records k bound)) state
 
 -- ---- new trees
 
@@ -125,7 +125,7 @@ bound_message state key name made given fate = event (do
   bound ← give {A = Bound} (record { name = name; leaf = leaf; randomizer = randomizer; digest = digest })
   append (BoundRecord bound) fate
   records ← the_records
-  give (signature_at key records (length state.records) bound)) state
+  give (textbook_signature key records (length state.records) bound)) state
 
 -- this many new trees, and then the binding
 abbrev pub bound_trees : Key → (name : List ℕ) → Chance → (below : ℕ) → List Draw → List Record → Outcome (List ℕ)

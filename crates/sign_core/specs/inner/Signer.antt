@@ -84,8 +84,8 @@ Hinders is_open has_moved Moved = (is_open ≡ true) × (has_moved ≡ true)
 Hinders is_open has_moved _ = ⊥
 
 -- The next leaf of the current bottom tree, and how many leaves that has.
-abbrev pub IsBottom : List Record → ℕ × ℕ → Type 0
-IsBottom records bottom = (key : Key) → the_key records ≡ Some key
+abbrev pub AreBottomLeaves : List Record → ℕ × ℕ → Type 0
+AreBottomLeaves records bottom = (key : Key) → the_key records ≡ Some key
     → (bottom.0 ≡ next_at key.secret records (bottom_of key.secret))
     × (bottom.1 ≡ leaves_of_current key.secret records (bottom_of key.secret))
 
@@ -182,7 +182,7 @@ IsTakenUp (Ok table) outcome = (public : AnyPublic) × (outcome.answer ≡ Ok pu
 IsTakenUp (Err fault) outcome = outcome.answer ≡ Err fault
 
 -- A signer has the store and the source, or its refusal gives them back; and its answer is that of its records.
-pub record Holds {S R : Type 0} (store : S) (random : R) (records : Result Table SignFault)
+pub record HoldsParts {S R : Type 0} (store : S) (random : R) (records : Result Table SignFault)
     (result : Result (View S R) (Refused (S × R) SignFault)) : Type 0 where
   pub store_is : store_of_result result ≡ store
   pub random_is : random_of_result result ≡ random

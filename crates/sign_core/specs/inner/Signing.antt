@@ -26,7 +26,7 @@ use Rattle.sign_core.specs.World.{Chance, Draw, Outcome, State, acked, answered}
 use Rattle.sign_core.specs.inner.Cases.{extended, bound_trees}
 use Rattle.sign_core.specs.World.{open_state, randomizer_of_fields}
 use Rattle.sign_core.specs.inner.Cases.{requested_binding}
-use Rattle.sign_core.specs.Textbook.{Trees, damaged_at, signature_at, any_signature}
+use Rattle.sign_core.specs.Textbook.{Trees, damaged_at, textbook_signature, any_signature}
 use Rattle.sign_core.specs.Textbook.{chain_signings}
 use Rattle.sign_core.specs.Textbook.{current_at, trees_of}
 use Rattle.typecodes.specs.declared.secret.LmsSecret.{LmsSecret}
@@ -157,7 +157,7 @@ abbrev pub BindsNext : {S R M : Type 0} (g : store.Ghosts S) (r : source.Ghosts 
     (name : List ℕ) (old new : View S R) (before after : M) (answer : Result Binding SignFault) (key : Key) → Type 0
 BindsNext g r m name old new before after (Ok binding) key = (bound : Bound)
     × BindsBelow g r m name 0 old new before after
-    (Ok (signature_at key (old.records ++ BoundRecord bound ∷ []) (length old.records) bound)) key
+    (Ok (textbook_signature key (old.records ++ BoundRecord bound ∷ []) (length old.records) bound)) key
     × IsBoundLast key old.records new.records name bound binding
 BindsNext g r m name old new before after (Err fault) key = BindsBelow g r m name 0 old new before after (Err fault) key
 

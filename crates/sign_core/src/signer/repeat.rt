@@ -23,7 +23,7 @@ impl SecretTrees {
     ghost use Rattle.state_file.specs.Laws.{bottom_of};
     ghost use Rattle.state_file.specs.declared.record.Bound.{Bound};
     ghost use Rattle.sign_core.specs.Ledger.{kept_of};
-    ghost use Rattle.sign_core.specs.Textbook.{damaged_at, signature_at};
+    ghost use Rattle.sign_core.specs.Textbook.{damaged_at, textbook_signature};
     ghost use Rattle.sign_core.specs.inner.Links.{MakesTrees};
 
     // Writes the signature of a binding over the whole of `out`. Or answers the place of the first record of its trees
@@ -46,7 +46,7 @@ impl SecretTrees {
             ledger.now.records binding.now.tree ≡ Some k) }
         ensures signature { OnOk result ((k : ℕ) (bound : Bound)
             → kept_of ledger.now.key.secret ledger.now.records (k, bound) ≡ binding.now
-            → out.new ≡ signature_at ledger.now.key ledger.now.records k bound) }
+            → out.new ≡ textbook_signature ledger.now.key ledger.now.records k bound) }
         ensures caches { caches.new ≡ caches.old }
     {
         let key = ledger.key();

@@ -5,7 +5,7 @@ ghost use Rattle.std.specs.Prelude.{slice_range, OnOk};
 ghost use Rattle.state_file.specs.Disk.{range_of, ChangesOnly, IsSynced, LeavesOnly, is_failure};
 ghost use Rattle.state_file.specs.DiskCalls.{CountsFailuresWithoutReads};
 ghost use Rattle.state_file.specs.File.{HasNoKey, IsClosed, open_value};
-ghost use Rattle.state_file.specs.Filling.{IsUnfinished, after_first_gate, opened, first_offsets};
+ghost use Rattle.state_file.specs.Filling.{IsUnfinished, after_first_gate, gate_opened, first_offsets};
 ghost use Rattle.state_file.specs.Gates.{IsClosedAfter};
 ghost use Rattle.state_file.specs.Place.{IsFreePlace};
 
@@ -69,11 +69,11 @@ pub(crate) fn write_slot<E: Disk>(
     ensures fields { length fields.now ≡ 223 }
     ensures tag { length tag.now ≡ 32 }
     ensures first { k ≡ 0 → IsTrue (E.honest disk.old) → IsClosed (E.state disk.old).content 0 →
-        OnOk result (IsClosedAfter (open_value ∷ (fields.now ++ tag.now)) (opened (E.state disk.new).content)) }
+        OnOk result (IsClosedAfter (open_value ∷ (fields.now ++ tag.now)) (gate_opened (E.state disk.new).content)) }
     ensures next { (front : List ℕ) → 0 < k → IsTrue (E.honest disk.old) → length front ≡ 256 * k →
-        IsClosedAfter front (opened (E.state disk.old).content) →
+        IsClosedAfter front (gate_opened (E.state disk.old).content) →
         OnOk result
-        (IsClosedAfter (front ++ open_value ∷ (fields.now ++ tag.now)) (opened (E.state disk.new).content)) }
+        (IsClosedAfter (front ++ open_value ∷ (fields.now ++ tag.now)) (gate_opened (E.state disk.new).content)) }
     ensures keeps { (end : ℕ) (base : List ℕ) → IsTrue (E.honest disk.old) → 256 * k + 257 ≤ end →
         IsUnfinished end base (E.state disk.old) → IsUnfinished end base (E.state disk.new) }
     ensures any_moment { (end : ℕ) (base : List ℕ) → IsTrue (E.honest disk.old) → 256 * k + 257 ≤ end →
@@ -109,11 +109,11 @@ pub(crate) fn finish<E: Disk>(disk: &mut E) -> Result<(), DiskFault>
     ensures finished { (end : ℕ) (base : List ℕ) → IsTrue (E.honest disk.old) → IsClosed base 0 →
         IsUnfinished end base (E.state disk.old) →
         OnOk result
-        (IsSynced (E.state disk.new) × ((E.state disk.new).content ≡ opened (E.state disk.old).content)) }
+        (IsSynced (E.state disk.new) × ((E.state disk.new).content ≡ gate_opened (E.state disk.old).content)) }
     ensures any_moment { (end : ℕ) (base : List ℕ) → IsTrue (E.honest disk.old) → IsClosed base 0 → 1 ≤ end →
         IsUnfinished end base (E.state disk.old) →
         LeavesOnly E.moment E.left_since disk.old disk.new
-        (λ c. (HasNoKey c ⊎ (c ≡ opened (E.state disk.old).content)) ×
+        (λ c. (HasNoKey c ⊎ (c ≡ gate_opened (E.state disk.old).content)) ×
         ChangesOnly (first_offsets end ∷ []) base c) }
     ensures counts { CountsFailuresWithoutReads E.Disk is_failure disk.old disk.new result }
 {

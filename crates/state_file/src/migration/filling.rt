@@ -7,7 +7,7 @@ ghost use Rattle.state_file.specs.Disk.{ChangesOnly, IsSynced, LeavesOnly};
 ghost use Rattle.state_file.specs.File.{IsClosed, IsFileOf, SpellsRecords};
 ghost use Rattle.state_file.specs.FileStore.{disk_of, has_stopped, records_of};
 ghost use Rattle.state_file.specs.Filling.{CountsEither, IsCopied, IsUnfinished, LeftByFill, LoadsCarried};
-ghost use Rattle.state_file.specs.Filling.{after_first_gate, opened};
+ghost use Rattle.state_file.specs.Filling.{after_first_gate, gate_opened};
 ghost use Rattle.state_file.specs.Laws.{has_moved};
 ghost use Rattle.state_file.specs.Migration.{FillsPlace};
 ghost use Rattle.state_file.specs.Place.{IsFreePlace};
@@ -111,7 +111,7 @@ fn copy_slots<D: Disk + Drop, E: Disk + Drop>(
     ensures reads { ReadsStore D.Disk store.old store.new }
     ensures copied { IsTrue (D.honest (disk_of store.old)) → IsTrue (E.honest disk.old) →
         IsClosed (E.state disk.old).content 0 →
-        OnOk result (IsFileOf (carried (records_of store.old)) (opened (E.state disk.new).content)) }
+        OnOk result (IsFileOf (carried (records_of store.old)) (gate_opened (E.state disk.new).content)) }
     ensures keeps { IsTrue (E.honest disk.old) → IsSynced (E.state disk.old) →
         IsUnfinished (256 * (length (records_of store.old) - 1) + 1) (E.state disk.old).content (E.state disk.new) }
     ensures any_moment { IsTrue (E.honest disk.old) → IsSynced (E.state disk.old) →

@@ -3,7 +3,7 @@ use Rattle.std.proofs.lemmas.List.Concat.{concat_is}
 use Rattle.typecodes.specs.Layout.{Spells}
 use Rattle.lmots.specs.Hashes.{u32str}
 use Rattle.lms.specs.Signature.{Signature, signature}
-use Rattle.lms.specs.Writing.{signature_bytes, signed}
+use Rattle.lms.specs.Writing.{signature_bytes, made_signature}
 use Rattle.lms.proofs.Signing.{signed_valid}
 use Rattle.typecodes.proofs.Written.{all_parts, next_lent, next_part}
 use Rattle.lms.proofs.SigningBytes.{signed_spelled}
@@ -11,7 +11,7 @@ use Rattle.lms.proofs.writing.write_signature.Goals as goal
 
 pub returns : goal.returns
 returns c =
-    let s : Signature = signed c.args.secret.now c.args.leaf c.args.randomizer.now c.args.digest.now c.args.path.now in
+    let s : Signature = made_signature c.args.secret.now c.args.leaf c.args.randomizer.now c.args.digest.now c.args.path.now in
     let end = c.put-offset-3.result + 32 * c.from.result in
     let written : c.put.new.into ≡ signature_bytes s =
     let leaf = c.put-offset.ensures.bytes ∙ c.to_be_bytes.ensures in
@@ -26,6 +26,6 @@ returns c =
       bytes = written;
       spells = subst (Spells signature s) (sym written)
           (signed_spelled _ _ _ _ _ c.requires.is_leaf (omega arith) c.requires.path (λ i within. c.told-path i (omega arith)));
-      textbook = λ path. written ∙ ap (λ p. signature_bytes (signed c.args.secret.now c.args.leaf c.args.randomizer.now c.args.digest.now p)) path;
+      textbook = λ path. written ∙ ap (λ p. signature_bytes (made_signature c.args.secret.now c.args.leaf c.args.randomizer.now c.args.digest.now p)) path;
       valid = λ message digest path. signed_valid _ _ _ message _ _ c.requires.is_leaf digest path;
     }

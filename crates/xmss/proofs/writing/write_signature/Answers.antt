@@ -4,7 +4,7 @@ use Rattle.std.proofs.lemmas.List.Concat.{concat_is}
 use Rattle.typecodes.specs.Layout.{Spells}
 use Rattle.wots_plus.specs.Key.{signed_values}
 use Rattle.xmss.specs.Signature.{Signature, signature}
-use Rattle.xmss.specs.Writing.{signature_bytes, signed}
+use Rattle.xmss.specs.Writing.{signature_bytes, made_signature}
 use Rattle.xmss.proofs.Signing.{signed_valid}
 use Rattle.typecodes.proofs.Written.{all_parts, next_lent, next_part}
 use Rattle.xmss.proofs.SigningBytes.{signed_spelled}
@@ -13,7 +13,7 @@ use Rattle.xmss.proofs.writing.write_signature.Goals as goal
 pub returns : goal.returns
 returns c =
     let secret = c.args.secret.now in
-    let s : Signature = signed secret c.args.leaf c.args.digest.now c.args.path.now in
+    let s : Signature = made_signature secret c.args.leaf c.args.digest.now c.args.path.now in
     let end = c.put-offset-2.result + 32 * 67 in
     let values = c.sign_digest.ensures.value ∙ ap (λ seed. concat (signed_values seed c.args.leaf secret.secret_seed c.args.digest.now)) c.new-seed.ensures in
     let written : c.put.new.into ≡ signature_bytes s =
@@ -27,6 +27,6 @@ returns c =
       bytes = written;
       spells = subst (Spells (signature secret.tree) s) (sym written)
           (signed_spelled secret c.args.leaf c.args.digest.now c.args.path.now c.requires.inside c.requires.path (λ i within. c.told-path i (omega arith)));
-      textbook = λ path. written ∙ ap (λ p. signature_bytes (signed secret c.args.leaf c.args.digest.now p)) path;
+      textbook = λ path. written ∙ ap (λ p. signature_bytes (made_signature secret c.args.leaf c.args.digest.now p)) path;
       valid = λ message digest path. signed_valid secret c.args.leaf message _ _ c.requires.inside digest path;
     }

@@ -5,7 +5,7 @@ use Rattle.typecodes.proofs.Steps.{ends-trailing}
 use Rattle.lms.specs.Signature.{signature as lms_signature}
 use Rattle.lms.specs.View.{bytes_of as lms_bytes_of, pair_of as lms_pair_of, signature_of as lms_signature_of}
 use Rattle.hss.specs.Key.{level_number}
-use Rattle.hss.specs.SignedKey.{StandInTurn, shown_keys, signed_keys, bytes_taken}
+use Rattle.hss.specs.SignedKey.{StandInTurn, shown_keys, signed_keys, signed_keys_size}
 use Rattle.hss.specs.Signature.{shown_signature, signature}
 use Rattle.hss.proofs.Walking.{keys-end, whole-read}
 use Rattle.hss.proofs.signature.HssSigView.read.Goals.{After-end}
@@ -48,7 +48,7 @@ invariant_of-result c =
     let size = lms_signature_len_of (lms_pair_of view) in
     let at_end : length bytes ≡ c.from_cursor-2.new.cursor.place = search rules in
     let four : 4 ≤ length bytes = search rules in
-    let stands : place ≡ 4 + bytes_taken (shown_keys slots) = (keys-end c.in_ok-above.above bytes 4 place (shown_keys slots) four (keys after)).1 in
+    let stands : place ≡ 4 + signed_keys_size (shown_keys slots) = (keys-end c.in_ok-above.above bytes 4 place (shown_keys slots) four (keys after)).1 in
     let long : c.from_cursor-2.new.cursor.place - place ≡ size = omega (arith, c.in_ok-bottom.ensures.len) in
     let part : lms_bytes_of view ≡ take (c.from_cursor-2.new.cursor.place - place) (drop place bytes) = search rules in
     let stand : StandInTurn 4 bytes slots =

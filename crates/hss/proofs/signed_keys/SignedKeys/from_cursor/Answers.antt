@@ -1,7 +1,7 @@
 use Rattle.std.proofs.Common.{◌≡◌, ◌+◌, ◌<◌, ◌∙◌, refl, sym, ap, [], Some, Ok, Err, arith, rules, length, subst, length-set, ◌++◌, ◌∷◌}
 use Rattle.std.specs.Prelude.{set, take}
 use Rattle.typecodes.specs.Cursor.{read}
-use Rattle.hss.specs.SignedKey.{AreFirst, StandInTurn, BeginsAt, shown_keys, signed_key, signed_key_of, bytes_taken}
+use Rattle.hss.specs.SignedKey.{AreFirst, StandInTurn, BeginsAt, shown_keys, signed_key, signed_key_of, signed_keys_size}
 use Rattle.hss.proofs.Passing.{keys-faulty, keys-next, keys-none}
 use Rattle.hss.proofs.Slots.{set-first, set-shows, set-stand, shown-front, unused-first, unused-stand}
 use Rattle.hss.proofs.Walking.{keys-end}
@@ -31,10 +31,10 @@ loop-i-preserved c =
     let empty = c.loop-i.invariant.first.1 in
     let found : read signed_key bytes c.loop-i.rest.place ≡ Ok (signed_key_of view, c.from_cursor.new.cursor.place) =
     ap (λ b. read signed_key b c.loop-i.rest.place) (sym same) ∙ c.in_ok-from_cursor.ensures.read in
-    let at : c.loop-i.rest.place ≡ place + bytes_taken (shown_keys (take i slots)) =
+    let at : c.loop-i.rest.place ≡ place + signed_keys_size (shown_keys (take i slots)) =
     (keys-end i bytes place c.loop-i.rest.place (shown_keys slots) c.args.cursor.now.within c.loop-i.invariant.read).1
-    ∙ ap (λ keys. place + bytes_taken keys) (shown-front i slots c.loop-i.invariant.first) in
-    let here : BeginsAt (place + bytes_taken (shown_keys (take i slots))) bytes view =
+    ∙ ap (λ keys. place + signed_keys_size keys) (shown-front i slots c.loop-i.invariant.first) in
+    let here : BeginsAt (place + signed_keys_size (shown_keys (take i slots))) bytes view =
     subst (λ at. BeginsAt at bytes view) at (subst (λ b. BeginsAt c.loop-i.rest.place b view) same c.in_ok-from_cursor.ensures.part) in
     let shows : shown_keys slots ++ signed_key_of view ∷ [] ≡ shown_keys (set slots c.from.result (Some view)) =
     sym (set-shows slots i view within empty) ∙ ap (λ k. shown_keys (set slots k (Some view))) (sym c.from.ensures) in

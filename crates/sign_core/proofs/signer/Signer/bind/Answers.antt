@@ -7,7 +7,7 @@ use Rattle.sign_core.specs.declared.fault.SignFault.TheVariants.{MessageRead}
 use Rattle.sign_core.specs.Records.{binding_at, free_at, has_moved, the_key, next_at}
 use Rattle.sign_core.specs.Signer.{view_of}
 use Rattle.sign_core.specs.Signing.{answered_value}
-use Rattle.sign_core.specs.Textbook.{digest_at, signature_at}
+use Rattle.sign_core.specs.Textbook.{digest_at, textbook_signature}
 use Rattle.sign_core.specs.Trees.{tree_at}
 use Rattle.sign_core.specs.inner.Links.{MakesTrees}
 use Rattle.sign_core.specs.inner.Signing.{BindsNext, BindsBelow, IsRandomizer}
@@ -151,7 +151,7 @@ returns-in_err-add g c key keyed =
       randomizer = c.in_ok-randomizer.randomizer;
       digest = c.in_ok-digest.digest;
     } in
-    let sig = signature_at key (records ++ BoundRecord bound ∷ []) (length records) bound in
+    let sig = textbook_signature key (records ++ BoundRecord bound ∷ []) (length records) bound in
     let leaf = subst (λ (k : Key). c.in-Some.tree.next ≡ next_at k.secret records (bottom_of k.secret)) own has.leaf_is in
     let is = bound_next records key c.args.name.now bound text refl leaf
     (subst (λ (k : Key). c.in_ok-digest.digest ≡ digest_at k records (length records) c.in-Some.tree.next c.in_ok-randomizer.randomizer text) own digest) in
@@ -190,7 +190,7 @@ returns g c key keyed =
       randomizer = c.in_ok-randomizer.randomizer;
       digest = c.in_ok-digest.digest;
     } in
-    let sig = signature_at key (records ++ BoundRecord bound ∷ []) (length records) bound in
+    let sig = textbook_signature key (records ++ BoundRecord bound ∷ []) (length records) bound in
     let leaf = subst (λ (k : Key). c.in-Some.tree.next ≡ next_at k.secret records (bottom_of k.secret)) own has.leaf_is in
     let is = bound_next records key c.args.name.now bound text refl leaf
     (subst (λ (k : Key). c.in_ok-digest.digest ≡ digest_at k records (length records) c.in-Some.tree.next c.in_ok-randomizer.randomizer text) own digest) in

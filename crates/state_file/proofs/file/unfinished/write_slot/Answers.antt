@@ -3,7 +3,7 @@ use Rattle.state_file.proofs.Adding.{block_size}
 use Rattle.state_file.proofs.Filling.{put_first, put_next}
 use Rattle.state_file.proofs.Moments.{ok_along}
 use Rattle.state_file.specs.File.{open_value}
-use Rattle.state_file.specs.Filling.{opened}
+use Rattle.state_file.specs.Filling.{gate_opened}
 use Rattle.state_file.specs.Gates.{IsClosedAfter}
 use Rattle.state_file.proofs.file.unfinished.write_slot.Goals as goal
 
@@ -12,7 +12,7 @@ returns-then-k-eq0-clause-first g c zero honest closed =
     let body = c.args.fields.now ++ c.args.tag.now in
     let content = (g.E.Disk.state c.args.disk.now).content in
     let new = (g.E.Disk.state c.write_after.new.disk).content in
-    ok_along c.write_after.result _ (IsClosedAfter (open_value ∷ body) (opened new)) (λ written. put_first body content new c.block-block.result closed c.block-block.ensures.bytes written.0 written.1) (c.write_after.ensures.written honest)
+    ok_along c.write_after.result _ (IsClosedAfter (open_value ∷ body) (gate_opened new)) (λ written. put_first body content new c.block-block.result closed c.block-block.ensures.bytes written.0 written.1) (c.write_after.ensures.written honest)
 
 pub returns-then-k-eq0-clause-keeps : goal.returns-then-k-eq0-clause-keeps
 returns-then-k-eq0-clause-keeps g c end base honest fits unfinished =
@@ -40,5 +40,5 @@ returns-else-k-eq0-clause-next g c front after honest len holds =
     let content = (g.E.Disk.state c.args.disk.now).content in
     let new = (g.E.Disk.state c.write_after-else-k-eq0.new.disk).content in
     let is = c.gated.ensures ∙ ap (λ (l : List ℕ). open_value ∷ l) c.block-block.ensures.bytes in
-    ok_along c.write_after-else-k-eq0.result _ (IsClosedAfter (front ++ open_value ∷ body) (opened new))
+    ok_along c.write_after-else-k-eq0.result _ (IsClosedAfter (front ++ open_value ∷ body) (gate_opened new))
     (λ written. put_next front body content new c.gated.result (256 * c.from.result) (omega (arith, after, c.from.ensures)) (omega (arith, len, c.from.ensures)) holds (omega (arith, after, len, holds.closed.0, length-drop 1 content)) is written.0 written.1) (c.write_after-else-k-eq0.ensures.written honest)

@@ -3,7 +3,7 @@ use Rattle.std.specs.Prelude.{IsTrue}
 use Rattle.state_file.specs.Carried.{carried}
 use Rattle.state_file.specs.Disk.{LeavesOnly}
 use Rattle.state_file.specs.File.{SpellsRecords}
-use Rattle.state_file.specs.Filling.{LeftByFill, opened}
+use Rattle.state_file.specs.Filling.{LeftByFill, gate_opened}
 use Rattle.state_file.proofs.Carried.{carried_list}
 use Rattle.state_file.proofs.Filled.{carried_spelled, left_copied, left_finished, left_prepared}
 use Rattle.state_file.proofs.Moments.{combined, weaker}
@@ -29,9 +29,9 @@ filling_leaves g c honest =
     let still = c.prepare.ensures.counts.honest ∙ honest in
     let then = c.copy_slots.ensures.honest ∙ still in
     let unfinished = c.copy_slots.ensures.keeps still prepared.0 in
-    let spelled : IsTrue was → SpellsRecords (opened content) (carried store.records) = λ honest_old.
+    let spelled : IsTrue was → SpellsRecords (gate_opened content) (carried store.records) = λ honest_old.
     let kept = store.kept honest_old c.requires.running in
-    carried_spelled (carried store.records) (opened content) (carried_list store.records c.requires.moved kept.file.first) (c.in_ok-copy_slots.ensures.copied honest_old still prepared.1) in
+    carried_spelled (carried store.records) (gate_opened content) (carried_list store.records c.requires.moved kept.file.first) (c.in_ok-copy_slots.ensures.copied honest_old still prepared.1) in
     let preparing =
     weaker g.E.Disk.moment g.E.Disk.left_since place c.prepare.new.disk _ Left (λ left one. left_prepared was store.records end some first left one) (c.prepare.ensures.any_moment honest) in
     let copying =
@@ -58,7 +58,7 @@ returns-clause-done g c honest_old honest =
     let prepared = c.in_ok-prepare.ensures.closed honest in
     let still = c.prepare.ensures.counts.honest ∙ honest in
     let kept = store.kept honest_old c.requires.running in
-    let spelled = carried_spelled (carried store.records) (opened content) (carried_list store.records c.requires.moved kept.file.first) (c.in_ok-copy_slots.ensures.copied honest_old still prepared.1) in
+    let spelled = carried_spelled (carried store.records) (gate_opened content) (carried_list store.records c.requires.moved kept.file.first) (c.in_ok-copy_slots.ensures.copied honest_old still prepared.1) in
     let finished = c.in_ok-finish.ensures.finished end base (c.copy_slots.ensures.honest ∙ still) prepared.1 (c.copy_slots.ensures.keeps still prepared.0) in (
       finished.0,
       subst (λ (l : List ℕ). SpellsRecords l (carried store.records)) (sym finished.1) spelled,
