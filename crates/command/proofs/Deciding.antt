@@ -150,8 +150,8 @@ most-level_number low high =
 most-hss_signature : TakesAtMost hss_signature 74988 Any
 unfolding hss_signature
 most-hss_signature =
-    most-bind (level_number 0 7) _ 4 74984 (λ n. n ≤ 7) Any (most-level_number 0 7) (λ above few.
-    most-bind (signed_keys above) _ 65660 9324 Any Any (most-greater (signed_keys above) (9380 * above) 65660 Any (omega (arith, few)) (most-signed_keys above)) (λ signed any.
+    most-bind (level_number 0 7) _ 4 74984 (λ n. n ≤ 7) Any (most-level_number 0 7) (λ above within_limit.
+    most-bind (signed_keys above) _ 65660 9324 Any Any (most-greater (signed_keys above) (9380 * above) 65660 Any (omega (arith, within_limit)) (most-signed_keys above)) (λ signed any.
     most-bind lms_signature _ 9324 0 Any Any most-lms_signature (λ bottom any. most-done _ 0 Any tt)))
 
 hss_decided : {A : Type 0} (count : ℕ) (key : HssPublic) (message bytes : List ℕ) (r : Result A SignatureRefusal) → 74988 < count

@@ -189,8 +189,8 @@ fn percent(made: u32, leaves: u32) -> u64
 
 // The seconds that the other leaves take, if each takes as long as those that were made in `spent` milliseconds.
 fn seconds_left(spent: u32, made: u32, leaves: u32) -> u64
-    requires some { 0 < made }
-    requires few { made ≤ leaves }
+    requires not_zero { 0 < made }
+    requires within_limit { made ≤ leaves }
     ensures { result ≡ seconds_left spent made leaves }
 {
     let left = u64::from(spent) * u64::from(leaves - made) / u64::from(made);

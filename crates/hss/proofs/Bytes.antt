@@ -82,11 +82,11 @@ keys-more n keys last a b spelled last_spelled = subst (λ m. Spells (signed_key
 pub whole-spelled : (s : Signature) (a b : List ℕ) → length s.signed ≤ 7 → Spells (signed_keys (length s.signed)) s.signed a → Spells lms_signature s.bottom b
     → Spells signature s (u32str (length s.signed) ++ a ++ b)
 unfolding signature
-whole-spelled s a b few keys bottom =
+whole-spelled s a b within_limit keys bottom =
     let n = length s.signed in
     let after_keys : List SignedKey → Layout Signature = λ signed. lms_signature >>= λ bottom. done (record { signed = signed; bottom = bottom }) in
     subst (Spells signature s) (sym (append_assoc (u32str n) a b))
-    (from_turn (level_number 0 7) (λ above. signed_keys above >>= after_keys) n s (u32str n) (a ++ b) (level_number-spelled 0 7 n (omega arith) few (omega arith))
+    (from_turn (level_number 0 7) (λ above. signed_keys above >>= after_keys) n s (u32str n) (a ++ b) (level_number-spelled 0 7 n (omega arith) within_limit (omega arith))
     (from_turn (signed_keys n) after_keys s.signed s a b keys
     (last_field lms_signature (λ bottom. done (record { signed = s.signed; bottom = bottom })) s.bottom s b bottom (refl, refl))))
 

@@ -46,7 +46,7 @@ level-spelled level sized =
 
 -- so is the levels' key
 pub public-spelled : (above : List Signing) (bottom : Signing) → length above ≤ 7 → IsSized (level_at above bottom 0) → Spells public_key (public_of above bottom) (public_bytes (public_of above bottom))
-public-spelled above bottom few sized =
+public-spelled above bottom within_limit sized =
     key-spelled (public_of above bottom) (omega arith) (omega arith) (tree-spelled (level_at above bottom 0).secret sized.identifier)
 
 -- the signed keys of the levels, up to level k
@@ -72,7 +72,7 @@ keys-spelled above bottom (suc k) within sized =
 -- A textbook signature of at most 8 levels is spelled by its bytes.
 pub textbook-spelled : (above : List Signing) (bottom : Signing) → length above ≤ 7 → ((i : ℕ) → i < length above + 1 → IsSized (level_at above bottom i))
     → Spells signature (textbook above bottom) (signature_bytes (textbook above bottom))
-textbook-spelled above bottom few sized =
+textbook-spelled above bottom within_limit sized =
     let signature_of : Signing → LmsSignature = λ level. lms_textbook level.secret level.leaf level.randomizer level.digest in
     let key_of : Signing → LmsPublic = λ level. lms_public_of level.secret in
     let s = textbook above bottom in

@@ -178,8 +178,8 @@ is_read s bytes found =
 pub starts : (s : Signature) (i : ℕ) → i ≤ length s.signed → 4 + sum_by signed_key_size (map (λ signed. signed.signature) (take i s.signed)) ≡ start_at s i
 starts s i within =
     let above = map (λ signed. signed.signature) s.signed in
-    let few : i ≤ length above = omega (arith, length-map s.signed (λ signed. signed.signature)) in
-    ap (λ front. 4 + sum_by signed_key_size front) (sym (take-map (λ signed. signed.signature) i s.signed) ∙ sym (take-append-le i above (s.bottom ∷ []) few))
+    let within_limit : i ≤ length above = omega (arith, length-map s.signed (λ signed. signed.signature)) in
+    ap (λ front. 4 + sum_by signed_key_size front) (sym (take-map (λ signed. signed.signature) i s.signed) ∙ sym (take-append-le i above (s.bottom ∷ []) within_limit))
 
 -- i signed keys stand before level i
 pub above_read : (s : Signature) (bytes : List ℕ) (i : ℕ) → IsRead s bytes → i ≤ length s.signed → read (signed_keys i) bytes 4 ≡ Ok (take i s.signed, start_at s i)

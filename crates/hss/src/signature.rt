@@ -78,7 +78,7 @@ impl<'a> HssSigView<'a> {
 
     /// If level i is above the bottom: its signature, and the public key of level i + 1, which it signs.
     pub fn signed_key(&self, i: u8) -> Option<SignedKeyView<'a>>
-        ensures some { IsSome result ↔ (i + 1 < level_count (signature_of self.now)) }
+        ensures is_some { IsSome result ↔ (i + 1 < level_count (signature_of self.now)) }
         ensures signature { IfSome result (λ view.
             lms_signature_of view.signature ≡ signature_at (signature_of self.now) i) }
         ensures key { (top : LmsPublic) → IfSome result (λ view.

@@ -15,7 +15,7 @@ use Rattle.key_audit.proofs.Tags.{tag_law}
 within_or_beyond : (anchor : Option Anchor) (records : List Record) → AnchorCounts anchor records → IsBeyond anchor records → ⊥
 within_or_beyond None records within beyond = beyond
 within_or_beyond (Some anchor) records within (inl none) = omega (arith, within.0, none)
-within_or_beyond (Some anchor) records within (inr few) = omega (arith, within.1, few)
+within_or_beyond (Some anchor) records within (inr within_limit) = omega (arith, within.1, within_limit)
 
 none_or_some : {k : ℕ} → ◌≡◌ {A = Option ℕ} None (Some k) → ⊥
 none_or_some is = absurd cc

@@ -87,7 +87,7 @@ within_alike a b (Some anchor) same within = (within.0, omega (arith, within.1, 
 beyond_alike : (a b : List Record) (anchor : Option Anchor) → length a ≡ length b → IsBeyond anchor a → IsBeyond anchor b
 beyond_alike a b None same beyond = beyond
 beyond_alike a b (Some anchor) same (inl none) = inl none
-beyond_alike a b (Some anchor) same (inr few) = inr (omega (arith, few, same))
+beyond_alike a b (Some anchor) same (inr within_limit) = inr (omega (arith, within_limit, same))
 
 -- an anchor that doesn't fit
 judged_anchor : (A : ℕ → List ℕ → Type 0) (honest kept : Bool) (list records : List Record) (anchor : Option Anchor) (fault : AuditFault) → IsLegal records

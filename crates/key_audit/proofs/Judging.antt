@@ -85,7 +85,7 @@ judged public text bytes old new (Err refusal) whole verdict leaves = (
       verifies,
 ) where
   not_both : (most a b : ℕ) → a ≡ b → a < most → most ≤ b → ⊥
-  not_both most a b same few much = omega (arith, same, few, much)
+  not_both most a b same within_limit much = omega (arith, same, within_limit, much)
 
 -- The answer says whether a given signature is valid.
 pub judges : (public : AnyPublic) (given : Given) (text bytes : List ℕ) (old new : InMemory) (result : Result (Unit {0}) Refusal)

@@ -93,8 +93,8 @@ one_uses (Xmss key) message bytes us vs (s, p, us_are) (t, q, vs_are) =
 
 below_all : (q h : ℕ) → q < 2 ^ h → h ≤ 25 → q < 2 ^ 32
 below_all q h inside low =
-    let few : h ≤ 32 = omega (arith, low) in
-    let most : 2 ^ h ≤ 2 ^ 32 = pow-le-pow_right (omega arith) few in omega (arith, inside, most)
+    let within_limit : h ≤ 32 = omega (arith, low) in
+    let most : 2 ^ h ≤ 2 ^ 32 = pow-le-pow_right (omega arith) within_limit in omega (arith, inside, most)
 
 xmss_most : (t : XmssType) → xmss_height_of t ≤ 25
 xmss_most xmss.H10 = omega arith

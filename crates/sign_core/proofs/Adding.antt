@@ -240,7 +240,7 @@ signer_grown g old new random before after is_open entry v is signer keyed opene
         sizes = subst AllHaveSizes (sym grows.records) (grown_sizes before.records entry signer.sizes sized);
         tied = λ _. record {
           running = appended.stored.1;
-          long = ap length appended.stored.0 ∙ length_one_more _ entry ∙ ap (λ n. n + 1) tied.long ∙ sym (length_one_more _ entry)
+          same_length = ap length appended.stored.0 ∙ length_one_more _ entry ∙ ap (λ n. n + 1) tied.same_length ∙ sym (length_one_more _ entry)
               ∙ ap length (sym grows.records);
           same = λ honest. appended.stored.0 ∙ ap (λ l. l ++ entry ∷ []) (tied.same (subst IsTrue appended.honest honest)) ∙ sym grows.records;
         };

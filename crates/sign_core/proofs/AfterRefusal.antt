@@ -83,7 +83,7 @@ module _ (key : Key) (name : List ℕ) where
       let nil = append-nil records in
       record {
         trees = [];
-        few = omega arith;
+        within_limit = omega arith;
         each = λ i entry at. absurd (none-some entry at);
         leaves = subst (λ all. LeavesRecords all (IsNextWanted key records level name chance []) outcome) (sym nil) leaves;
         unbound = λ other. ap (λ all. binding_at all other) nil;
@@ -124,7 +124,7 @@ module _ (key : Key) (name : List ℕ) where
       → LeavesTrees key records level name chance outcome → LeavesTrees key records level name chance (reading outcome)
   reads level records chance outcome left = record {
     trees = left.trees;
-    few = left.few;
+    within_limit = left.within_limit;
     each = left.each;
     leaves = record { acknowledged = left.leaves.acknowledged; whole = left.leaves.whole; cut = left.leaves.cut };
     unbound = left.unbound;
@@ -135,7 +135,7 @@ module _ (key : Key) (name : List ℕ) where
       → LeavesTrees key records level name chance (drawing bytes outcome)
   draws_more level records chance bytes outcome left = record {
     trees = left.trees;
-    few = left.few;
+    within_limit = left.within_limit;
     each = left.each;
     leaves = record { acknowledged = left.leaves.acknowledged; whole = left.leaves.whole; cut = left.leaves.cut };
     unbound = left.unbound;
@@ -184,8 +184,8 @@ module _ (key : Key) (name : List ℕ) where
     wanted_more : (chance : Chance) (trees : List Record) (draws : List Draw) (x : Record)
         → IsNextWanted key (records ++ entry ∷ []) (level + 1) name (chance_with chance draws) trees x
         → IsNextWanted key records level name (chance_with chance (draw ∷ draws)) (entry ∷ trees) x
-    wanted_more chance trees draws x (inl (few, drawn)) =
-        inl (omega (arith, few, here), drawn_later level (length trees) records entry trees draw draws x drawn)
+    wanted_more chance trees draws x (inl (within_limit, drawn)) =
+        inl (omega (arith, within_limit, here), drawn_later level (length trees) records entry trees draw draws x drawn)
     wanted_more chance trees draws x (inr (all, own)) = inr (
       omega (arith, all, here),
       record {
@@ -205,7 +205,7 @@ module _ (key : Key) (name : List ℕ) where
         let same = append_assoc records (entry ∷ []) left.trees in
         record {
           trees = entry ∷ left.trees;
-          few = omega (arith, left.few, here);
+          within_limit = omega (arith, left.within_limit, here);
           each = each_more left.trees draws left.each;
           leaves = leaves_along
               (IsNextWanted key (records ++ entry ∷ []) (level + 1) name (chance_with chance draws) left.trees)

@@ -245,8 +245,8 @@ binds_below_after {S = S} {R = R} {M = M} g r m name key below level old mid new
               first.memory second.does;
           not_before_draws = second.not_before_draws;
           lacks_tree = λ is same.
-              let few = second.lacks_tree is (same ∙ sym (once g old mid first.refusals)) in
-              omega (arith, few, ap length ends.records, length_push old.records (ExtendRecord extend));
+              let within_limit = second.lacks_tree is (same ∙ sym (once g old mid first.refusals)) in
+              omega (arith, within_limit, ap length ends.records, length_push old.records (ExtendRecord extend));
         }
 
 -- What a recorded Extend leaves: an open signer with one more record, over the same store.
@@ -280,7 +280,7 @@ ready_after g old mid wanted after ready =
     let more : length mid.records ≡ length old.records + 1 = ap length after.records ∙ length_push old.records (ExtendRecord after.extend) in record {
       is_open = after.is_open;
       stays = ap has_moved after.records ∙ last_is old.records (ExtendRecord after.extend);
-      few = omega (arith, more, ready.few, after.most);
+      within_limit = omega (arith, more, ready.within_limit, after.most);
       counted = omega (arith, more, ready.counted);
       room = omega (arith, ready.room, after.spare);
     }

@@ -93,10 +93,10 @@ bound_tree records key trees k bound legal keyed these at =
     let tree_is : tree ≡ current_at bottom records k = sym (ap (λ o. unwrap_or o 0) before) in
     let there : IsTreeAt records bottom (current_at bottom records k) = subst (IsTreeAt records bottom) tree_is (current_stands records k bottom tree here) in
     let (some, typed) = levels_typed key.secret trees these in
-    let few : bottom < levels_of key.secret = omega (arith, some) in (
+    let within_limit : bottom < levels_of key.secret = omega (arith, some) in (
       there,
       subst (λ n. bound.leaf < n)
-          (leaves_of_level key.secret trees bottom these few ∙ ap (λ p. 2 ^ height_of p.tree) (sym (pair_at key trees records bottom _ first these there)))
+          (leaves_of_level key.secret trees bottom these within_limit ∙ ap (λ p. 2 ^ height_of p.tree) (sym (pair_at key trees records bottom _ first these there)))
           (leaf_inside records key k bound legal keyed at),
     )
 
@@ -132,17 +132,17 @@ signings_pairs : (records : List Record) (key : Key) (trees : Trees) (level plac
     → trees_of key.secret ≡ Some trees → IsTreeAt records level place → level < length trees.pairs
     → map pair_of (chain_signings trees level records place) ≡ take level trees.pairs
 unfolding pair_of
-signings_pairs records key trees zero place legal keyed these at few = refl
-signings_pairs records key trees (suc level) place legal keyed these (extend, stands, of_level) few =
+signings_pairs records key trees zero place legal keyed these at within_limit = refl
+signings_pairs records key trees (suc level) place legal keyed these (extend, stands, of_level) within_limit =
     let parent = current_at level records place in
     let (there, inside) = parent_of key trees records level place extend legal keyed these stands of_level in
     let above = chain_signings trees level records parent in
     let pair = (secret_at trees records parent).pair in
     map-append pair_of above (parent_signing trees records parent (slice_get records place))
     ∙ ap (λ r. map pair_of above ++ map pair_of (parent_signing trees records parent r)) stands
-    ∙ ap (λ l. l ++ pair ∷ []) (signings_pairs records key trees level parent legal keyed these there (omega (arith, few)))
+    ∙ ap (λ l. l ++ pair ∷ []) (signings_pairs records key trees level parent legal keyed these there (omega (arith, within_limit)))
     ∙ ap (λ p. take level trees.pairs ++ p ∷ []) (pair_at key trees records level parent (key_stands records key keyed) these there)
-    ∙ take_one_more trees.pairs level trees.top.pair (omega (arith, few))
+    ∙ take_one_more trees.pairs level trees.top.pair (omega (arith, within_limit))
 
 pairs_of_links : (links : List Level) → pairs_of links ≡ map pair_of (signings_of links)
 unfolding pair_of
@@ -158,14 +158,14 @@ unfolding pair_of
 links_pairs records key trees other level place links last legal keyed these others at level_is signs secret =
     let bottom = bottom_of key.secret in
     let (some, typed) = levels_typed key.secret trees these in
-    let few : bottom < length trees.pairs = omega (arith, some, typed) in
+    let within_limit : bottom < length trees.pairs = omega (arith, some, typed) in
     let count : suc bottom ≡ bottom + 1 = omega arith in
     pairs_of_links links ∙ ap (map pair_of) signs ∙ ap (λ n. map pair_of (chain_signings trees n records place ++ last ∷ [])) level_is
     ∙ map-append pair_of (chain_signings trees bottom records place) (last ∷ [])
-    ∙ ap (λ l. l ++ last.secret.pair ∷ []) (signings_pairs records key trees bottom place legal keyed these at few)
+    ∙ ap (λ l. l ++ last.secret.pair ∷ []) (signings_pairs records key trees bottom place legal keyed these at within_limit)
     ∙ ap (λ (s : LmsSecret). take bottom trees.pairs ++ s.pair ∷ []) secret
     ∙ ap (λ p. take bottom trees.pairs ++ p ∷ []) (pair_at key trees records bottom place (key_stands records key keyed) these at)
-    ∙ take_one_more trees.pairs bottom trees.top.pair few ∙ ap (λ n. take n trees.pairs) count ∙ all_pairs key.secret trees these
+    ∙ take_one_more trees.pairs bottom trees.top.pair within_limit ∙ ap (λ n. take n trees.pairs) count ∙ all_pairs key.secret trees these
     ∙ ap (λ (t : Trees). t.pairs) (same_Some trees other (sym these ∙ others))
 
 -- ---- XMSS

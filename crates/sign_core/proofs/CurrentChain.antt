@@ -55,9 +55,9 @@ tree_stands records level place is = current_stands records (length records) lev
 
 pub leaf_inside : (key : Key) (trees : Trees) (records : List Record) (level place leaf : ℕ) → the_key records ≡ Some key → trees_of key.secret ≡ Some trees
     → level < levels_of key.secret → HasFree key.secret records level place leaf → leaf < 2 ^ height_of (secret_at trees records place).pair.tree
-leaf_inside key trees records level place leaf keyed these few has =
+leaf_inside key trees records level place leaf keyed these within_limit has =
     let at = tree_stands records level place has.current_is in
     subst (λ n. leaf < n)
-    (leaves_of_level key.secret trees level these few
+    (leaves_of_level key.secret trees level these within_limit
     ∙ ap (λ p. 2 ^ height_of p.tree) (sym (pair_at key trees records level place (key_stands records key keyed) these at)))
     (omega (arith, has.leaf_is, has.free))

@@ -669,17 +669,17 @@ module _ {S R I : Type 0} (g : store.Ghosts S) (r : source.Ghosts R) (m : messag
   pub serves_to_end : (went : Bool) → went ≡ false → HasServed g r m old middle before between contents given 0 room count
       → Turns g r m middle new between after given left room space (Ok went) → count < 2 ^ 32
       → Serves g r m old new before after contents left (Ok count)
-  serves_to_end true never served turn few = absurd (cc)
-  serves_to_end false stays served turn few =
+  serves_to_end true never served turn within_limit = absurd (cc)
+  serves_to_end false stays served turn within_limit =
       let (none, over, nothing, silent) = turn.ends in
       closed served (Ok count) turn.bytes turn.ending turn.exchanges turn.written
-      (sym served.count_is, none, nothing, silent, inl (over, omega (arith, few, served.count_is))) turn.reads turn.answers turn.writes
+      (sym served.count_is, none, nothing, silent, inl (over, omega (arith, within_limit, served.count_is))) turn.reads turn.answers turn.writes
 
   pub serves_to_fault : (e : ServeFault) → HasServed g r m old middle before between contents given 0 room count
       → Turns g r m middle new between after given left room space (Err e) → count < 2 ^ 32
       → Serves g r m old new before after contents left (Err e)
-  serves_to_fault e served turn few =
-      closed served (Err e) turn.bytes turn.ending turn.exchanges turn.written (omega (arith, few, served.count_is), turn.ends) turn.reads turn.answers
+  serves_to_fault e served turn within_limit =
+      closed served (Err e) turn.bytes turn.ending turn.exchanges turn.written (omega (arith, within_limit, served.count_is), turn.ends) turn.reads turn.answers
       turn.writes
 
 pub serves_all : {S R I : Type 0} (g : store.Ghosts S) (r : source.Ghosts R) (m : message.Ghosts I) (old new : View S R) (before after : I)

@@ -47,16 +47,16 @@ draw_fails_by : (key : Key) (level : ℕ) (trees : Trees) (records : List Record
     → ((first : List ℕ) (rest : List (List ℕ)) → fields ≡ first ∷ rest → has_identifier records first ≡ false) → (next : List Record → Outcome (List ℕ))
     → extended (open_state records) key level (Some trees) (record { fields = fields; fate = acked }) next
     ≡ drawing (concat fields) (refused (open_state records) RandomFailed)
-draw_fails_by key level trees records [] few fresh next = refl
-draw_fails_by key level trees records (identifier ∷ []) few fresh next =
+draw_fails_by key level trees records [] within_limit fresh next = refl
+draw_fails_by key level trees records (identifier ∷ []) within_limit fresh next =
     ap (λ b. drawing identifier (if b then refused (open_state records) RandomRepeated else drawing [] (refused (open_state records) RandomFailed)))
     (fresh identifier [] refl)
     ∙ drawing_twice identifier [] (refused (open_state records) RandomFailed)
-draw_fails_by key level trees records (identifier ∷ seed ∷ []) few fresh next =
+draw_fails_by key level trees records (identifier ∷ seed ∷ []) within_limit fresh next =
     ap (λ b. drawing identifier (if b then refused (open_state records) RandomRepeated else drawing (seed ++ []) (refused (open_state records) RandomFailed)))
     (fresh identifier (seed ∷ []) refl)
     ∙ drawing_twice identifier (seed ++ []) (refused (open_state records) RandomFailed)
-draw_fails_by key level trees records (identifier ∷ seed ∷ randomizer ∷ rest) few fresh next = absurd (omega (arith, few))
+draw_fails_by key level trees records (identifier ∷ seed ∷ randomizer ∷ rest) within_limit fresh next = absurd (omega (arith, within_limit))
 
 -- a record has the I
 draw_repeats : (key : Key) (level : ℕ) (trees : Trees) (records : List Record) (identifier : List ℕ) → has_identifier records identifier ≡ true
@@ -100,11 +100,11 @@ module _ {S R : Type 0} (g : store.Ghosts S) (r : source.Ghosts R) (level : ℕ)
   pub undrawn : (pair : LmsPair) (view : View S R) (random : R) (fault : SignFault) (answer : Result (List ℕ) SignFault) → Rests g view → Err fault ≡ answer
       → DrawsTree pair view.records (r.failures view.random) (r.failures random) (r.upcoming view.random) (r.upcoming random) (Err fault)
       → Extends g r level view (after_draw view random) answer key
-  undrawn pair view random RandomFailed answer rests is (fields, failed, gave, sized, few, fresh) = record {
+  undrawn pair view random RandomFailed answer rests is (fields, failed, gave, sized, within_limit, fresh) = record {
     draw = record { fields = fields; fate = acked };
     outcome = drawing (concat fields) (refused (open_state view.records) RandomFailed);
     step = ap (λ t. extended (open_state view.records) key level t (record { fields = fields; fate = acked }) (λ records. answered (open_state records) [])) is_trees
-        ∙ draw_fails_by key level trees view.records fields few fresh (λ records. answered (open_state records) []);
+        ∙ draw_fails_by key level trees view.records fields within_limit fresh (λ records. answered (open_state records) []);
     possible = sized;
     ends = rests_ends view random (concat fields) RandomFailed answer rests refl is;
     source = subst (λ (bytes : List ℕ). Provides (r.upcoming view.random) bytes (r.upcoming random)) (sym (append-nil (concat fields))) gave;

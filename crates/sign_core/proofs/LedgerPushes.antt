@@ -79,8 +79,8 @@ pub bound_leaf : (records : List Record) (key : Key) (bound : Bound) → can_fol
     → bound.leaf < 2 ^ 25
 bound_leaf records key bound follows =
     let (tree, at, inside, next) = free_means key.secret records (bottom_of key.secret) bound.leaf (bound_free records key bound follows) in
-    let few : leaves_at key.secret (bottom_of key.secret) ≤ 2 ^ 25 = leaves_few key.secret (bottom_of key.secret) in
-    omega (arith, inside, few)
+    let within_limit : leaves_at key.secret (bottom_of key.secret) ≤ 2 ^ 25 = leaves_few key.secret (bottom_of key.secret) in
+    omega (arith, inside, within_limit)
 
 extend_parts : (records : List Record) (key : Key) (extend : Extend) → can_follow (Some key) records (ExtendRecord extend) ≡ true
     → (1 ≤ extend.level) × (extend.level < levels_of key.secret)
@@ -101,8 +101,8 @@ pub extend_inside : (records : List Record) (key : Key) (extend : Extend) → ca
 extend_inside records key extend follows =
     let (low, high, free) = extend_parts records key extend follows in
     let (tree, at, inside, next) = free_means key.secret records (extend.level - 1) extend.parent_leaf free in
-    let few : leaves_at key.secret (extend.level - 1) ≤ 2 ^ 25 = leaves_few key.secret (extend.level - 1) in
-    (low, high, omega (arith, inside, few))
+    let within_limit : leaves_at key.secret (extend.level - 1) ≤ 2 ^ 25 = leaves_few key.secret (extend.level - 1) in
+    (low, high, omega (arith, inside, within_limit))
 
 -- ---- the tree that is current before a new record
 

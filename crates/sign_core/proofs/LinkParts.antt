@@ -120,13 +120,13 @@ parent_of key trees records level place extend legal keyed these stands of_level
     let tree_is : tree ≡ current_at level records place = sym (ap (λ o. unwrap_or o 0) before) in
     let there : IsTreeAt records level (current_at level records place) =
     subst (IsTreeAt records level) tree_is (current_stands records place level tree at) in
-    let few : level < levels_of key.secret =
+    let within_limit : level < levels_of key.secret =
     subst (λ (k : Key). level < levels_of k.secret) keys (omega (arith, of_level, below)) in
     let inside : extend.parent_leaf < leaves_at key.secret level =
     subst (λ (k : Key). extend.parent_leaf < leaves_at k.secret level) keys (subst (λ n. extend.parent_leaf < leaves_at legal.key.secret n) same leaf) in (
       there,
       subst (λ n. extend.parent_leaf < n)
-          (leaves_of_level key.secret trees level these few ∙ ap (λ p. 2 ^ height_of p.tree) (sym (pair_at key trees records level _ first these there)))
+          (leaves_of_level key.secret trees level these within_limit ∙ ap (λ p. 2 ^ height_of p.tree) (sym (pair_at key trees records level _ first these there)))
           inside,
     )
 

@@ -364,7 +364,7 @@ once limit world kept = record {
         open_request limit world.state key name chance (Some (k, bound)) open_now stays keyed named
         ∙ ap (repeated world.state key k bound chance) none;
     moved = λ key name chance open_now moved keyed. moved_request limit world.state key name chance open_now moved keyed;
-    long = λ key name chance. long_request limit world.state key name chance;
+    long_name = λ key name chance. long_request limit world.state key name chance;
     fresh = λ key level name message chance. fresh_fine limit world.state world.handed key level name message chance kept;
     again = λ name chance. drawn_again limit world.state name chance;
     draws = λ key name chance keyed drawn. drawn_most limit world.state key name chance keyed drawn;

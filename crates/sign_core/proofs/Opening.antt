@@ -87,7 +87,7 @@ none_loaded g old only = record {
     most = refl;
     stays = λ _. refl;
   };
-  begins = record { long = refl; inside = omega arith; same = λ honest. refl };
+  begins = record { same_length = refl; inside = omega arith; same = λ honest. refl };
   legal = refl;
   running = λ some. absurd (omega (arith, some));
   asked = refl;
@@ -146,7 +146,7 @@ record_at false list k entry at is = absurd (true≢false (sym is))
 pub begins_more : {S : Type 0} (g : store.Ghosts S) (old now next : S) (records : List Record) (k : ℕ) (entry : Record) → IsUnchanged g old now
     → Begins g old records k → LoadsRecord g now next k (Ok (Some entry)) → Begins g old (records ++ entry ∷ []) (k + 1)
 begins_more g old now next records k entry kept begins loads = record {
-  long = length_one_more records entry ∙ ap (λ n. n + 1) begins.long;
+  same_length = length_one_more records entry ∙ ap (λ n. n + 1) begins.same_length;
   inside = omega (arith, loads.loads.1, ap length kept.list);
   same = λ honest.
       let here : suc k ≡ k + 1 = omega arith in
@@ -170,7 +170,7 @@ length_whole (first ∷ rest) (other ∷ list) (suc k) is inside = omega (arith,
 
 pub whole_long : {S : Type 0} (g : store.Ghosts S) (old : S) (records : List Record) (k : ℕ) → Begins g old records k
     → length (whole g old records k) ≡ length (g.list old)
-whole_long g old records k begins = length_whole records (g.list old) k begins.long begins.inside
+whole_long g old records k begins = length_whole records (g.list old) k begins.same_length begins.inside
 
 pub whole_same : {S : Type 0} (g : store.Ghosts S) (old : S) (records : List Record) (k : ℕ) → Begins g old records k → IsTrue (g.honest old)
     → whole g old records k ≡ g.list old
@@ -191,7 +191,7 @@ stopped_step : {S : Type 0} (g : store.Ghosts S) (old now : S) (records : List R
     → opened (closed_state (whole g old records k)) (Some (k, fault)) ≡ refused (closed_state (whole g old records k)) fault
 stopped_step g old now records k fault has =
     stops (whole g old records k) k fault (first_illegal (whole g old records k))
-    (λ j is. omega (arith, has.begins.long, illegal_after records (drop k (g.list old)) j has.legal is))
+    (λ j is. omega (arith, has.begins.same_length, illegal_after records (drop k (g.list old)) j has.legal is))
 
 -- an opening that a fault ends at a place
 pub stopped_at : {S : Type 0} (g : store.Ghosts S) (old now next : S) (records : List Record) (k loads : ℕ) (fault : SignFault) → HasLoaded g old now records k k
@@ -205,7 +205,7 @@ pub stopped_at : {S : Type 0} (g : store.Ghosts S) (old now next : S) (records :
     → LoadsAll g old next (IsTakenUp (Err fault))
 stopped_at g old now next records k loads fault has load stopped list moments failures refusals unreadable honest most stays asked gave order = record {
   records = whole g old records k;
-  long = whole_long g old records k has.begins;
+  same_length = whole_long g old records k has.begins;
   same = whole_same g old records k has.begins;
   chance = Some (k, fault);
   outcome = refused (closed_state (whole g old records k)) fault;
@@ -221,7 +221,7 @@ stopped_at g old now next records k loads fault has load stopped list moments fa
   loads = loads;
   given = k;
   asked = asked;
-  gave = gave_whole g old next records (drop k (g.list old)) k has.begins.long (gave ∙ has.gave);
+  gave = gave_whole g old next records (drop k (g.list old)) k has.begins.same_length (gave ∙ has.gave);
   order = order;
   honest = honest;
   most = most;
@@ -299,11 +299,11 @@ illegal_at g old now next records k entry has loads not =
     let begins = begins_more g old now next records k entry has.kept has.begins loads in
     let kept = kept_some g old now next k entry has.kept loads in record {
       records = whole g old (records ++ entry ∷ []) (k + 1);
-      long = whole_long g old (records ++ entry ∷ []) (k + 1) begins;
+      same_length = whole_long g old (records ++ entry ∷ []) (k + 1) begins;
       same = whole_same g old (records ++ entry ∷ []) (k + 1) begins;
       chance = None;
       outcome = refused (closed_state (whole g old (records ++ entry ∷ []) (k + 1))) (Illegal k);
-      step = illegal_step records (drop (k + 1) (g.list old)) entry k has.begins.long has.legal not;
+      step = illegal_step records (drop (k + 1) (g.list old)) entry k has.begins.same_length has.legal not;
       answer = refl;
       load = sym has.kept.stopped ∙ loads.loads.0;
       stopped = kept.stopped;
@@ -315,7 +315,7 @@ illegal_at g old now next records k entry has loads not =
       loads = k + 1;
       given = k + 1;
       asked = asked_more g old now next k has.asked loads.asked;
-      gave = gave_whole g old next (records ++ entry ∷ []) (drop (k + 1) (g.list old)) (k + 1) begins.long (gave_more g old now next records entry has.gave loads.gave);
+      gave = gave_whole g old next (records ++ entry ∷ []) (drop (k + 1) (g.list old)) (k + 1) begins.same_length (gave_more g old now next records entry has.gave loads.gave);
       order = (refl, refl);
       honest = kept.honest;
       most = kept.most;
@@ -352,18 +352,18 @@ unroomed g old now next table k entry is loads follows lacking =
     let lacks : RunsOutOfMemory (whole g old records (k + 1)) = record {
       place = k;
       entry = entry;
-      stands = record_there table.records more entry k is.loaded.begins.long;
-      legal = subst IsLegal (sym (take_at records more (k + 1) begins.long)) (legal_from_none records (omega (arith, begins.long)) legal);
+      stands = record_there table.records more entry k is.loaded.begins.same_length;
+      legal = subst IsLegal (sym (take_at records more (k + 1) begins.same_length)) (legal_from_none records (omega (arith, begins.same_length)) legal);
       later = is.some;
-      lacking = elim lacking [ inl (takes, none) ↦ inl takes | inr full ↦ inr (sym is.loaded.begins.long ∙ full) ];
+      lacking = elim lacking [ inl (takes, none) ↦ inl takes | inr full ↦ inr (sym is.loaded.begins.same_length ∙ full) ];
     } in record {
       records = whole g old records (k + 1);
-      long = whole_long g old records (k + 1) begins;
+      same_length = whole_long g old records (k + 1) begins;
       same = whole_same g old records (k + 1) begins;
       chance = Some (k, NoMemoryToOpen);
       outcome = refused (closed_state (whole g old records (k + 1))) NoMemoryToOpen;
       step = stops (records ++ more) k NoMemoryToOpen (first_illegal (records ++ more))
-          (λ j at. omega (arith, begins.long, illegal_after records more j legal at));
+          (λ j at. omega (arith, begins.same_length, illegal_after records more j legal at));
       answer = refl;
       load = (is.loaded.running is.some, is.loaded.begins.inside);
       stopped = kept.stopped;
@@ -375,7 +375,7 @@ unroomed g old now next table k entry is loads follows lacking =
       loads = k + 1;
       given = k + 1;
       asked = asked_more g old now next k is.loaded.asked loads.asked;
-      gave = gave_whole g old next records more (k + 1) begins.long (gave_more g old now next table.records entry is.loaded.gave loads.gave);
+      gave = gave_whole g old next records more (k + 1) begins.same_length (gave_more g old now next table.records entry is.loaded.gave loads.gave);
       order = inr (refl, refl, lacks, refl);
       honest = kept.honest;
       most = kept.most;
@@ -387,7 +387,7 @@ pub untaken : {S : Type 0} (g : store.Ghosts S) (old now next : S) (table left :
     → IsLoadedTo g old now table k k → LoadsRecord g now next k (Ok (Some entry)) → TakesUpLoaded {A = Unit {0}} table left entry (Err fault)
     → LoadsAll g old next (IsTakenUp (Err fault))
 untaken g old now next table left k entry (Illegal slot) is loads takes =
-    let same : k ≡ slot = sym is.loaded.begins.long ∙ sym takes.1 in
+    let same : k ≡ slot = sym is.loaded.begins.same_length ∙ sym takes.1 in
     subst (λ n. LoadsAll g old next (IsTakenUp (Err (Illegal n)))) same
     (illegal_at g old now next table.records k entry is.loaded loads (key_follows table entry false is.keyed takes.0))
 untaken g old now next table left k entry NoMemoryToOpen is loads takes =
@@ -460,7 +460,7 @@ all_taken g old now table k loads is end last =
     let begins = is.loaded.begins in
     let kept = is.loaded.kept in record {
       records = table.records;
-      long = omega (arith, begins.long, begins.inside, end);
+      same_length = omega (arith, begins.same_length, begins.inside, end);
       same = λ honest. begins.same honest ∙ take_all k (g.list old) end;
       chance = None;
       outcome = answered (open_state table.records) public;
@@ -476,8 +476,8 @@ all_taken g old now table k loads is end last =
       loads = loads;
       given = k;
       asked = is.loaded.asked;
-      gave = is.loaded.gave ∙ ap (λ l. g.given old ++ l) (sym (take_all k table.records (omega (arith, begins.long))));
-      order = (sym begins.long, last);
+      gave = is.loaded.gave ∙ ap (λ l. g.given old ++ l) (sym (take_all k table.records (omega (arith, begins.same_length))));
+      order = (sym begins.same_length, last);
       honest = kept.honest;
       most = kept.most;
       stays = kept.stays;
@@ -489,7 +489,7 @@ all_tied g old now table k loads is end =
     let begins = is.loaded.begins in
     let kept = is.loaded.kept in record {
       running = kept.stopped ∙ is.loaded.running is.some;
-      long = omega (arith, ap length kept.list, begins.long, begins.inside, end);
+      same_length = omega (arith, ap length kept.list, begins.same_length, begins.inside, end);
       same = λ honest. kept.list ∙ sym (begins.same (subst IsTrue kept.honest honest) ∙ take_all k (g.list old) end);
     }
 
@@ -530,8 +530,8 @@ key_refused g old next entry None only loads other =
     illegal_at g old old next [] 0 entry (none_loaded g old only) loads (not_first entry (other refl))
 
 no_records : (list : List Record) → length list ≤ 0 → [] ≡ list
-no_records [] few = refl
-no_records (entry ∷ entries) few = absurd (omega (arith, few))
+no_records [] within_limit = refl
+no_records (entry ∷ entries) within_limit = absurd (omega (arith, within_limit))
 
 pub none_there : {S : Type 0} (g : store.Ghosts S) (old next : S) → LeavesItsList g old → LoadsRecord g old next 0 (Ok None)
     → LoadsAll g old next (IsTakenUp (Err NoKey))
@@ -539,7 +539,7 @@ none_there g old next only loads =
     let kept = kept_none g old old next 0 (none_loaded g old only).kept loads in
     let empty = no_records (g.list old) loads.loads.1 in record {
       records = [];
-      long = ap length empty;
+      same_length = ap length empty;
       same = λ honest. empty;
       chance = None;
       outcome = refused (closed_state []) NoKey;
@@ -569,7 +569,7 @@ loaded_with : {S : Type 0} (g : store.Ghosts S) (old new : S) (P Q : Outcome Any
     → ((outcome : Outcome AnyPublic) → P outcome → Q outcome) → LoadsAll g old new P → LoadsAll g old new Q
 loaded_with g old new P Q to loads = record {
   records = loads.records;
-  long = loads.long;
+  same_length = loads.same_length;
   same = loads.same;
   chance = loads.chance;
   outcome = loads.outcome;

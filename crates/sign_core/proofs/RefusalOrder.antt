@@ -177,7 +177,7 @@ by_fields state trees level leaf identifier (seed ∷ []) fate Rest next are mor
 by_fields state trees level leaf identifier (seed ∷ randomizer ∷ []) fate Rest next are more =
     let secret = lms_secret (slice_index_or trees.pairs level trees.top.pair) identifier seed in
     let entry = extend_record trees state.records level secret randomizer leaf in
-    is_absent RandomFailed (λ few. absurd (omega (arith, few))) (by_append state entry fate next (more entry refl))
+    is_absent RandomFailed (λ within_limit. absurd (omega (arith, within_limit))) (by_append state entry fate next (more entry refl))
 by_fields state trees level leaf identifier (seed ∷ randomizer ∷ other ∷ rest) fate Rest next are more = absurd (are.2.2.2)
 
 by_known : (state : State) (trees : Trees) (level leaf : ℕ) (fields : List (List ℕ)) (fate : Fate) (IsKnown : List ℕ → Type 0)
@@ -187,7 +187,7 @@ by_known : (state : State) (trees : Trees) (level leaf : ℕ) (fields : List (Li
     → RefusesTree IsKnown (record { fields = fields; fate = fate }) Rest (extended_identifier state trees level leaf fields fate next).answer
 by_known state trees level leaf [] fate IsKnown Rest next are knows more = is_there RandomFailed (omega arith) refl
 by_known state trees level leaf (identifier ∷ fields) fate IsKnown Rest next are knows more =
-    is_absent RandomFailed (λ few. absurd (omega (arith, few)))
+    is_absent RandomFailed (λ within_limit. absurd (omega (arith, within_limit)))
     (by_test RandomRepeated (has_identifier state.records identifier) state (extended_seed state trees level leaf identifier fields fate next)
     (λ known. (identifier, (fields, refl), knows.forth identifier known))
     (λ cause.
@@ -231,14 +231,14 @@ by_randomizer : (state : State) (key : Key) (name : List ℕ) (secret : Secret) 
     (bound_message state key name (randomizer_of_fields secret fields) given fate).answer
 by_randomizer state key name (Lms secret) [] given fate are = is_there RandomFailed (omega arith) refl
 by_randomizer state key name (Lms secret) (c ∷ []) given fate are =
-    is_absent RandomFailed (λ few. omega (arith, few)) (by_given state key name c given fate)
+    is_absent RandomFailed (λ within_limit. omega (arith, within_limit)) (by_given state key name c given fate)
 by_randomizer state key name (Lms secret) (c ∷ other ∷ rest) given fate are = absurd (are.2)
 by_randomizer state key name (Hss levels identifier seed) [] given fate are = is_there RandomFailed (omega arith) refl
 by_randomizer state key name (Hss levels identifier seed) (c ∷ []) given fate are =
-    is_absent RandomFailed (λ few. omega (arith, few)) (by_given state key name c given fate)
+    is_absent RandomFailed (λ within_limit. omega (arith, within_limit)) (by_given state key name c given fate)
 by_randomizer state key name (Hss levels identifier seed) (c ∷ other ∷ rest) given fate are = absurd (are.2)
 by_randomizer state key name (Xmss secret) [] given fate are =
-    is_absent RandomFailed (λ few. omega (arith, few)) (by_given state key name _ given fate)
+    is_absent RandomFailed (λ within_limit. omega (arith, within_limit)) (by_given state key name _ given fate)
 by_randomizer state key name (Xmss secret) (c ∷ rest) given fate are = absurd are
 
 by_wanted : (key : Key) (name : List ℕ) (chance : Chance) (below : ℕ) → below ≤ bottom_of key.secret → AreDrawsOf key.secret chance
@@ -346,16 +346,16 @@ few_drawn (XmssSpec tree) (a ∷ b ∷ c ∷ d ∷ rest) are is = absurd (are.2.
 
 all_drawn : (spec : Spec) (fields : List (List ℕ)) (secret : Secret) → secret_of_fields spec fields ≡ Some secret
     → length fields < length (key_sizes spec) → ⊥
-all_drawn (LmsSpec pair) [] secret is few = absurd (cc (is))
-all_drawn (LmsSpec pair) (a ∷ []) secret is few = absurd (cc (is))
-all_drawn (LmsSpec pair) (a ∷ b ∷ rest) secret is few = omega (arith, few)
-all_drawn (HssSpec levels) [] secret is few = absurd (cc (is))
-all_drawn (HssSpec levels) (a ∷ []) secret is few = absurd (cc (is))
-all_drawn (HssSpec levels) (a ∷ b ∷ rest) secret is few = omega (arith, few)
-all_drawn (XmssSpec tree) [] secret is few = absurd (cc (is))
-all_drawn (XmssSpec tree) (a ∷ []) secret is few = absurd (cc (is))
-all_drawn (XmssSpec tree) (a ∷ b ∷ []) secret is few = absurd (cc (is))
-all_drawn (XmssSpec tree) (a ∷ b ∷ c ∷ rest) secret is few = omega (arith, few)
+all_drawn (LmsSpec pair) [] secret is within_limit = absurd (cc (is))
+all_drawn (LmsSpec pair) (a ∷ []) secret is within_limit = absurd (cc (is))
+all_drawn (LmsSpec pair) (a ∷ b ∷ rest) secret is within_limit = omega (arith, within_limit)
+all_drawn (HssSpec levels) [] secret is within_limit = absurd (cc (is))
+all_drawn (HssSpec levels) (a ∷ []) secret is within_limit = absurd (cc (is))
+all_drawn (HssSpec levels) (a ∷ b ∷ rest) secret is within_limit = omega (arith, within_limit)
+all_drawn (XmssSpec tree) [] secret is within_limit = absurd (cc (is))
+all_drawn (XmssSpec tree) (a ∷ []) secret is within_limit = absurd (cc (is))
+all_drawn (XmssSpec tree) (a ∷ b ∷ []) secret is within_limit = absurd (cc (is))
+all_drawn (XmssSpec tree) (a ∷ b ∷ c ∷ rest) secret is within_limit = omega (arith, within_limit)
 
 by_room : {A : Type 0} {Rest : Result A SignFault → Type 0} (test : Bool) (state : State) (rest : Outcome A) → Rest rest.answer
     → Unless (Of OutOfMemory (test ≡ false)) Rest (if not test then refused state OutOfMemory else rest).answer

@@ -98,10 +98,10 @@ module _ (below : ℕ) (records : List Record) (chance : Chance) (draw : Draw) (
       more : AreDrawnFor below (chance_with chance draws) rest.begun outcome.drawn
           → AreDrawnFor (suc below) (chance_with chance (draw ∷ draws)) (suc rest.begun)
           (identifier ++ ((seed ++ randomizer) ++ outcome.drawn))
-      more (inl (few, is)) =
+      more (inl (within_limit, is)) =
           let later = bytes_drawn (take (suc rest.begun) draws) in
           inl (
-            omega (arith, few),
+            omega (arith, within_limit),
             ap (λ bytes. identifier ++ ((seed ++ randomizer) ++ bytes)) is
                 ∙ fields_drawn identifier seed randomizer later ∙ ap (λ fields. concat fields ++ later) (sym are),
           )

@@ -21,7 +21,7 @@ pub part_lost : {S : Type 0} (write : Write S) (contents : S → Option (List �
     → WritesAll write contents result bytes old new → WritesReply bytes (contents old) (contents new) answer
 part_lost write contents (Ok x) answer bytes old new same (given, whole) = subst (WritesReply bytes (contents old) (contents new)) (sym same) whole
 part_lost write contents (Err e) (Ok x) bytes old new same part = absurd same
-part_lost write contents (Err e) (Err f) bytes old new same (done, few, written, why) =
+part_lost write contents (Err e) (Err f) bytes old new same (done, within_limit, written, why) =
     subst (λ f. WritesReply bytes (contents old) (contents new) (Err f)) (sym same) (part_written done bytes (contents old) (contents new) written)
 
 -- ---- one part after the other

@@ -370,7 +370,7 @@ module _ {S R M : Type 0} (g : store.Ghosts S) (r : source.Ghosts R) (m : messag
   binds_signs old mid new name before after capacity level key answer keyed opened stays unbound short at keeps spare ready mid_binds =
       let is = same_but old mid keeps in
       let b = subst (λ v. Binds g r m name level v new before after answer key) is mid_binds in
-      let fits = (subst (IsReady (g.most old.store) (levels_of key.secret - level)) is ready).few in
+      let fits = (subst (IsReady (g.most old.store) (levels_of key.secret - level)) is ready).within_limit in
       let full : nat_lt (g.most old.store) (length old.records + wanted_count key.secret level) ≡ false = grind (arith, nat_tests) in
       record {
         answers = record {
@@ -450,7 +450,7 @@ module _ {S R M : Type 0} (g : store.Ghosts S) (r : source.Ghosts R) (m : messag
     room = refl;
     does = binds_below.does;
     keeps = keeps_after_draws g r m (levels_of key.secret - level) old new before after _ _ _ binds_below.not_before_draws
-        (λ is same. let few = binds_below.lacks_tree is same in omega (arith, few, within)) binds_below.does;
+        (λ is same. let within_limit = binds_below.lacks_tree is same in omega (arith, within_limit, within)) binds_below.does;
     not_before_caches = after_caches answer binds_below.not_before_draws;
   }
 

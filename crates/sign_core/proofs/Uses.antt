@@ -284,7 +284,7 @@ hss_uses records version pair rest identifier seed root message k bound uses is 
     let bottom = signing_of_bound trees records tree bound in
     let levels = hss_levels records version pair rest identifier seed root message k bound is in
     let t = hss_textbook above bottom in
-    let t_spelled = hss_textbook_spelled above bottom (omega (arith, levels.count, levels.few)) levels.sized in
+    let t_spelled = hss_textbook_spelled above bottom (omega (arith, levels.count, levels.within_limit)) levels.sized in
     let same : s ≡ t = (unambiguous hss_signature hss_one_way).one_value s t (hss_signature_bytes t) spelled t_spelled in
     let made_entry : HssSignature → ℕ → LeafUse = λ s i. lms_use (key_at top s i) (message_at message s i) (hss_signature_at s i) in
     let count : length t.signed ≡ length above = signed-count signature_of key_of above bottom in

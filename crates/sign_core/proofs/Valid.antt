@@ -160,7 +160,7 @@ hss_has_trees records version pair rest identifier seed root message k bound is 
 -- key and the last the message, and their fields have their sizes.
 pub record AreLevelsOf (trees : Trees) (records : List Record) (above : List Signing) (bottom : Signing) (message : List ℕ) : Type 0 where
   pub count : length above + 1 ≡ length trees.pairs
-  pub few : length trees.pairs ≤ 8
+  pub within_limit : length trees.pairs ≤ 8
   pub chained : AreChained trees records above bottom
   pub sized : AreSized above bottom
   pub signs : AreSigning above bottom message
@@ -177,11 +177,11 @@ hss_levels records version pair rest identifier seed root message k bound is =
     let level = length (pair ∷ rest) - 1 in
     let tree = current_at level records k in
     let bottom = signing_of_bound trees records tree bound in
-    let (some, few) = (is.sizes 0 (KeyRecord key) is.first).0.2 in
+    let (some, within_limit) = (is.sizes 0 (KeyRecord key) is.first).0.2 in
     let (count, links) = chained key trees records level k tree bottom refl is.first is.current refl is.sound in
     let (sized, signs) = chain_signs trees records (chain_signings trees level records tree) bottom message (link_sized key trees records has)
     (bound_sized key trees records has k tree bound is.stands is.current) is.digest links in
-    record { count = omega (arith, count, some); few = few; chained = links; sized = sized; signs = signs }
+    record { count = omega (arith, count, some); within_limit = within_limit; chained = links; sized = sized; signs = signs }
 
 hss_public_is : (trees : Trees) (records : List Record) (above : List Signing) (bottom : Signing) (message : List ℕ) (levels : ℕ) (public : LmsPublic)
     → length above + 1 ≡ levels → lms_public_of trees.top ≡ public → AreChained trees records above bottom
@@ -208,7 +208,7 @@ hss_checked records version pair rest identifier seed root message k bound is =
     let levels = hss_levels records version pair rest identifier seed root message k bound is in
     let public : lms_public_of trees.top ≡ lms_rooted_public (lms_secret pair identifier seed) root = ap (lms_rooted_public (lms_secret pair identifier seed)) (sym is.root) in (
       hss_textbook above bottom,
-      hss_textbook_spelled above bottom (omega (arith, levels.count, levels.few)) levels.sized,
+      hss_textbook_spelled above bottom (omega (arith, levels.count, levels.within_limit)) levels.sized,
       hss_public_is trees records above bottom message (length (pair ∷ rest)) (lms_rooted_public (lms_secret pair identifier seed) root) levels.count public levels.chained
           (hss_textbook_valid above bottom message levels.signs),
     )

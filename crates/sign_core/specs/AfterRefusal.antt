@@ -67,7 +67,7 @@ IsNextWanted key before level name chance trees entry =
 pub record LeavesTrees (key : Key) (before : List Record) (level : ℕ) (name : List ℕ) (chance : Chance)
     (outcome : Outcome (List ℕ)) : Type 0 where
   pub trees : List Record
-  pub few : length trees ≤ bottom_of key.secret - level
+  pub within_limit : length trees ≤ bottom_of key.secret - level
   pub each : (i : ℕ) (entry : Record) → slice_get trees i ≡ Some entry
       → BeginsDrawn key (before ++ take i trees) level chance.trees i entry
   pub leaves : LeavesRecords (before ++ trees) (IsNextWanted key before level name chance trees) outcome

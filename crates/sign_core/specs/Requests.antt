@@ -131,7 +131,7 @@ pub record AreRequestsAnswered (limit : ℕ) (world : World) : Type 0 where
       → has_moved world.state.records ≡ true → the_key world.state.records ≡ Some key
       → requested limit world.state name chance ≡ refused world.state Moved
   -- a new name that is longer than a file of the key's version can hold is refused, and changes nothing
-  pub long : (key : Key) (name : List ℕ) (chance : Chance) → world.state.is_open ≡ true
+  pub long_name : (key : Key) (name : List ℕ) (chance : Chance) → world.state.is_open ≡ true
       → has_moved world.state.records ≡ false → the_key world.state.records ≡ Some key
       → binding_at world.state.records name ≡ None → name_most key.version < length name
       → requested limit world.state name chance ≡ refused world.state LongName

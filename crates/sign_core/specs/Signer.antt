@@ -72,7 +72,7 @@ state_of view = record { records = view.records; is_open = view.is_open }
 -- The store runs and has as many records; an honest one has these.
 pub record IsTied {S : Type 0} (g : store.Ghosts S) (kept_in : S) (records : List Record) : Type 0 where
   pub running : g.stopped kept_in ≡ false
-  pub long : length (g.list kept_in) ≡ length records
+  pub same_length : length (g.list kept_in) ≡ length records
   pub same : IsTrue (g.honest kept_in) → g.list kept_in ≡ records
 
 -- Its records are legal. While it is open, they are its store's; where it is closed, its store has stopped.
@@ -397,7 +397,7 @@ GoesTo most chance records before after loads given (Err _) = ⊥
 pub record LoadsAll {S : Type 0} (g : store.Ghosts S) (old new : S) (IsAnswer : Outcome AnyPublic → Type 0)
     : Type 0 where
   pub records : List Record
-  pub long : length records ≡ length (g.list old)
+  pub same_length : length records ≡ length (g.list old)
   pub same : IsTrue (g.honest old) → records ≡ g.list old
   pub chance : Opening
   pub outcome : Outcome AnyPublic

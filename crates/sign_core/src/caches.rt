@@ -205,7 +205,7 @@ impl Caches {
         &mut self,
         asked: TreeRequest<'_, LmsSecret, P>,
     ) -> SigningTree
-        requires few { asked.level < 8 }
+        requires within_limit { asked.level < 8 }
         requires inside { asked.leaf < 2 ^ height_of asked.secret.pair.tree }
         ensures secret { result.secret ≡ asked.entry.secret }
         ensures leaf { result.leaf ≡ asked.entry.leaf }

@@ -70,7 +70,7 @@ impl SecretTrees {
     ) -> Result<(), u32>
         requires trees { MakesTrees ledger.now.key.secret self.now }
         requires level { level < levels_of ledger.now.key.secret }
-        requires few { level < 8 }
+        requires within_limit { level < 8 }
         requires free { 0 < free_at ledger.now.key.secret ledger.now.records level }
         ensures sound { OnOk result (damaged_at ledger.now.key level ledger.now.records
             (current_at level ledger.now.records (length ledger.now.records)) ≡ None) }
@@ -204,7 +204,7 @@ impl Caches {
         progress: &P,
     ) -> Result<(), SignFault>
         requires trees { MakesTrees ledger.now.key.secret keys.now }
-        requires few { level < 8 }
+        requires within_limit { level < 8 }
         ensures fault { IfErr result (λ fault. fault ≡ SignFault.OutOfMemory) }
         ensures lacking { OnErr result
             (LacksCache ledger.now.key ledger.now.records (Some level) before self.old) }

@@ -308,7 +308,7 @@ impl<S: Store, R: Source> Signer<S, R> {
         requires follows { can_follow (the_key self.old.records) self.old.records entry ≡ true }
         requires fits { FitsVersion (file_version self.old.records) entry }
         requires sizes { HasSizes entry }
-        requires few { length self.old.records < S.most self.old.store }
+        requires within_limit { length self.old.records < S.most self.old.store }
         requires counted { length self.old.records < 2 ^ 32 - 1 }
         requires room { TakesMemory entry → 0 < self.old.spare }
         ensures adds { Adds S.Store self.old self.new entry result }

@@ -80,7 +80,7 @@ impl CurrentTrees {
     /// Takes up an Extend, which names a leaf of the level above and makes a tree of its own.
     pub(crate) fn extend(&mut self, level: usize, parent_leaf: u32, place: u32)
         requires below { 0 < level }
-        requires few { level < 8 }
+        requires within_limit { level < 8 }
         requires leaf { parent_leaf + 1 < 2 ^ 32 }
         ensures { FollowsExtend self.old.levels level parent_leaf place self.new.levels }
     {

@@ -46,7 +46,7 @@ fn fill(out: &mut Vec<u8>, size: usize)
 /// Writes the signature of a key with this chain of trees, from the top down, over the whole of `into`. An XMSS key has
 /// no chain.
 pub(crate) fn write_chain(secret: &Secret, above: &[Level], last: &Level, into: &mut [u8])
-    requires few { length above.now ≤ 7 }
+    requires within_limit { length above.now ≤ 7 }
     requires made { AreMade (above.now ++ last.now ∷ []) }
     requires pairs { (trees : Trees) → trees_of secret.now ≡ Some trees
         → pairs_of (above.now ++ last.now ∷ []) ≡ trees.pairs }

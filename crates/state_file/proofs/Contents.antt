@@ -55,21 +55,21 @@ holds_or_not version content k =
 pub whole_or_not : (version : Version) (content : List ℕ) (k : ℕ) → IsOpen content k → IsWhole version content k ⊎ (IsWhole version content k → ⊥)
 whole_or_not version content k opened =
     elim (cases_lt k most_records) [
-      | inl few ↦ elim (cases_lt (256 * (k + 1)) (length content)) [
+      | inl within_limit ↦ elim (cases_lt (256 * (k + 1)) (length content)) [
         | inl ends ↦ elim (holds_or_not version content k) [
-          | inl (entry, holds) ↦ inl (record { opened = opened; few = few; ends = ends; entry = entry; holds = holds })
+          | inl (entry, holds) ↦ inl (record { opened = opened; within_limit = within_limit; ends = ends; entry = entry; holds = holds })
           | inr none ↦ inr (λ whole. none whole.entry whole.holds)
         ]
         | inr short ↦ inr (λ whole. omega (arith, short, whole.ends))
       ]
-      | inr many ↦ inr (λ whole. omega (arith, many, whole.few))
+      | inr many ↦ inr (λ whole. omega (arith, many, whole.within_limit))
     ]
 
 -- ---- beginnings
 
 pub begins-none : (version : Version) (content : List ℕ) → MayHaveKey content → Begins version content []
 begins-none version content may = record {
-  few = omega arith;
+  within_limit = omega arith;
   ends = omega (arith, may.long);
   opened = λ k below. absurd (omega (arith, below));
   holds = λ k entry is. absurd (omega (arith, slice_get_within {A = Record} [] k entry is));
@@ -85,7 +85,7 @@ snoc_get (first ∷ xs) x (suc k) y is = elim (snoc_get xs x k y is) [ inl there
 pub begins-more : (version : Version) (content : List ℕ) (records : List Record) → Begins version content records → (whole : IsWhole version content (length records)) → Begins version content (records ++ whole.entry ∷ [])
 begins-more version content records begins whole =
     let count : length (records ++ whole.entry ∷ []) ≡ length records + 1 = length-append records (whole.entry ∷ []) in record {
-      few = omega (arith, count, whole.few);
+      within_limit = omega (arith, count, whole.within_limit);
       ends = omega (arith, count, whole.ends);
       opened = λ k below. elim (cases_lt k (length records)) [
         | inl before ↦ begins.opened k before
@@ -102,7 +102,7 @@ begins-whole version content records k begins below =
     elim (slice_get_cases records k).1 [
       | inl (entry, _, is, _) ↦ record {
         opened = begins.opened k below;
-        few = omega (arith, begins.few, below);
+        within_limit = omega (arith, begins.within_limit, below);
         ends = omega (arith, begins.ends, below);
         entry = entry;
         holds = begins.holds k entry is;
@@ -128,7 +128,7 @@ begins-all version content records begins may key closed =
       | inl (entry, _, is, _) ↦
           let (first, there, same) = begins-version version content records entry begins key is in (
             record {
-              few = begins.few;
+              within_limit = begins.within_limit;
               opened = begins.opened;
               closed = closed;
               first = (first, there);
@@ -143,7 +143,7 @@ begins-all version content records begins may key closed =
 
 pub spelled-begins : (content : List ℕ) (records : List Record) → SpellsRecords content records → Begins (file_version records) content records
 spelled-begins content records is = record {
-  few = is.few;
+  within_limit = is.within_limit;
   ends = closed-reaches content (length records) is.closed;
   opened = is.opened;
   holds = is.holds;
@@ -177,7 +177,7 @@ judged version content records begins may key known more =
 -- from whole slot to whole slot, up to the greatest number
 opening_from : (version : Version) (content : List ℕ) (left : ℕ) (records : List Record) → left + length records ≡ most_records → Begins version content records → MayHaveKey content → begins_key (fields_at content 0) ≡ true
     → version_of (fields_at content 0) ≡ Some version → (opening : ContentKind) × OpensAs content opening
-opening_from version content zero records count begins may key known = judged version content records begins may key known (λ whole. absurd (omega (arith, count, whole.few)))
+opening_from version content zero records count begins may key known = judged version content records begins may key known (λ whole. absurd (omega (arith, count, whole.within_limit)))
 opening_from version content (suc left) records count begins may key known =
     judged version content records begins may key known (λ whole.
     opening_from version content left (records ++ whole.entry ∷ []) (omega (arith, count, length-append records (whole.entry ∷ []))) (begins-more version content records begins whole) may key known)
@@ -198,7 +198,7 @@ some_opening content =
     elim (cases_lt (length content) 257) [
       | inl short ↦ (no_key, inl short)
       | inr long ↦ elim (open_or_closed content 0 (omega (arith, long))) [
-        | inl opened ↦ opening_with_key content (record { long = long; opened = opened })
+        | inl opened ↦ opening_with_key content (record { at_least_257 = long; opened = opened })
         | inr closed ↦ (no_key, inr closed)
       ]
     ]
@@ -212,7 +212,7 @@ no_key_may content (inr closed) may = not_both content 0 may.opened closed
 spelled-may : (content : List ℕ) (records : List Record) → SpellsRecords content records → MayHaveKey content
 spelled-may content records is =
     let some = slice_get_within records 0 (KeyRecord is.first.0) is.first.1 in
-    record { long = omega (arith, some, closed-reaches content (length records) is.closed); opened = is.opened 0 some }
+    record { at_least_257 = omega (arith, some, closed-reaches content (length records) is.closed); opened = is.opened 0 some }
 
 spelled-key : (content : List ℕ) (records : List Record) → SpellsRecords content records → (begins_key (fields_at content 0) ≡ true) × (version_of (fields_at content 0) ≡ Some (file_version records))
 spelled-key content records is =

@@ -16,7 +16,7 @@ use Rattle.state_file.proofs.Kept.{file_ends, file_grows, file_last, read_record
 
 none_file : (content : List ℕ) → IsClosed content 0 → IsFileOf [] content
 none_file content closed = record {
-  few = omega arith;
+  within_limit = omega arith;
   first = refl;
   gate_opened = λ k below. absurd (omega (arith, below));
   closed = closed;
@@ -27,7 +27,7 @@ none_file content closed = record {
 pub copied_none : (list : List Record) (k : ℕ) (tag content : List ℕ) → k ≡ 0 → tag ≡ first_tag → IsClosed content 0 → IsCopied list k tag content
 copied_none list k tag content zero_is first closed = record { none = λ is. (closed, first); some = λ after. absurd (omega (arith, zero_is, after)) }
 
-module _ (list : List Record) (carries : IsCarriedList list) (entry : Record) (content new fields tag next : List ℕ) (fields_len : length fields ≡ 223) (next_len : length next ≡ 32) (few : length list ≤ most_records) (spelled : Spells (slot_record Two) entry fields)
+module _ (list : List Record) (carries : IsCarriedList list) (entry : Record) (content new fields tag next : List ℕ) (fields_len : length fields ≡ 223) (next_len : length next ≡ 32) (within_limit : length list ≤ most_records) (spelled : Spells (slot_record Two) entry fields)
     (tagged : next ≡ tag_of tag fields) where
   reads : (k : ℕ) → slice_get list k ≡ Some entry → read (slot_record (file_version (take k list ++ entry ∷ []))) fields 0 ≡ Ok (entry, 223)
   reads k is = ap (λ v. read (slot_record v) fields 0) (front_version list k entry carries is) ∙ read_record Two entry fields fields_len spelled
@@ -56,7 +56,7 @@ module _ (list : List Record) (carries : IsCarriedList list) (entry : Record) (c
       let ends = writes front front_len (file_ends (take k list) (gate_opened content) some.0) in
       let last : next ≡ tag_of (previous_tag (gate_opened content) (length (take k list))) fields = tagged ∙ ap (λ (l : List ℕ). tag_of l fields) (some.1 ∙ sym (ap (λ n. previous_tag (gate_opened content) n) len)) in
       let file : IsFileOf (take k list ++ entry ∷ []) (gate_opened new) =
-      file_grows (take k list) (gate_opened content) (gate_opened new) entry fields next fields_len next_len some.0 ends (omega (arith, len, below, few)) (front_keyed list k entry carries is) (reads k is) last in
+      file_grows (take k list) (gate_opened content) (gate_opened new) entry fields next fields_len next_len some.0 ends (omega (arith, len, below, within_limit)) (front_keyed list k entry carries is) (reads k is) last in
       let count : length (take k list ++ entry ∷ []) ≡ k + 1 = length_push (take k list) entry ∙ ap (λ n. n + 1) len in
       record {
         none = λ none. absurd (omega (arith, none));
@@ -69,12 +69,12 @@ module _ (list : List Record) (carries : IsCarriedList list) (entry : Record) (c
 pub copied_more : (list : List Record) (entry : Record) (k more : ℕ) (content new fields tag next : List ℕ) → IsCarriedList list → length fields ≡ 223 → length next ≡ 32 → length list ≤ most_records → Spells (slot_record Two) entry fields → next ≡ tag_of tag fields
     → more ≡ k + 1 → slice_get list k ≡ Some entry → IsCopied list k tag content → (k ≡ 0 → IsClosed content 0 → IsClosedAfter (open_value ∷ (fields ++ next)) (gate_opened new))
     → ((front : List ℕ) → 0 < k → length front ≡ 256 * k → IsClosedAfter front (gate_opened content) → IsClosedAfter (front ++ open_value ∷ (fields ++ next)) (gate_opened new)) → IsCopied list more next new
-copied_more list entry zero more content new fields tag next carries fields_len next_len few spelled tagged one_more is copied first others =
+copied_more list entry zero more content new fields tag next carries fields_len next_len within_limit spelled tagged one_more is copied first others =
     let same : 1 ≡ more = omega (arith, one_more) in
-    subst (λ n. IsCopied list n next new) same (copied_first list carries entry content new fields tag next fields_len next_len few spelled tagged is copied (first refl (copied.none refl).0))
-copied_more list entry (suc j) more content new fields tag next carries fields_len next_len few spelled tagged one_more is copied first others =
+    subst (λ n. IsCopied list n next new) same (copied_first list carries entry content new fields tag next fields_len next_len within_limit spelled tagged is copied (first refl (copied.none refl).0))
+copied_more list entry (suc j) more content new fields tag next carries fields_len next_len within_limit spelled tagged one_more is copied first others =
     subst (λ n. IsCopied list n next new) (sym one_more)
-    (copied_next list carries entry content new fields tag next fields_len next_len few spelled tagged (suc j) (omega arith) is copied (λ front len holds. others front (omega arith) len holds))
+    (copied_next list carries entry content new fields tag next fields_len next_len within_limit spelled tagged (suc j) (omega arith) is copied (λ front len holds. others front (omega arith) len holds))
 
 pub copied_all : (list : List Record) (k : ℕ) (tag content : List ℕ) → IsCarriedList list → k ≡ length list → IsCopied list k tag content → IsFileOf list (gate_opened content)
 copied_all list k tag content carries all copied =

@@ -63,12 +63,12 @@ gate_closed content k within other = closed_gate content k within (λ is_open. t
 -- ---- slots
 
 pub has_whole : (version : Version) (content : List ℕ) (k : ℕ) (entry : Record) (tag : List ℕ) → IsOpen content k → HasSlot version content k entry tag → IsWhole version content k
-has_whole version content k entry tag opened slot = record { opened = opened; few = slot.few; ends = slot.ends; entry = entry; holds = slot.holds }
+has_whole version content k entry tag opened slot = record { opened = opened; within_limit = slot.within_limit; ends = slot.ends; entry = entry; holds = slot.holds }
 
 pub slot_found : (version : Version) (content previous fields tag : List ℕ) (k : ℕ) (entry : Record) → k < most_records → 256 * (k + 1) < length content → previous ≡ previous_tag content k → fields ≡ fields_at content k → tag ≡ tag_at content k
     → Spells (slot_record version) entry fields → tag ≡ tag_of previous fields → HasSlot version content k entry tag
-slot_found version content previous fields tag k entry few ends before fields_are tag_is spelled tagged = record {
-  few = few;
+slot_found version content previous fields tag k entry within_limit ends before fields_are tag_is spelled tagged = record {
+  within_limit = within_limit;
   ends = ends;
   holds = record {
     spelled = subst (Spells (slot_record version) entry) fields_are spelled;
@@ -148,7 +148,7 @@ pub spelled_file : (records : List Record) (content : List ℕ) → SpellsRecord
 spelled_file records content is =
     let within : 256 * length records < length content = is.closed.0 in
     record {
-      few = is.few;
+      within_limit = is.within_limit;
       first = let (rest, same) = the_first records (KeyRecord is.first.0) is.first.1 in ap begins_with_key same;
       opened = is.opened;
       closed = is.closed;

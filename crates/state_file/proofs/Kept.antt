@@ -49,7 +49,7 @@ file_stays records content c file ends =
     let len : length (take n content) ≡ n = length-take-le n content (omega (arith, file.closed.0)) in
     let same : take n c ≡ take n content = ap (λ m. take m c) (sym len) ∙ ends.begins in
     record {
-      few = file.few;
+      within_limit = file.within_limit;
       first = file.first;
       opened = λ k below. open_by_byte c k (omega (arith, len, ends.closed.0)) (same_byte n (256 * k) c content same (omega arith) ∙ open_byte content k (file.opened k below));
       closed = (omega (arith, len, ends.closed.0), λ is_open. ends.closed.1 (ap (λ m. slice_index c m) len ∙ is_open));
@@ -172,7 +172,7 @@ module _ (records : List Record) (content c : List ℕ) (entry : Record) (fields
   pub file_grows : length records < most_records → begins_with_key (records ++ entry ∷ []) ≡ true → read (slot_record (file_version (records ++ entry ∷ []))) fields 0 ≡ Ok (entry, 223) → tag ≡ tag_of (previous_tag content (length records)) fields
       → IsFileOf (records ++ entry ∷ []) c
   file_grows room key spelled tagged = record {
-    few = omega (arith, count);
+    within_limit = omega (arith, count);
     first = key;
     opened = λ k below. elim (old_or_new k below) [
       | inl old ↦ open_by_byte c k (omega (arith, new_within, n-is)) (same_byte n (256 * k) c content same_front (omega (arith, n-is)) ∙ open_byte content k (file.opened k old))

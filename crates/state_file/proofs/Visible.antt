@@ -17,9 +17,9 @@ visible-name bytes name =
     and_from _ _ (le-leb _ _ low) (le-leb _ _ high))
 
 pub name-visible : (bytes : List ℕ) → 1 ≤ length bytes → length bytes ≤ 128 → are_visible bytes ≡ true → IsName bytes
-name-visible bytes some few visible = record {
-  some = some;
-  few = few;
+name-visible bytes some within_limit visible = record {
+  non_empty = some;
+  within_limit = within_limit;
   visible = λ k d within.
       let (low, high) = and_parts _ _ (AllPass-from_list_all (λ b. nat_le 0x21 b && nat_le b 0x7e) bytes visible k d within) in
       (leb-true _ _ low, leb-true _ _ high);
@@ -27,9 +27,9 @@ name-visible bytes some few visible = record {
 
 pub visible_or_not : {E : Type 0} (bytes : List ℕ) (made : Result (List ℕ) E) → 1 ≤ length bytes → length bytes ≤ 128 → (IsOk made ↔ IsName bytes) → IfOk made (λ name. name ≡ bytes)
     → MatchOption (result_ok made) (are_visible bytes ≡ false) (λ name. (are_visible bytes ≡ true) × (name ≡ bytes))
-visible_or_not bytes (Ok name) some few reported same = (visible-name bytes (reported.0 refl), same)
-visible_or_not bytes (Err e) some few reported same =
+visible_or_not bytes (Ok name) some within_limit reported same = (visible-name bytes (reported.0 refl), same)
+visible_or_not bytes (Err e) some within_limit reported same =
     elim (are_visible bytes) as (λ test. are_visible bytes ≡ test → test ≡ false) [
-      | true ↦ λ visible. absurd (let ok = reported.1 (name-visible bytes some few visible) in cc)
+      | true ↦ λ visible. absurd (let ok = reported.1 (name-visible bytes some within_limit visible) in cc)
       | false ↦ λ hidden. refl
     ] refl

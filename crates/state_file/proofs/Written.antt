@@ -51,16 +51,16 @@ zeros-zero (suc n) zero = refl
 zeros-zero (suc n) (suc m) = zeros-zero n m
 
 zeros-length : (n m : ℕ) → n ≤ m → length {A = ℕ} (take n (replicate m 0)) ≡ n
-zeros-length zero m few = refl
-zeros-length (suc n) zero few = absurd (omega arith)
-zeros-length (suc n) (suc m) few = ap suc (zeros-length n m (omega arith))
+zeros-length zero m within_limit = refl
+zeros-length (suc n) zero within_limit = absurd (omega arith)
+zeros-length (suc n) (suc m) within_limit = ap suc (zeros-length n m (omega arith))
 
 pub writes-zeros : (n m : ℕ) (old new : List ℕ) → n ≤ m → new ≡ old ++ take n (replicate m 0) → AppendsSpelling (zeros n) tt old new
 unfolding zeros
-writes-zeros n m old new few is = record {
+writes-zeros n m old new within_limit is = record {
   part = take n (replicate m 0);
   after = is;
-  spelled = spells-only_if n (λ bytes. list_all (λ b. b == 0) bytes) (λ _. tt) (take n (replicate m 0)) (zeros-length n m few) (zeros-zero n m);
+  spelled = spells-only_if n (λ bytes. list_all (λ b. b == 0) bytes) (λ _. tt) (take n (replicate m 0)) (zeros-length n m within_limit) (zeros-zero n m);
 }
 
 pub writes-exactly : (bytes old new : List ℕ) → new ≡ old ++ bytes → AppendsSpelling (exactly (length bytes) bytes) tt old new

@@ -73,7 +73,7 @@ most_records = 2 ^ 31
 -- The content spells these records, in their Key's version. The first slots are open and hold them, and the next gate
 -- is in the content and closed. Bytes after it don't count.
 pub record SpellsRecords (content : List ℕ) (records : List Record) : Type 0 where
-  pub few : length records ≤ most_records
+  pub within_limit : length records ≤ most_records
   pub opened : (k : ℕ) → k < length records → IsOpen content k
   pub closed : IsClosed content (length records)
   pub first : (key : Key) × (slice_get records 0 ≡ Some (KeyRecord key))
@@ -88,7 +88,7 @@ HasNoKey content = (length content < 257) ⊎ IsClosed content 0
 
 -- otherwise there may be a key
 pub record MayHaveKey (content : List ℕ) : Type 0 where
-  pub long : 257 ≤ length content
+  pub at_least_257 : 257 ≤ length content
   pub opened : IsOpen content 0
 
 -- whether a slot's fields begin as a Key's: its kind and the magic
@@ -113,14 +113,14 @@ pub record HasUnknownVersion (content : List ℕ) : Type 0 where
 -- is in the content.
 pub record IsWhole (version : Version) (content : List ℕ) (k : ℕ) : Type 0 where
   pub opened : IsOpen content k
-  pub few : k < most_records
+  pub within_limit : k < most_records
   pub ends : 256 * (k + 1) < length content
   pub entry : Record
   pub holds : Holds version content k entry
 
 -- The content begins with slots that hold these records, in this version, and the next gate is in it.
 pub record Begins (version : Version) (content : List ℕ) (records : List Record) : Type 0 where
-  pub few : length records ≤ most_records
+  pub within_limit : length records ≤ most_records
   pub ends : 256 * length records < length content
   pub opened : (k : ℕ) → k < length records → IsOpen content k
   pub holds : (k : ℕ) (entry : Record) → slice_get records k ≡ Some entry → Holds version content k entry
@@ -145,7 +145,7 @@ StandsFor (entry ∷ entries) content = SpellsRecords content (entry ∷ entries
 -- The content spells these records, and the gate after them is closed. This implies `StandsFor`, in a form whose proofs
 -- are all equal.
 pub record IsFileOf (records : List Record) (content : List ℕ) : Type 0 where
-  pub few : length records ≤ most_records
+  pub within_limit : length records ≤ most_records
   pub first : begins_with_key records ≡ true
   pub opened : (k : ℕ) → k < length records → IsOpen content k
   pub closed : IsClosed content (length records)

@@ -126,7 +126,7 @@ the_key Moved is = absurd cc
 pub file_stands : (records : List Record) (content : List ℕ) → IsFileOf records content → StandsFor records content
 file_stands [] content file = inr file.closed
 file_stands (entry ∷ entries) content file = record {
-  few = file.few;
+  within_limit = file.within_limit;
   opened = file.opened;
   closed = file.closed;
   first = the_key entry file.first;

@@ -80,7 +80,7 @@ pub record StartsWithKey (version : Version) (content : List ℕ) : Type 0 where
 
 -- The slot holds the record, in this version, and has the tag; the next gate is in the content.
 pub record HasSlot (version : Version) (content : List ℕ) (k : ℕ) (entry : Record) (tag : List ℕ) : Type 0 where
-  pub few : k < most_records
+  pub within_limit : k < most_records
   pub ends : 256 * (k + 1) < length content
   pub holds : Holds version content k entry
   pub tagged : tag ≡ tag_at content k

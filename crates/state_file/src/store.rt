@@ -117,7 +117,7 @@ pub trait Store {
         ensures { result ≡ most self.now };
 
     // There are never more records than that.
-    ghost few: { (store : Self) → length (list store) ≤ most store };
+    ghost within_limit: { (store : Self) → length (list store) ≤ most store };
 
     // While no call has failed, a crash leaves the list ..
     ghost leaves_list: { (store : Self) (t : ℕ) → WhileRunning (honest store) (stopped store)

@@ -48,16 +48,16 @@ module _ {M T : Type 0} (transition : Transition M) (remaining : M → Option (L
       → takes middle (take n buffer) after
       → ((old middle new : T) (first later : List ℕ) → takes old first middle → takes middle later new → takes old (first ++ later) new)
       → (text : List ℕ) × ReadWhole transition remaining text old new × takes before text after
-  taken-last refuses pieces n buffer old read new before middle after has size less few (inl (full, gave), bytes, end) more joins =
+  taken-last refuses pieces n buffer old read new before middle after has size less within_limit (inl (full, gave), bytes, end) more joins =
       absurd (omega (arith, size, less, full))
-  taken-last refuses pieces n buffer old read new before middle after has size less few (inr (within, gave), bytes, end) more joins =
+  taken-last refuses pieces n buffer old read new before middle after has size less within_limit (inr (within, gave), bytes, end) more joins =
       let last : length (take n buffer) ≡ n = length-take-le n buffer (omega (arith, within)) in (
         has.text ++ take n buffer,
         record {
           gave = gives-all-append transition has.text (take n buffer) old read new has.gave gave;
           bytes = Consumes-trans _ _ _ _ _ has.bytes bytes;
           end = end within;
-          short = omega (arith, length-append has.text (take n buffer), has.size, last, less, few);
+          short = omega (arith, length-append has.text (take n buffer), has.size, last, less, within_limit);
         },
         joins before middle after has.text (take n buffer) has.taken more,
       )

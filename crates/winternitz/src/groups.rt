@@ -26,7 +26,7 @@ pub fn climb_whole<S: Step>(step: &S, last: u8, values: &[[u8; 32]]) -> Values
 
 /// Each value after the steps 0, .., digit - 1 of its chain. The caller gives at most 265 values, and a digit for each.
 pub fn climb_to<S: Step>(step: &S, digits: &[u8], values: &[[u8; 32]]) -> Values
-    requires few { length values.now ≤ 265 }
+    requires within_limit { length values.now ≤ 265 }
     requires digits { length values.now ≤ length digits.now }
     ensures { (i : ℕ) → i < length values.now → slice_index_or result i []
         ≡ walk (S.step_of step.now) i 0 (slice_index digits.now i) (slice_index_or values.now i []) }

@@ -34,7 +34,7 @@ pub record Stays (old new : Table) : Type 0 where
   pub spare : old.spare ≤ new.spare
 
 pub record HasRoomForOne (entry : Record) (table : Table) : Type 0 where
-  pub few : length table.records < 2 ^ 32 - 1
+  pub within_limit : length table.records < 2 ^ 32 - 1
   pub room : TakesMemory entry → 0 < table.spare
 
 -- A record can be added: it can stand after the others, its fields have their sizes, and there is room for it.

@@ -49,7 +49,7 @@ pub record Stands (records : List Record) (level : ℕ) (key : Key) : Type 0 whe
 pub record IsReady {S R : Type 0} (most wanted : ℕ) (view : View S R) : Type 0 where
   pub is_open : view.is_open ≡ true
   pub stays : has_moved view.records ≡ false
-  pub few : length view.records + wanted ≤ most
+  pub within_limit : length view.records + wanted ≤ most
   pub counted : length view.records + wanted < 2 ^ 32
   pub room : wanted ≤ view.spare
 

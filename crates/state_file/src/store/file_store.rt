@@ -45,7 +45,7 @@ pub struct FileStore<D: Disk> {
     loads: SlotList,
     given: RecordList,
     ghost counted: { count ≡ length records },
-    ghost few: { length records ≤ most_records },
+    ghost within_limit: { length records ≤ most_records },
     ghost moved_is: { moved ≡ has_moved records },
     ghost of_version: { WhileRunning (D.honest disk) stopped
         (version_code version ≡ version_code (file_version records)) },
@@ -202,7 +202,7 @@ impl<D: Disk + Drop> Store for FileStore<D> {
 
     ghost left_since = { λ store. LeftLists (D.left_since (disk_of store)) };
 
-    ghost few = { λ store. store.few };
+    ghost within_limit = { λ store. store.within_limit };
 
     ghost leaves_list = { λ store t honest running early.
         let state = D.state store.disk in (

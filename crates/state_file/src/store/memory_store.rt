@@ -128,7 +128,7 @@ impl Store for MemoryStore {
 
     ghost left_since = { λ store. HadBeen (records_of store) };
 
-    ghost few = { λ store. store.at_most_limit };
+    ghost within_limit = { λ store. store.at_most_limit };
 
     ghost leaves_list = { λ store t _ _ early. had_been_all store.records.items t early };
 

@@ -7,12 +7,12 @@ use Rattle.command.proofs.files.count_rest.Goals as goal
 pub returns-in-Ok-clause-counts : goal.returns-in-Ok-clause-counts
 returns-in-Ok-clause-counts g c =
     let (bytes, fits, counts, short, reads) = rest_ended _ _ _ _ _ _ _ _ _ c.in-Ok.is c.read_rest.ensures.reads in
-    (bytes, fits, counts [] (λ few. refl) (omega (arith, short)), reads)
+    (bytes, fits, counts [] (λ within_limit. refl) (omega (arith, short)), reads)
 
 pub returns-in-Ok-clause-bound : goal.returns-in-Ok-clause-bound
 returns-in-Ok-clause-bound g c =
     let (bytes, fits, counts, short, reads) = rest_ended _ _ _ _ _ _ _ _ _ c.in-Ok.is c.read_rest.ensures.reads in
-    let is : c.read_rest.new.taker.bytes ≡ length bytes = counts [] (λ few. refl) (omega (arith, short)) in
+    let is : c.read_rest.new.taker.bytes ≡ length bytes = counts [] (λ within_limit. refl) (omega (arith, short)) in
     omega (arith, short, is)
 
 pub returns-in-Err-Failed-clause-counts : goal.returns-in-Err-Failed-clause-counts

@@ -16,7 +16,7 @@ loop-i-preserved g c =
     let i = c.loop-i.i in
     elim c.match-signed_key.branch [
       | in-Some+in_ok-verify_by w ↦
-          let inside : i < n = omega (arith, w.in-Some.ensures.some.0 refl) in
+          let inside : i < n = omega (arith, w.in-Some.ensures.is_some.0 refl) in
           let next : c.match-signed_key.key ≡ key_at top s (i + 1) = w.key-is ∙ w.in-Some.ensures.key top in
           let verified = level-at {A = Unit {0}} top s i c.loop-i.key w.in-Some.signed.key _ (Ok tt) inside w.in-Some.ensures.signature w.in-Some.ensures.key w.in_ok-verify_by.ensures.verdict in
           record {
@@ -52,7 +52,7 @@ returns-in_err-verify_by g c =
     let top = c.args.top.now in
     let s = signature_of c.args.view.now in
     let i = c.loop-i.i in
-    let inside : i < length s.signed = omega (arith, c.in-Some.ensures.some.0 refl) in
+    let inside : i < length s.signed = omega (arith, c.in-Some.ensures.is_some.0 refl) in
     let is : c.from_residual.result ≡ Err c.in_err-verify_by.field-0.0 = search rules in
     let refused = level-at {A = Unit {0}} top s i c.loop-i.key c.in-Some.signed.key _ (Err c.in_err-verify_by.field-0.0) inside c.in-Some.ensures.signature c.in-Some.ensures.key c.in_err-verify_by.ensures.verdict in
     subst (AboveVerdict top s) (sym is)

@@ -19,7 +19,7 @@ loop-level-preserved c =
     let top = c.args.top.now in
     let s = signature_of c.args.signature.now in
     let i = c.loop-level.level in
-    let inside : i < length s.signed = omega (arith, c.in-Some.ensures.some.0 refl) in
+    let inside : i < length s.signed = omega (arith, c.in-Some.ensures.is_some.0 refl) in
     let next : c.in-Some.signed.key ≡ key_at top s (i + 1) = c.in-Some.ensures.key top in
     record {
       items = c.push.ensures.items

@@ -16,7 +16,7 @@ struct Scarce {
     loads: Option<u32>,
     asked: SlotList,
     given: RecordList,
-    ghost few: { length records.items ≤ 100 },
+    ghost within_limit: { length records.items ≤ 100 },
 }
 
 // Whether this call is the refused one, if `before` others come before that; and the new `before`.
@@ -54,7 +54,7 @@ impl Store for Scarce {
 
     ghost left_since = { λ _ _ _. Unit {0} };
 
-    ghost few = { λ store. store.few };
+    ghost within_limit = { λ store. store.within_limit };
 
     ghost leaves_list = { λ _ _ never. absurd (true≢false (sym never)) };
 

@@ -114,7 +114,7 @@ fn each_length_climbs_in_each_lane(rt: HostRuntime) {
 
 // Each chain ends where it does by itself.
 fn expect_climbs(rt: &impl Abort, digits: &[u8], values: &[[u8; 32]])
-    requires few { length values.now ≤ 265 }
+    requires within_limit { length values.now ≤ 265 }
     requires digits { length values.now ≤ length digits.now }
 {
     let to = climb_to(&Counting, digits, values);

@@ -77,17 +77,17 @@ loop-slot-preserved g c =
 pub returns-clause-loads : goal.returns-clause-loads
 returns-clause-loads g c =
     let loaded : LoadsRecord g.S.Store c.args.store.now c.load_at.new.store 0 (Ok c.in_ok-key.field-0) = c.in_ok-key.ensures in
-    let few = g.met.S.Store.few c.args.store.now in
+    let within_limit = g.met.S.Store.within_limit c.args.store.now in
     let end : length (g.S.Store.list c.args.store.now) ≤ c.loop-slot.slot =
-    omega (arith, few, loaded.most, c.limit-slot-end.ensures, c.loop-slot-test.false) in
+    omega (arith, within_limit, loaded.most, c.limit-slot-end.ensures, c.loop-slot-test.false) in
     let most : c.loop-slot.slot ≡ g.S.Store.most c.args.store.now =
-    omega (arith, few, loaded.most, c.limit-slot-end.ensures, c.loop-slot-test.false, c.loop-slot.invariant.loaded.begins.inside) in
+    omega (arith, within_limit, loaded.most, c.limit-slot-end.ensures, c.loop-slot-test.false, c.loop-slot.invariant.loaded.begins.inside) in
     all_taken g.S.Store c.args.store.now c.loop-slot.store c.loop-slot.ledger c.loop-slot.slot c.loop-slot.slot c.loop-slot.invariant end (inr (refl, most))
 
 pub returns-clause-tied : goal.returns-clause-tied
 returns-clause-tied g c =
     let loaded : LoadsRecord g.S.Store c.args.store.now c.load_at.new.store 0 (Ok c.in_ok-key.field-0) = c.in_ok-key.ensures in
-    let few = g.met.S.Store.few c.args.store.now in
+    let within_limit = g.met.S.Store.within_limit c.args.store.now in
     let end : length (g.S.Store.list c.args.store.now) ≤ c.loop-slot.slot =
-    omega (arith, few, loaded.most, c.limit-slot-end.ensures, c.loop-slot-test.false) in
+    omega (arith, within_limit, loaded.most, c.limit-slot-end.ensures, c.loop-slot-test.false) in
     all_tied g.S.Store c.args.store.now c.loop-slot.store c.loop-slot.ledger c.loop-slot.slot c.loop-slot.slot c.loop-slot.invariant end

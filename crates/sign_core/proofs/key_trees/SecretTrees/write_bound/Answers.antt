@@ -48,8 +48,8 @@ chain_to-requires-clause-inside g c =
 
 pub chain_to-requires-clause-room : goal.chain_to-requires-clause-room
 chain_to-requires-clause-room g c =
-    let (some, few) = key_levels c.args.ledger.now.records c.key-key.result.now c.key-key.ensures.sizes c.key-key.ensures.first in
-    omega (arith, some, few, c.levels-level.ensures, ap length c.new-above.ensures)
+    let (some, within_limit) = key_levels c.args.ledger.now.records c.key-key.result.now c.key-key.ensures.sizes c.key-key.ensures.first in
+    omega (arith, some, within_limit, c.levels-level.ensures, ap length c.new-above.ensures)
 
 pub write_chain-requires-clause-made : goal.write_chain-requires-clause-made
 write_chain-requires-clause-made g c =
@@ -59,10 +59,10 @@ write_chain-requires-clause-made g c =
     (subst (λ (l : List Level). AreMade (l ++ bottom ∷ [])) (sym c.deref.ensures.0)
     (more_made c.chain_to.new.above.items bottom made c.in_ok-tree-in-Chain.ensures.tree.made))
 
-pub write_chain-requires-clause-few : goal.write_chain-requires-clause-few
-write_chain-requires-clause-few g c =
-    let (some, few) = key_levels c.args.ledger.now.records c.key-key.result.now c.key-key.ensures.sizes c.key-key.ensures.first in
-    omega (arith, some, few, ap length c.deref.ensures.0, c.in_ok-tree-in-Chain.ensures.len, c.levels-level.ensures, ap length c.new-above.ensures)
+pub write_chain-requires-clause-within_limit : goal.write_chain-requires-clause-within_limit
+write_chain-requires-clause-within_limit g c =
+    let (some, within_limit) = key_levels c.args.ledger.now.records c.key-key.result.now c.key-key.ensures.sizes c.key-key.ensures.first in
+    omega (arith, some, within_limit, ap length c.deref.ensures.0, c.in_ok-tree-in-Chain.ensures.len, c.levels-level.ensures, ap length c.new-above.ensures)
 
 pub write_chain-requires-clause-trees : goal.write_chain-requires-clause-trees
 write_chain-requires-clause-trees g c =

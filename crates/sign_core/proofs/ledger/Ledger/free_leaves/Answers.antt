@@ -7,8 +7,8 @@ use Rattle.sign_core.proofs.ledger.Ledger.free_leaves.Goals as goal
 
 pub current-requires : goal.current-requires
 current-requires c =
-    let (some, few) = key_levels c.self.inside.records c.self.inside.key c.self.invariant.sizes c.self.invariant.keyed in
-    omega (arith, few, c.requires, ap (λ (t : Table). levels_of t.key.secret) c.self.view_is)
+    let (some, within_limit) = key_levels c.self.inside.records c.self.inside.key c.self.invariant.sizes c.self.invariant.keyed in
+    omega (arith, within_limit, c.requires, ap (λ (t : Table). levels_of t.key.secret) c.self.view_is)
 
 pub overflow_sub-result : goal.overflow_sub-result
 overflow_sub-result c =

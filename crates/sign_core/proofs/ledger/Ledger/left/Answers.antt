@@ -14,10 +14,10 @@ loop-level-init c = c.new-counts.ensures
 
 pub push-requires : goal.push-requires
 push-requires c =
-    let (some, few) = key_levels c.self.inside.records c.self.inside.key c.self.invariant.sizes c.self.invariant.keyed in
+    let (some, within_limit) = key_levels c.self.inside.records c.self.inside.key c.self.invariant.sizes c.self.invariant.keyed in
     let many : length c.loop-level.counts.items ≡ c.loop-level.level =
     ap length c.loop-level.invariant ∙ length-map-range_with_len _ 0 c.loop-level.level in
-    omega (arith, many, few, c.levels-level-end.ensures, c.loop-level-test.true)
+    omega (arith, many, within_limit, c.levels-level-end.ensures, c.loop-level-test.true)
 
 pub loop-level-preserved : goal.loop-level-preserved
 loop-level-preserved c =

@@ -17,15 +17,15 @@ use Rattle.sign_core.proofs.ledger.Ledger.push.Goals as goal
 -- the bottom level is one of 8
 bottom_few : (c : After-from-bottom) → c.from-bottom.result < 8
 bottom_few c =
-    let (some, few) = key_levels c.self.inside.records c.self.inside.key c.self.invariant.sizes c.self.invariant.keyed in
-    omega (arith, few, some, c.levels.ensures, c.from-bottom.ensures)
+    let (some, within_limit) = key_levels c.self.inside.records c.self.inside.key c.self.invariant.sizes c.self.invariant.keyed in
+    omega (arith, within_limit, some, c.levels.ensures, c.from-bottom.ensures)
 
 last : (c : After-from-bottom) → c.from-bottom.result ≡ bottom_of c.self.inside.key.secret
 last c = omega (arith, c.levels.ensures, c.from-bottom.ensures)
 
 pub overflow_sub-levels : goal.overflow_sub-levels
 overflow_sub-levels c =
-    let (some, few) = key_levels c.self.inside.records c.self.inside.key c.self.invariant.sizes c.self.invariant.keyed in
+    let (some, within_limit) = key_levels c.self.inside.records c.self.inside.key c.self.invariant.sizes c.self.invariant.keyed in
     omega (arith, some, c.levels.ensures)
 
 -- ---- an Extend
@@ -37,17 +37,17 @@ extend_follows c =
 
 pub place-parent-requires : goal.place-parent-requires
 place-parent-requires c =
-    let (some, few) = key_levels c.self.inside.records c.self.inside.key c.self.invariant.sizes c.self.invariant.keyed in
+    let (some, within_limit) = key_levels c.self.inside.records c.self.inside.key c.self.invariant.sizes c.self.invariant.keyed in
     let (low, high, leaf) = extend_inside c.self.inside.records c.self.inside.key c.in-Extend.extend
     (extend_follows (goal.at.place-parent-requires c).In-Extend) in
-    omega (arith, few, high, c.from-level.ensures)
+    omega (arith, within_limit, high, c.from-level.ensures)
 
-pub extend-requires-clause-few : goal.extend-requires-clause-few
-extend-requires-clause-few c =
-    let (some, few) = key_levels c.self.inside.records c.self.inside.key c.self.invariant.sizes c.self.invariant.keyed in
+pub extend-requires-clause-within_limit : goal.extend-requires-clause-within_limit
+extend-requires-clause-within_limit c =
+    let (some, within_limit) = key_levels c.self.inside.records c.self.inside.key c.self.invariant.sizes c.self.invariant.keyed in
     let (low, high, leaf) = extend_inside c.self.inside.records c.self.inside.key c.in-Extend.extend
-    (extend_follows (goal.at.extend-requires-clause-few c).In-Extend) in
-    omega (arith, few, high, c.from-level.ensures)
+    (extend_follows (goal.at.extend-requires-clause-within_limit c).In-Extend) in
+    omega (arith, within_limit, high, c.from-level.ensures)
 
 pub extend-requires-clause-leaf : goal.extend-requires-clause-leaf
 extend-requires-clause-leaf c =
@@ -57,7 +57,7 @@ extend-requires-clause-leaf c =
 
 pub invariant_of-self : goal.invariant_of-self
 invariant_of-self c =
-    let (some, few) = key_levels c.self.inside.records c.self.inside.key c.self.invariant.sizes c.self.invariant.keyed in
+    let (some, within_limit) = key_levels c.self.inside.records c.self.inside.key c.self.invariant.sizes c.self.invariant.keyed in
     let e = c.in-Extend.extend in
     let follows = extend_follows (goal.at.invariant_of-self c).In-Extend in
     let (low, high, leaf) = extend_inside c.self.inside.records c.self.inside.key e follows in
@@ -67,7 +67,7 @@ invariant_of-self c =
     grown_extend c.self.inside.records c.self.inside.key c.self.inside.made c.self.inside.bindings c.self.inside.identifiers c.self.inside.trees.levels
     c.self.inside.count c.self.inside.moved c.self.invariant e c.from-level.result c.place-parent.result follows
     (subst HasSizes c.in-Extend.is c.requires.sizes)
-    c.from-level.ensures (omega (arith, few, high, c.from-level.ensures)) c.place-parent.ensures c.extend.new.self.levels c.extend.ensures c.insert.new.self
+    c.from-level.ensures (omega (arith, within_limit, high, c.from-level.ensures)) c.place-parent.ensures c.extend.new.self.levels c.extend.ensures c.insert.new.self
     (λ place. (on_ok c.insert.result (c.insert.ensures.succeeds room) c.insert.ensures.updates).0 place) c.insert-in-Extend.new.self
     (λ identifier. (on_ok c.insert-in-Extend.result (c.insert-in-Extend.ensures.succeeds known) c.insert-in-Extend.ensures.updates).0 identifier)
     c.push.new.self (c.push.ensures ∙ ap (λ (x : Record). c.self.inside.records ++ x ∷ []) c.in-Extend.is)

@@ -86,6 +86,6 @@ returns-clause-reads g c =
 
 pub returns-clause-records : goal.returns-clause-records
 returns-clause-records g c = λ honest.
-    let few = c.args.store.now.few in
+    let within_limit = c.args.store.now.within_limit in
     all_taken g.D.Disk c.args.store.now c.loop-slot.store c.loop-slot.ledger c.loop-slot.slot c.loop-slot.invariant
-    (omega (arith, few, c.limit-slot-end.ensures, c.loop-slot-test.false)) honest
+    (omega (arith, within_limit, c.limit-slot-end.ensures, c.loop-slot-test.false)) honest

@@ -19,8 +19,8 @@ use Rattle.sign_core.proofs.signer.Signer.+bind_below.Goals as goal
 pub overflow_add-level : goal.overflow_add-level
 overflow_add-level g t c =
     let own : the_key c.args.self.now.records ≡ Some c.key.result.now = ap (λ w. the_key w.records) (sym c.self.view_is) ∙ c.key.ensures.first in
-    let few = (levels_range _ _ _ c.key.ensures.sizes c.key.ensures.first c.levels-levels.ensures).1 in
-    omega (arith, (c.requires.stands c.key.result.now own).inside, few, c.levels-levels.ensures)
+    let within_limit = (levels_range _ _ _ c.key.ensures.sizes c.key.ensures.first c.levels-levels.ensures).1 in
+    omega (arith, (c.requires.stands c.key.result.now own).inside, within_limit, c.levels-levels.ensures)
 
 pub returns-in_err-extend : goal.returns-in_err-extend
 returns-in_err-extend g t c key keyed =
@@ -59,7 +59,7 @@ bind_below-requires g t c κs within =
     (c.in_ok-extend.ensures.step c.key.result.now own) in
     let next : the_key c.extend.new.self.records ≡ Some c.key.result.now =
     key_after g.S.Store a.self.now c.extend.new.self c.key.result.now after own in
-    let few = (levels_range _ _ _ c.key.ensures.sizes c.key.ensures.first c.levels-levels.ensures).1 in
+    let within_limit = (levels_range _ _ _ c.key.ensures.sizes c.key.ensures.first c.levels-levels.ensures).1 in
     let low : a.level + 1 < levels_of c.key.result.now.secret = omega (arith, c.if-level-levels.true, c.levels-levels.ensures) in
     let wanted : levels_of c.key.result.now.secret - a.level ≡ suc (levels_of c.key.result.now.secret - (a.level + 1)) = omega (arith, low) in
     let can : CanBind (g.S.Store.most a.self.now.store) (suc (levels_of c.key.result.now.secret - (a.level + 1))) a.name.now (length a.out.now) a.self.now =
@@ -72,7 +72,7 @@ bind_below-requires g t c κs within =
       fits = λ key keyed. subst (λ (k : Key). is_long k a.name.now ≡ false) (same_Some _ _ (sym next ∙ keyed)) (can.fits c.key.result.now own);
       room = λ key keyed. subst (λ (k : Key). length a.out.now ≡ signature_size k.secret) (same_Some _ _ (sym next ∙ keyed)) room;
     } in (
-      omega (arith, c.decreases, few, low, c.levels-levels.ensures),
+      omega (arith, c.decreases, within_limit, low, c.levels-levels.ensures),
       (
         within.0,
         (

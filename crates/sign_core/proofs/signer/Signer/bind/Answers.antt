@@ -25,8 +25,8 @@ overflow_sub-bottom g c = (levels_range _ _ _ c.key.ensures.sizes c.key.ensures.
 
 pub current-requires : goal.current-requires
 current-requires g c =
-    let (some, few) = levels_range _ _ _ c.key.ensures.sizes c.key.ensures.first c.levels-bottom.ensures in
-    omega (arith, few, some)
+    let (some, within_limit) = levels_range _ _ _ c.key.ensures.sizes c.key.ensures.first c.levels-bottom.ensures in
+    omega (arith, within_limit, some)
 
 pub unreachable-requires : goal.unreachable-requires
 unreachable-requires g c =
@@ -116,9 +116,9 @@ add-requires-clause-follows g c =
     has.current_is has.leaf_is has.free refl (ap (λ w. binding_at w.records c.args.name.now) c.self.view_is ∙ c.requires.unbound)
     (c.in_ok-randomizer.ensures K.secret trees).fits
 
-pub add-requires-clause-few : goal.add-requires-clause-few
-add-requires-clause-few g c =
-    subst (λ w. length w.records < g.S.Store.most w.store) (sym c.self.view_is) (omega (arith, c.requires.ready.few))
+pub add-requires-clause-within_limit : goal.add-requires-clause-within_limit
+add-requires-clause-within_limit g c =
+    subst (λ w. length w.records < g.S.Store.most w.store) (sym c.self.view_is) (omega (arith, c.requires.ready.within_limit))
 
 pub add-requires-clause-counted : goal.add-requires-clause-counted
 add-requires-clause-counted g c =

@@ -7,9 +7,9 @@ overflow_sub-bottom g c = (levels_range _ _ _ c.key.ensures.sizes c.key.ensures.
 
 pub current-requires : goal.current-requires
 current-requires g c =
-    let few = (levels_range _ _ _ c.key.ensures.sizes c.key.ensures.first c.levels-bottom.ensures).1 in
+    let within_limit = (levels_range _ _ _ c.key.ensures.sizes c.key.ensures.first c.levels-bottom.ensures).1 in
     let some = (levels_range _ _ _ c.key.ensures.sizes c.key.ensures.first c.levels-bottom.ensures).0 in
-    omega (arith, few, some)
+    omega (arith, within_limit, some)
 
 pub leaves-requires : goal.leaves-requires
 leaves-requires g c =

@@ -4,10 +4,10 @@ use Rattle.sign_core.proofs.signer.Signer.cache_leaves.Goals as goal
 
 pub current-requires : goal.current-requires
 current-requires g c =
-    let few = (key_levels c.self.inside.ledger.records c.key.result.now c.key.ensures.sizes c.key.ensures.first).1 in
-    omega (arith, few, c.levels.ensures, c.if-level-levels.false)
+    let within_limit = (key_levels c.self.inside.ledger.records c.key.result.now c.key.ensures.sizes c.key.ensures.first).1 in
+    omega (arith, within_limit, c.levels.ensures, c.if-level-levels.false)
 
 pub leaves-requires : goal.leaves-requires
 leaves-requires g c =
-    let few = (key_levels c.self.inside.ledger.records c.key.result.now c.key.ensures.sizes c.key.ensures.first).1 in
-    omega (arith, few, c.levels.ensures, c.if-level-levels.false)
+    let within_limit = (key_levels c.self.inside.ledger.records c.key.result.now c.key.ensures.sizes c.key.ensures.first).1 in
+    omega (arith, within_limit, c.levels.ensures, c.if-level-levels.false)

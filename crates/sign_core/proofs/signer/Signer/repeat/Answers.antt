@@ -88,10 +88,10 @@ returns-in_err-make_room-clause-capacity g c =
 pub keep_trees-requires-clause-trees : goal.keep_trees-requires-clause-trees
 keep_trees-requires-clause-trees g c = subst (λ (k : Key). MakesTrees k.secret c.of-trees.result) c.key.ensures.key c.of-trees.ensures
 
-pub keep_trees-requires-clause-few : goal.keep_trees-requires-clause-few
-keep_trees-requires-clause-few g c =
-    let (some, few) = key_levels c.self.inside.ledger.records c.key.result.now c.key.ensures.sizes c.key.ensures.first in
-    omega (arith, some, few, c.levels-bottom.ensures)
+pub keep_trees-requires-clause-within_limit : goal.keep_trees-requires-clause-within_limit
+keep_trees-requires-clause-within_limit g c =
+    let (some, within_limit) = key_levels c.self.inside.ledger.records c.key.result.now c.key.ensures.sizes c.key.ensures.first in
+    omega (arith, some, within_limit, c.levels-bottom.ensures)
 
 pub returns-in_err-keep_trees-clause-step : goal.returns-in_err-keep_trees-clause-step
 returns-in_err-keep_trees-clause-step g c key keyed name kept =

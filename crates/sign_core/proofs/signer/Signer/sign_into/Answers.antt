@@ -122,15 +122,15 @@ check_current-requires-clause-level g c =
     (deepest_is i.key.secret i.records c.in_ok-level.level
     (deepest_after first.records i.records first.key i.key c.in_ok-level.level records c.self.invariant.1 c.self-2.invariant.1 (sym c.deepest.ensures ∙ some))).0
 
-pub check_current-requires-clause-few : goal.check_current-requires-clause-few
-check_current-requires-clause-few g c =
+pub check_current-requires-clause-within_limit : goal.check_current-requires-clause-within_limit
+check_current-requires-clause-within_limit g c =
     let first = c.self.inside.ledger in
     let i = c.self-2.inside.ledger in
     let keyed = ap (λ w. the_key w.records) (sym c.self.view_is) ∙ c.self.invariant.1 in
     let some = some_level c.deepest.result c.in_ok-level.level (sym c.ok_or.ensures.value ∙ c.in_ok-level.was) in
     let within = (deepest_is first.key.secret first.records c.in_ok-level.level (sym c.deepest.ensures ∙ some)).0 in
-    let few = (key_levels first.records first.key c.self.invariant.0.sizes c.self.invariant.1).1 in
-    omega (arith, within, few)
+    let within_limit = (key_levels first.records first.key c.self.invariant.0.sizes c.self.invariant.1).1 in
+    omega (arith, within, within_limit)
 
 pub check_current-requires-clause-free : goal.check_current-requires-clause-free
 check_current-requires-clause-free g c =

@@ -23,5 +23,5 @@ returns-clause-copied g c honest_old honest copied =
     let written = c.in_ok-write_slot.ensures in
     let is = record_is (g.D.Disk.honest store.disk) (carried store.records) count entry honest_old c.in_ok-entry.ensures.answer.0 in
     copied_more (carried store.records) entry count _ content new c.record_bytes-fields.result c.args.copied.now.tag c.tag-next_tag.result (carried_list store.records c.requires.moved kept.file.first) written.fields written.tag
-    (omega (arith, carried_length store.records c.requires.moved, kept.file.few)) c.record_bytes-fields.ensures c.tag-next_tag.ensures refl is copied (λ zero closed. written.first zero honest closed)
+    (omega (arith, carried_length store.records c.requires.moved, kept.file.within_limit)) c.record_bytes-fields.ensures c.tag-next_tag.ensures refl is copied (λ zero closed. written.first zero honest closed)
     (λ front after len holds. written.next front after honest len holds)

@@ -15,7 +15,7 @@ loop-copied-preserved g c =
     let done = c.in_ok-copy_slot.ensures in
     let fits : 256 * c.loop-copied.copied.count + 257 ≤ end = omega (arith, before.total, c.loop-copied-test.true) in record {
       total = before.total;
-      few = omega (arith, done.count, c.loop-copied-test.true);
+      within_limit = omega (arith, done.count, c.loop-copied-test.true);
       running = done.running;
       reads = reads_store_on g.D.Disk first c.loop-copied.store c.copy_slot.new.store before.running before.reads done.reads;
       old_failures = done.failures.0 ∙ before.old_failures;
@@ -50,6 +50,6 @@ returns-clause-copied g c honest_old honest closed =
     let before = c.loop-copied.invariant in
     let first = c.args.store.now in
     let kept = first.kept honest_old c.requires.running in
-    let all : c.loop-copied.copied.count ≡ length first.records - 1 = omega (arith, before.total, before.few, c.loop-copied-test.false) in
+    let all : c.loop-copied.copied.count ≡ length first.records - 1 = omega (arith, before.total, before.within_limit, c.loop-copied-test.false) in
     copied_all _ c.loop-copied.copied.count c.loop-copied.copied.tag (g.E.Disk.state c.loop-copied.disk).content (carried_list first.records c.requires.moved kept.file.first) (all ∙ sym (carried_length first.records c.requires.moved))
     (before.copied honest_old honest closed)

@@ -12,7 +12,7 @@ use Rattle.state_file.proofs.migration.filling.copy_slots.Given as goal
 abbrev pub invariant-loop-copied : goal.invariant-loop-copied
 invariant-loop-copied g l = record {
   total : l.count + 1 ≡ length (records_of l.initial.store);
-  few : l.copied.count ≤ l.count;
+  within_limit : l.copied.count ≤ l.count;
   running : has_stopped l.store ≡ false;
   reads : ReadsStore g.D.Disk l.initial.store l.store;
   old_failures : g.D.Disk.failures (disk_of l.store) ≡ g.D.Disk.failures (disk_of l.initial.store);

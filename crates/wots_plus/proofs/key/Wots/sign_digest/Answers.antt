@@ -11,8 +11,8 @@ use Rattle.wots_plus.proofs.key.Wots.sign_digest.Goals as goal
 pub slice_bounds-climb_to-end : goal.slice_bounds-climb_to-end
 slice_bounds-climb_to-end c = omega (arith, length-take-le 67 c.private_values-starts.result (omega arith))
 
-pub climb_to-values-requires-clause-few : goal.climb_to-values-requires-clause-few
-climb_to-values-requires-clause-few c = omega (arith, length-take-le 67 c.private_values-starts.result (omega arith))
+pub climb_to-values-requires-clause-within_limit : goal.climb_to-values-requires-clause-within_limit
+climb_to-values-requires-clause-within_limit c = omega (arith, length-take-le 67 c.private_values-starts.result (omega arith))
 
 pub climb_to-values-requires-clause-digits : goal.climb_to-values-requires-clause-digits
 climb_to-values-requires-clause-digits c =

@@ -6,7 +6,7 @@ use Rattle.state_file.proofs.store.file_store.FileStore.open.Goals as goal
 pub invariant_of-result : goal.invariant_of-result
 invariant_of-result g c = record {
   counted = c.in-Ok.ensures.counted;
-  few = omega (arith, c.in-Ok.ensures.counted, c.in-Ok.ensures.at_most_limit);
+  within_limit = omega (arith, c.in-Ok.ensures.counted, c.in-Ok.ensures.at_most_limit);
   moved_is = c.in-Ok.ensures.moved;
   of_version = λ honest running.
       let before = sym c.in-Ok.ensures.counts.honest ∙ honest in

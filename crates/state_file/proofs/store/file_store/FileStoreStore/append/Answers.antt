@@ -25,7 +25,7 @@ invariant_of-self g c = record {
       let same = goes_on_in self.records c.args.new.now self.version c.version_after-version.result (c.requires (sym c.add_slot.ensures.counts.honest ∙ honest)) of_file c.version_after-version.ensures.fits c.version_after-version.ensures.keeps_version in
       ap version_code (same ∙ ap file_version (sym c.push.ensures));
   counted = omega (arith, ap length c.push.ensures, length-append c.args.self.now.records (c.args.new.now ∷ []), c.args.self.now.counted);
-  few = omega (arith, ap length c.push.ensures, length-append c.args.self.now.records (c.args.new.now ∷ []), c.args.self.now.counted);
+  within_limit = omega (arith, ap length c.push.ensures, length-append c.args.self.now.records (c.args.new.now ∷ []), c.args.self.now.counted);
   moved_is = c.is_moved-self.ensures ∙ pushed_moved c.args.self.now.records c.push.new.self c.args.new.now c.push.ensures;
   kept = λ honest running.
       let self = c.args.self.now in
