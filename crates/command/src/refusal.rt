@@ -3,9 +3,7 @@
 ghost use Rattle.std.specs.Prelude.{◌≡◌, ◌++◌, codes, decimal};
 ghost use Rattle.std.specs.IoError.{error_kind};
 ghost use Rattle.command.specs.Output.{text_of};
-ghost use Rattle.command.specs.Refusal.{detail_of, fault_name_of, name_of, number_of, refusal_line, refusal_of};
-ghost use Rattle.command.specs.Refusal.{format_name_of, format_number_of, open_name_of, open_number_of};
-ghost use Rattle.command.specs.Refusal.{audit_name_of, given_name_of, migrate_name_of, serve_name_of, signer_name_of};
+ghost use Rattle.command.specs.Refusal.{detail_of, name_of, number_of, refusal_line, refusal_of};
 
 use crate::output::Part;
 use key_audit::{AuditFault, GivenFault};
@@ -13,7 +11,7 @@ use sign_core::{KeyFault, ServeFault, SignFault};
 use state_file::{FormatFault, MigrateFault, OpenFault};
 use std::io;
 use std::io::ErrorKind;
-use typecodes::{Cause, Refusal as SignatureRefusal};
+use typecodes::Refusal as SignatureRefusal;
 
 /// Why a command doesn't do what was requested.
 #[derive(Clone, Copy, Debug, PartialEq, Eq)]
@@ -53,12 +51,11 @@ impl Refusal {
         ensures { result ≡ number_of self.now }
     {
         match self {
-            Refusal::Key(KeyFault::Length(_)) => 6,
-            Refusal::Key(KeyFault::Unreadable(fault)) => fault.cause.number(),
+            Refusal::Key(fault) => fault.number(),
             Refusal::Signature(refusal) => refusal.number(),
             Refusal::Signer(fault) => fault.number(),
-            Refusal::Opening(fault) => open_number(*fault),
-            Refusal::Preparing(fault) => format_number(*fault),
+            Refusal::Opening(fault) => fault.number(),
+            Refusal::Preparing(fault) => fault.number(),
             Refusal::Audit(fault) => fault.number(),
             Refusal::Given(fault) => fault.number(),
             Refusal::Migration(fault) => fault.number(),
@@ -75,20 +72,15 @@ impl Refusal {
         ensures { result.now ≡ name_of self.now }
     {
         match self {
-            Refusal::Key(KeyFault::Unreadable(fault))
-            | Refusal::Signature(SignatureRefusal::Unreadable(fault)) => { fault_name(fault.cause) }
-            Refusal::Key(KeyFault::Length(_)) => "KeyLength",
-            Refusal::Signature(SignatureRefusal::TypeMismatch(_)) => "TypeMismatch",
-            Refusal::Signature(SignatureRefusal::LevelMismatch) => "LevelMismatch",
-            Refusal::Signature(SignatureRefusal::RootMismatch(_)) => "RootMismatch",
-            Refusal::Signature(SignatureRefusal::MessageRead) => "MessageRead",
-            Refusal::Signer(fault) => signer_name(*fault),
-            Refusal::Opening(fault) => open_name(*fault),
-            Refusal::Preparing(fault) => format_name(*fault),
-            Refusal::Audit(fault) => audit_name(*fault),
-            Refusal::Given(fault) => given_name(*fault),
-            Refusal::Migration(fault) => migrate_name(*fault),
-            Refusal::Serving(fault) => serve_name(*fault),
+            Refusal::Key(fault) => fault.name(),
+            Refusal::Signature(refusal) => refusal.name(),
+            Refusal::Signer(fault) => fault.name(),
+            Refusal::Opening(fault) => fault.name(),
+            Refusal::Preparing(fault) => fault.name(),
+            Refusal::Audit(fault) => fault.name(),
+            Refusal::Given(fault) => fault.name(),
+            Refusal::Migration(fault) => fault.name(),
+            Refusal::Serving(fault) => fault.name(),
             Refusal::OutOfMemory => "OutOfMemory",
             Refusal::FileFailed => "FileFailed",
             Refusal::Locked => "Locked",
@@ -156,139 +148,6 @@ fn number_detail(word: &'static str, number: u64) -> [Part<'static>; 4]
     [Part::Text(word), Part::Number(number), NONE, NONE]
 }
 
-fn signer_name(fault: SignFault) -> &'static str
-    ensures { result.now ≡ signer_name_of fault }
-{
-    match fault {
-        SignFault::Changed => "Changed",
-        SignFault::Exhausted => "Exhausted",
-        SignFault::RandomFailed => "RandomFailed",
-        SignFault::RandomRepeated => "RandomRepeated",
-        SignFault::StoreFailed => "StoreFailed",
-        SignFault::Stopped => "Stopped",
-        SignFault::MessageRead => "MessageRead",
-        SignFault::Damaged(_) | SignFault::Unreadable(_) => "Damaged",
-        SignFault::OutOfMemory | SignFault::NoMemoryToOpen => "OutOfMemory",
-        SignFault::LedgerFull => "LedgerFull",
-        SignFault::Moved => "Moved",
-        SignFault::RetireRange => "RetireRange",
-        SignFault::LongName => "LongName",
-        SignFault::NoKey => "NoKey",
-        SignFault::Illegal(_) => "Illegal",
-        SignFault::DeviceFailed => "DeviceFailed",
-        SignFault::KeyThere => "KeyThere",
-    }
-}
-
-fn open_number(fault: OpenFault) -> u8
-    ensures { result ≡ open_number_of fault }
-{
-    match fault {
-        OpenFault::NoKey => 40,
-        OpenFault::NotKeyFile => 41,
-        OpenFault::Version => 42,
-        OpenFault::Damaged(_) => 43,
-        OpenFault::DeviceFailed => 45,
-    }
-}
-
-fn open_name(fault: OpenFault) -> &'static str
-    ensures { result.now ≡ open_name_of fault }
-{
-    match fault {
-        OpenFault::NoKey => "NoKey",
-        OpenFault::NotKeyFile => "NotKeyFile",
-        OpenFault::Version => "Version",
-        OpenFault::Damaged(_) => "Damaged",
-        OpenFault::DeviceFailed => "DeviceFailed",
-    }
-}
-
-fn format_number(fault: FormatFault) -> u8
-    ensures { result ≡ format_number_of fault }
-{
-    match fault {
-        FormatFault::NotKeyFile => 41,
-        FormatFault::DeviceFailed => 45,
-        FormatFault::KeyThere => 50,
-    }
-}
-
-fn format_name(fault: FormatFault) -> &'static str
-    ensures { result.now ≡ format_name_of fault }
-{
-    match fault {
-        FormatFault::NotKeyFile => "NotKeyFile",
-        FormatFault::DeviceFailed => "DeviceFailed",
-        FormatFault::KeyThere => "KeyThere",
-    }
-}
-
-fn audit_name(fault: AuditFault) -> &'static str
-    ensures { result.now ≡ audit_name_of fault }
-{
-    match fault {
-        AuditFault::Stopped => "Stopped",
-        AuditFault::NoKey => "NoKey",
-        AuditFault::Damaged(_) => "Damaged",
-        AuditFault::Illegal(_) => "Illegal",
-        AuditFault::DeviceFailed => "DeviceFailed",
-        AuditFault::OutOfMemory => "OutOfMemory",
-        AuditFault::AnchorCount => "AnchorCount",
-        AuditFault::AnchorTag => "AnchorTag",
-    }
-}
-
-fn given_name(fault: GivenFault) -> &'static str
-    ensures { result.now ≡ given_name_of fault }
-{
-    match fault {
-        GivenFault::NotValid(_) => "NotValid",
-        GivenFault::LeafTwice(_, _) => "LeafTwice",
-        GivenFault::OutOfMemory => "OutOfMemory",
-    }
-}
-
-fn migrate_name(fault: MigrateFault) -> &'static str
-    ensures { result.now ≡ migrate_name_of fault }
-{
-    match fault {
-        MigrateFault::Stopped => "Stopped",
-        MigrateFault::NoKey => "NoKey",
-        MigrateFault::NotKeyFile => "NotKeyFile",
-        MigrateFault::Version => "Version",
-        MigrateFault::Damaged(_) => "Damaged",
-        MigrateFault::Illegal(_) => "Illegal",
-        MigrateFault::DeviceFailed => "DeviceFailed",
-        MigrateFault::OutOfMemory => "OutOfMemory",
-        MigrateFault::KeyThere => "KeyThere",
-        MigrateFault::Full => "Full",
-    }
-}
-
-fn serve_name(fault: ServeFault) -> &'static str
-    ensures { result.now ≡ serve_name_of fault }
-{
-    match fault {
-        ServeFault::MessageRead => "MessageRead",
-        ServeFault::FrameCut => "FrameCut",
-        ServeFault::WriteFailed => "WriteFailed",
-    }
-}
-
-fn fault_name(cause: Cause) -> &'static str
-    ensures { result.now ≡ fault_name_of cause }
-{
-    match cause {
-        Cause::Truncated => "Truncated",
-        Cause::UnknownType => "UnknownType",
-        Cause::LevelCount => "LevelCount",
-        Cause::LeafOutOfRange => "LeafOutOfRange",
-        Cause::Trailing => "Trailing",
-    }
-}
-
-/// 46 for an error of kind `OutOfMemory`, 53 for any other.
 impl From<io::Error> for Refusal {
     ghost from_gives = { λ error refusal. refusal ≡ refusal_of (error_kind error) };
 

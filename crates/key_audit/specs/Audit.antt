@@ -1,6 +1,6 @@
 -- What an audit of a state file answers: what its records say of the key, and whether they fit an anchor.
 use Rattle.std.specs.Prelude.{◌≡◌, ◌⊎◌, ℕ, ◌-◌, ◌<◌, ◌≤◌, Bool, true, false, ◌||◌, IsTrue, List, [], ◌∷◌, ◌++◌}
-use Rattle.std.specs.Prelude.{length, take, Option, Some, None, IsSome, Result, Ok, Err, if◌then◌else◌}
+use Rattle.std.specs.Prelude.{codes, length, take, Option, Some, None, IsSome, Result, Ok, Err, if◌then◌else◌}
 use Rattle.state_file.specs.declared.disk.Disk as disk
 use Rattle.state_file.specs.declared.record.Key.{Key}
 use Rattle.state_file.specs.declared.record.Record.{Record}
@@ -29,6 +29,17 @@ audit_number DeviceFailed = 45
 audit_number OutOfMemory = 46
 audit_number AnchorCount = 47
 audit_number AnchorTag = 48
+
+-- the name that is printed beside it
+abbrev pub audit_name : AuditFault → List ℕ
+audit_name Stopped = codes "Stopped"
+audit_name NoKey = codes "NoKey"
+audit_name (Damaged slot) = codes "Damaged"
+audit_name (Illegal slot) = codes "Illegal"
+audit_name DeviceFailed = codes "DeviceFailed"
+audit_name OutOfMemory = codes "OutOfMemory"
+audit_name AnchorCount = codes "AnchorCount"
+audit_name AnchorTag = codes "AnchorTag"
 
 -- ---- what it does to the store
 

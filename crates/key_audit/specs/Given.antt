@@ -1,6 +1,6 @@
 -- Signatures of one key, with their messages: which are valid, which use one leaf for different digests, and what a
 -- check of them answers.
-use Rattle.std.specs.Prelude.{◌≡◌, ◌≢◌, ℕ, ◌<◌, ◌^◌, List, length, slice_get, Some, Result, Ok, Err, Contains}
+use Rattle.std.specs.Prelude.{◌≡◌, ◌≢◌, ℕ, ◌<◌, ◌^◌, List, codes, length, slice_get, Some, Result, Ok, Err, Contains}
 use Rattle.sign_core.specs.declared.key.AnyPublic.{AnyPublic}
 use Rattle.sign_core.specs.Once.{IsOneLeaf, IsValidUnder}
 use Rattle.sign_core.specs.Uses.{LeafUse, MakesUses}
@@ -73,3 +73,8 @@ abbrev pub fault_number : GivenFault → ℕ
 fault_number (NotValid i) = 60
 fault_number (LeafTwice i j) = 61
 fault_number OutOfMemory = 46
+
+abbrev pub fault_name : GivenFault → List ℕ
+fault_name (NotValid place) = codes "NotValid"
+fault_name (LeafTwice first second) = codes "LeafTwice"
+fault_name OutOfMemory = codes "OutOfMemory"

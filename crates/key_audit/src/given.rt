@@ -1,7 +1,8 @@
 //! Signatures that were given out: does a leaf sign two digests?
 
 ghost use Rattle.std.specs.Prelude.{◌≡◌, ◌↔◌, true, MatchOption};
-ghost use Rattle.key_audit.specs.Given.{AreValid, Checks, IsFirstNotValid, IsValidGiven, fault_number};
+ghost use Rattle.key_audit.specs.Given.{AreValid, Checks, IsFirstNotValid, IsValidGiven, fault_name};
+ghost use Rattle.key_audit.specs.Given.{fault_number};
 
 use crate::in_memory::InMemory;
 use crate::leaf_index::LeafIndex;
@@ -34,7 +35,7 @@ pub enum GivenFault {
 }
 
 impl GivenFault {
-    /// The fault's number: 46, 60 or 61.
+    /// The number that reports the fault: 46, 60 or 61.
     pub fn number(self) -> u8
         ensures { result ≡ fault_number self }
     {
@@ -42,6 +43,17 @@ impl GivenFault {
             GivenFault::NotValid(_) => 60,
             GivenFault::LeafTwice(_, _) => 61,
             GivenFault::OutOfMemory => 46,
+        }
+    }
+
+    /// The name that is printed beside the number.
+    pub fn name(self) -> &'static str
+        ensures { result.now ≡ fault_name self }
+    {
+        match self {
+            GivenFault::NotValid(_) => "NotValid",
+            GivenFault::LeafTwice(_, _) => "LeafTwice",
+            GivenFault::OutOfMemory => "OutOfMemory",
         }
     }
 }

@@ -59,9 +59,9 @@ pub enum AuditFault {
 
 impl AuditFault {
     ghost use Rattle.std.specs.Prelude.{◌≡◌};
-    ghost use Rattle.key_audit.specs.Audit.{audit_number};
+    ghost use Rattle.key_audit.specs.Audit.{audit_name, audit_number};
 
-    /// The fault's number: 26, 40 or 43 to 48.
+    /// The number that reports the fault: 26, 40 or 43 to 48.
     pub fn number(self) -> u8
         ensures { result ≡ audit_number self }
     {
@@ -74,6 +74,22 @@ impl AuditFault {
             AuditFault::OutOfMemory => 46,
             AuditFault::AnchorCount => 47,
             AuditFault::AnchorTag => 48,
+        }
+    }
+
+    /// The name that is printed beside the number.
+    pub fn name(self) -> &'static str
+        ensures { result.now ≡ audit_name self }
+    {
+        match self {
+            AuditFault::Stopped => "Stopped",
+            AuditFault::NoKey => "NoKey",
+            AuditFault::Damaged(_) => "Damaged",
+            AuditFault::Illegal(_) => "Illegal",
+            AuditFault::DeviceFailed => "DeviceFailed",
+            AuditFault::OutOfMemory => "OutOfMemory",
+            AuditFault::AnchorCount => "AnchorCount",
+            AuditFault::AnchorTag => "AnchorTag",
         }
     }
 }

@@ -1,5 +1,5 @@
 -- What an append does to a signer, and to its store at any moment.
-use Rattle.std.proofs.Common.{◌≡◌, ◌⊎◌, ℕ, ◌+◌, ◌<◌, ◌≤◌, Bool, true, false, not, List, [], ◌∷◌, ◌++◌, length, Some, Ok, Err, refl}
+use Rattle.std.proofs.Common.{◌≡◌, ◌⊎◌, ℕ, ◌+◌, ◌<◌, ◌≤◌, Bool, true, false, List, [], ◌∷◌, ◌++◌, length, Some, Ok, Err, refl}
 use Rattle.std.proofs.Common.{Result, sym, ap, ◌∙◌, subst, arith, ⊎_elim, inl, inr, IsTrue, true≢false, ltb-false}
 use Rattle.std.specs.Prelude.{take}
 use Rattle.std.proofs.Math.Seq.{take-length}
@@ -13,11 +13,7 @@ use Rattle.state_file.specs.Laws.{IsLegal}
 use Rattle.state_file.specs.Store.{WhileRunning, CanFollow}
 use Rattle.state_file.proofs.Moments.{weaker}
 use Rattle.sign_core.specs.declared.fault.SignFault.{SignFault}
-use Rattle.sign_core.specs.declared.fault.SignFault.TheVariants.{RandomRepeated, MessageRead, Moved as MovedFault, RetireRange, LongName, NoKey, Illegal, DeviceFailed}
-use Rattle.sign_core.specs.declared.fault.SignFault.TheVariants.{NoMemoryToOpen}
-use Rattle.sign_core.specs.declared.fault.SignFault.TheVariants.{Changed, Exhausted, RandomFailed, StoreFailed, Stopped, Damaged, OutOfMemory, LedgerFull}
-use Rattle.sign_core.specs.declared.fault.SignFault.TheVariants.{Unreadable, KeyThere}
-use Rattle.sign_core.specs.inner.Fault.{closes}
+use Rattle.sign_core.specs.declared.fault.SignFault.TheVariants.{OutOfMemory, StoreFailed}
 use Rattle.sign_core.specs.Cuts.{IsBeginning}
 use Rattle.sign_core.specs.Caches.{Cached}
 use Rattle.sign_core.specs.Signer.{IsSigner, view_of, IsTied, LeavesOld, UsesMemory, View}
@@ -111,11 +107,11 @@ adds_ok g old new entry was tied is records is_open random memory untaken = reco
   untaken = untaken;
 }
 
-pub adds_err : {S R : Type 0} (g : store.Ghosts S) (old new : View S R) (entry : Record) (fault : SignFault) → old.is_open ≡ true
-    → IsTied g old.store old.records
-    → IsAppended {A = Unit {0}} g old.store new.store entry (Err fault) → new.records ≡ old.records → new.is_open ≡ not (closes fault)
-    → new.random ≡ old.random → UsesMemory old new → ((TakesMemory entry → ⊥) → new.spare ≡ old.spare) → Adds g old new entry (Err fault)
-adds_err g old new entry StoreFailed was tied is records is_open random memory untaken =
+-- the append failed: the signer is closed
+pub adds_failed : {S R : Type 0} (g : store.Ghosts S) (old new : View S R) (entry : Record) → IsTied g old.store old.records
+    → IsAppended {A = Unit {0}} g old.store new.store entry (Err StoreFailed) → new.records ≡ old.records → new.is_open ≡ false
+    → new.random ≡ old.random → UsesMemory old new → ((TakesMemory entry → ⊥) → new.spare ≡ old.spare) → Adds g old new entry (Err StoreFailed)
+adds_failed g old new entry tied is records is_open random memory untaken =
     ⊎_elim
     (λ (same : g.list new.store ≡ g.list old.store). record {
       fate = cut_old;
@@ -158,7 +154,12 @@ adds_err g old new entry StoreFailed was tied is records is_open random memory u
       untaken = untaken;
     })
     is.stored.0
-adds_err g old new entry OutOfMemory was tied is records is_open random memory untaken = record {
+
+-- memory was refused for it: the signer stays open
+pub adds_refused : {S R : Type 0} (g : store.Ghosts S) (old new : View S R) (entry : Record) → old.is_open ≡ true → IsTied g old.store old.records
+    → IsAppended {A = Unit {0}} g old.store new.store entry (Err OutOfMemory) → new.records ≡ old.records → new.is_open ≡ true
+    → new.random ≡ old.random → UsesMemory old new → ((TakesMemory entry → ⊥) → new.spare ≡ old.spare) → Adds g old new entry (Err OutOfMemory)
+adds_refused g old new entry was tied is records is_open random memory untaken = record {
   fate = no_memory;
   ends = record {
     answer_is = refl;
@@ -178,23 +179,6 @@ adds_err g old new entry OutOfMemory was tied is records is_open random memory u
   memory = memory;
   untaken = untaken;
 }
-adds_err g old new entry Changed was tied is records is_open random memory untaken = absurd is.stored
-adds_err g old new entry Exhausted was tied is records is_open random memory untaken = absurd is.stored
-adds_err g old new entry RandomFailed was tied is records is_open random memory untaken = absurd is.stored
-adds_err g old new entry Stopped was tied is records is_open random memory untaken = absurd is.stored
-adds_err g old new entry LedgerFull was tied is records is_open random memory untaken = absurd is.stored
-adds_err g old new entry KeyThere was tied is records is_open random memory untaken = absurd is.stored
-adds_err g old new entry RandomRepeated was tied is records is_open random memory untaken = absurd is.stored
-adds_err g old new entry MessageRead was tied is records is_open random memory untaken = absurd is.stored
-adds_err g old new entry MovedFault was tied is records is_open random memory untaken = absurd is.stored
-adds_err g old new entry RetireRange was tied is records is_open random memory untaken = absurd is.stored
-adds_err g old new entry LongName was tied is records is_open random memory untaken = absurd is.stored
-adds_err g old new entry NoKey was tied is records is_open random memory untaken = absurd is.stored
-adds_err g old new entry DeviceFailed was tied is records is_open random memory untaken = absurd is.stored
-adds_err g old new entry NoMemoryToOpen was tied is records is_open random memory untaken = absurd is.stored
-adds_err g old new entry (Damaged k) was tied is records is_open random memory untaken = absurd is.stored
-adds_err g old new entry (Unreadable k) was tied is records is_open random memory untaken = absurd is.stored
-adds_err g old new entry (Illegal k) was tied is records is_open random memory untaken = absurd is.stored
 
 -- the same for a signer by its parts
 pub adds_in_ok : {S R : Type 0} {caches : Cached} (g : store.Ghosts S) (old new : S) (random : R) (before after : Table) (is_open : Bool) (entry : Record) (v : View S R)
@@ -206,13 +190,21 @@ adds_in_ok {S = S} {R = R} {caches = caches} g old new random before after is_op
     (omega (arith, grows.spare, ap length grows.records, length_one_more before.records entry)) grows.untaken)
     opened
 
-pub adds_in_err : {S R : Type 0} {caches : Cached} (g : store.Ghosts S) (old new : S) (random : R) (before : Table) (is_open stays : Bool) (entry : Record) (fault : SignFault)
-    (v : View S R)
-    → view_of old random before caches is_open ≡ v → IsSigner g (view_of old random before caches is_open) → v.is_open ≡ true → stays ≡ not (closes fault)
-    → IsAppended {A = Unit {0}} g old new entry (Err fault) → Adds g v (view_of new random before caches stays) entry (Err fault)
-adds_in_err {S = S} {R = R} {caches = caches} g old new random before is_open stays entry fault v is signer opened shut appended =
-    subst (λ (w : View S R). w.is_open ≡ true → Adds g w (view_of new random before caches stays) entry (Err fault)) is
-    (λ was. adds_err g (view_of old random before caches is_open) (view_of new random before caches stays) entry fault was (signer.tied was) appended refl shut refl (omega
+pub adds_in_failed : {S R : Type 0} {caches : Cached} (g : store.Ghosts S) (old new : S) (random : R) (before : Table) (is_open : Bool) (entry : Record) (v : View S R)
+    → view_of old random before caches is_open ≡ v → IsSigner g (view_of old random before caches is_open) → v.is_open ≡ true
+    → IsAppended {A = Unit {0}} g old new entry (Err StoreFailed) → Adds g v (view_of new random before caches false) entry (Err StoreFailed)
+adds_in_failed {S = S} {R = R} {caches = caches} g old new random before is_open entry v is signer opened appended =
+    subst (λ (w : View S R). w.is_open ≡ true → Adds g w (view_of new random before caches false) entry (Err StoreFailed)) is
+    (λ was. adds_failed g (view_of old random before caches is_open) (view_of new random before caches false) entry (signer.tied was) appended refl refl refl (omega arith)
+    (λ _. refl))
+    opened
+
+pub adds_in_refused : {S R : Type 0} {caches : Cached} (g : store.Ghosts S) (old new : S) (random : R) (before : Table) (is_open : Bool) (entry : Record) (v : View S R)
+    → view_of old random before caches is_open ≡ v → IsSigner g (view_of old random before caches is_open) → v.is_open ≡ true
+    → IsAppended {A = Unit {0}} g old new entry (Err OutOfMemory) → Adds g v (view_of new random before caches is_open) entry (Err OutOfMemory)
+adds_in_refused {S = S} {R = R} {caches = caches} g old new random before is_open entry v is signer opened appended =
+    subst (λ (w : View S R). w.is_open ≡ true → Adds g w (view_of new random before caches is_open) entry (Err OutOfMemory)) is
+    (λ was. adds_refused g (view_of old random before caches is_open) (view_of new random before caches is_open) entry was (signer.tied was) appended refl was refl (omega
     arith) (λ _. refl))
     opened
 

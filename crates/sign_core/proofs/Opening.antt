@@ -52,7 +52,7 @@ pub record IsUnchanged {S : Type 0} (g : store.Ghosts S) (old now : S) : Type 0 
 
 -- The first k records of a store, if it is honest.
 pub record Begins {S : Type 0} (g : store.Ghosts S) (old : S) (records : List Record) (k : ℕ) : Type 0 where
-  pub long : length records ≡ k
+  pub same_length : length records ≡ k
   pub inside : k ≤ length (g.list old)
   pub same : IsTrue (g.honest old) → records ≡ take k (g.list old)
 

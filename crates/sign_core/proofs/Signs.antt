@@ -1,7 +1,7 @@
 -- Each end of a call of sign is a step of the world.
 use Rattle.std.proofs.Common.{◌≡◌, ◌∙◌, ℕ, ◌+◌, ◌-◌, ◌<◌, ◌≤◌, Bool, true, false, not, List, [], ◌++◌, length, Option, Some, None, Result, Ok, Err, refl}
 use Rattle.std.proofs.Common.{sym, ap, ap₂, subst, inl, arith, true≢false, append-nil}
-use Rattle.std.specs.Prelude.{take, nat_lt, if◌then◌else◌, option_map}
+use Rattle.std.specs.Prelude.{take, nat_lt, if◌then◌else◌, option_map, OnOk}
 use Rattle.std.specs.Option.{ok_or}
 use Rattle.std.proofs.Math.Seq.{take-length}
 use Rattle.std.proofs.lemmas.Bool.Decides.{nat_tests}
@@ -29,7 +29,7 @@ use Rattle.sign_core.specs.inner.Signer.{Hinders}
 use Rattle.sign_core.specs.Signer.{IsRead, IsSigner, IsTied, KeepsAll, KeepsForRepeat, KeepsStore, LacksMemory, LacksTree, RefusesMemory, wanted_records, Signs, View, is_out_of_memory}
 use Rattle.sign_core.specs.Signer.{is_before_caches, is_before_repeat, is_fault, is_random_failed, is_store_failed, signature_size, state_of}
 use Rattle.sign_core.specs.inner.Signing.{CanBind, BindsBelow, Does, IsBindingOf, IsReady, Repeats, repeat_chance}
-use Rattle.sign_core.specs.Signing.{UnderKey}
+use Rattle.sign_core.specs.Signing.{UnderKey, answered_value}
 use Rattle.sign_core.specs.Ledger.{kept_of}
 use Rattle.sign_core.specs.Events.{AreDrawsOf}
 use Rattle.sign_core.specs.Signer.{KeepsAtRefusal}
@@ -492,3 +492,13 @@ some_level (Some other) level is = ap_ok is
   where
     ap_ok : {a b : ℕ} → ◌≡◌ {A = Result ℕ SignFault} (Ok a) (Ok b) → Some a ≡ Some b
     ap_ok same = cc
+
+-- ---- an output that is emptied at a fault
+
+pub same_answer : {A : Type 0} (signed result : Result A SignFault) (old new : List ℕ) → result ≡ signed → OnOk result (new ≡ old)
+    → answered_value signed old ≡ answered_value result new
+same_answer {A = A} signed result old new same stays = ap (λ r. answered_value r old) (sym same) ∙ by result stays
+  where
+    by : (r : Result A SignFault) → OnOk r (new ≡ old) → answered_value r old ≡ answered_value r new
+    by (Ok a) is = ap Ok (sym is)
+    by (Err fault) is = refl

@@ -1,5 +1,6 @@
 -- Public keys of every scheme: their bytes, and what verification under them answers.
-use Rattle.std.specs.Prelude.{◌≡◌, ◌≢◌, ◌⊎◌, ℕ, List, Option, length, Result}
+use Rattle.std.specs.Prelude.{◌≡◌, ◌≢◌, ◌⊎◌, ℕ, List, Option, codes, length, Result}
+use Rattle.typecodes.specs.Fault.{cause_name, cause_number}
 use Rattle.typecodes.specs.declared.refusal.Refusal.{Refusal}
 use Rattle.typecodes.specs.Layout.{Spells, HasFault}
 use Rattle.typecodes.specs.Message.{Transition}
@@ -28,6 +29,15 @@ KeyHasFault bytes (Unreadable fault) =
     ((length bytes ≡ 56) × HasFault lms_public_key bytes 0 fault)
     ⊎ ((length bytes ≡ 60) × HasFault hss_public_key bytes 0 fault)
     ⊎ ((length bytes ≡ 68) × HasFault xmss_public_key bytes 0 fault)
+
+-- the number that reports the fault, and its name
+abbrev pub key_number : KeyFault → ℕ
+key_number (Length n) = 6
+key_number (Unreadable fault) = cause_number fault.cause
+
+abbrev pub key_name : KeyFault → List ℕ
+key_name (Length n) = codes "KeyLength"
+key_name (Unreadable fault) = cause_name fault.cause
 
 abbrev pub KeyVerdict : {A : Type 0} → AnyPublic → List ℕ → List ℕ → Result A Refusal → Type 0
 KeyVerdict (Lms key) message bytes result = LmsVerdict key message bytes result

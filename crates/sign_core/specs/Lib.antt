@@ -23,7 +23,6 @@ pub mod Serving
 pub mod Signing
 pub mod Signer
 pub mod Key
-pub mod RngSource
 pub mod Lives
 pub mod RefusalOrder
 pub mod AfterRefusal

@@ -1,5 +1,6 @@
--- What a source of random bytes does, and what callers see of a `TapeSource`.
+-- What a source of random bytes does, and what callers see of a `TapeSource` and an `RngSource`.
 use Rattle.std.specs.Prelude.{◌≡◌, ℕ, ◌+◌, List, ◌++◌, Option, Some, None, Result, Ok, Err}
+use Rattle.sign_core.specs.declared.source.RngSource.{RngSource}
 use Rattle.sign_core.specs.declared.source.TapeSource.{TapeSource}
 
 -- A source gives these bytes: they come first in what was known to come. What wasn't known before isn't afterwards.
@@ -21,3 +22,11 @@ tape_rest_of source = source.bytes.now
 
 abbrev pub tape_failures_of : TapeSource → ℕ
 tape_failures_of source = source.failures
+
+-- ---- an `RngSource`
+
+abbrev pub rng_of : {T E : Type 0} → RngSource T E → T
+rng_of source = source.rng
+
+abbrev pub rng_failures_of : {T E : Type 0} → RngSource T E → ℕ
+rng_failures_of source = source.failures

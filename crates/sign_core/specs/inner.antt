@@ -1,6 +1,5 @@
 -- What private functions alone cite: a reader of the contracts of public functions doesn't need it.
 pub mod Cases
-pub mod Fault
 pub mod Frames
 pub mod Ledger
 pub mod Links

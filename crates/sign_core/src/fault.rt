@@ -81,7 +81,7 @@ pub enum ServeFault {
 }
 
 impl ServeFault {
-    ghost use Rattle.sign_core.specs.Fault.{serve_number_of};
+    ghost use Rattle.sign_core.specs.Fault.{serve_name_of, serve_number_of};
 
     /// The number that reports the fault: 27, 35 or 36.
     pub fn number(self) -> u8
@@ -93,43 +93,61 @@ impl ServeFault {
             ServeFault::WriteFailed => 36,
         }
     }
+
+    /// The name that is printed beside the number.
+    pub fn name(self) -> &'static str
+        ensures { result.now ≡ serve_name_of self }
+    {
+        match self {
+            ServeFault::MessageRead => "MessageRead",
+            ServeFault::FrameCut => "FrameCut",
+            ServeFault::WriteFailed => "WriteFailed",
+        }
+    }
 }
 
 impl SignFault {
-    ghost use Rattle.sign_core.specs.inner.Fault.{closes};
-    ghost use Rattle.sign_core.specs.Fault.{number_of};
+    ghost use Rattle.sign_core.specs.Fault.{name_of, number_of};
+
+    // Its number and its name.
+    fn report(self) -> (u8, &'static str)
+        ensures number { result.0 ≡ number_of self }
+        ensures name { result.1.now ≡ name_of self }
+    {
+        match self {
+            SignFault::Changed => (21, "Changed"),
+            SignFault::Exhausted => (22, "Exhausted"),
+            SignFault::RandomFailed => (23, "RandomFailed"),
+            SignFault::RandomRepeated => (24, "RandomRepeated"),
+            SignFault::StoreFailed => (25, "StoreFailed"),
+            SignFault::Stopped => (26, "Stopped"),
+            SignFault::MessageRead => (27, "MessageRead"),
+            SignFault::Damaged(_) => (28, "Damaged"),
+            SignFault::OutOfMemory => (29, "OutOfMemory"),
+            SignFault::LedgerFull => (30, "LedgerFull"),
+            SignFault::Moved => (31, "Moved"),
+            SignFault::RetireRange => (32, "RetireRange"),
+            SignFault::LongName => (33, "LongName"),
+            SignFault::NoKey => (40, "NoKey"),
+            SignFault::Unreadable(_) => (43, "Damaged"),
+            SignFault::Illegal(_) => (44, "Illegal"),
+            SignFault::DeviceFailed => (45, "DeviceFailed"),
+            SignFault::NoMemoryToOpen => (46, "OutOfMemory"),
+            SignFault::KeyThere => (50, "KeyThere"),
+        }
+    }
 
     /// The number that reports the fault.
     pub fn number(self) -> u8
         ensures { result ≡ number_of self }
     {
-        match self {
-            SignFault::Changed => 21,
-            SignFault::Exhausted => 22,
-            SignFault::RandomFailed => 23,
-            SignFault::RandomRepeated => 24,
-            SignFault::StoreFailed => 25,
-            SignFault::Stopped => 26,
-            SignFault::MessageRead => 27,
-            SignFault::Damaged(_) => 28,
-            SignFault::OutOfMemory => 29,
-            SignFault::LedgerFull => 30,
-            SignFault::Moved => 31,
-            SignFault::RetireRange => 32,
-            SignFault::LongName => 33,
-            SignFault::NoKey => 40,
-            SignFault::Unreadable(_) => 43,
-            SignFault::Illegal(_) => 44,
-            SignFault::DeviceFailed => 45,
-            SignFault::NoMemoryToOpen => 46,
-            SignFault::KeyThere => 50,
-        }
+        self.report().0
     }
 
-    // Whether the signer is closed after this answer.
-    pub(crate) fn closes(self) -> bool
-        ensures { result ≡ closes self }
+    /// The name that is printed beside the number.
+    pub fn name(self) -> &'static str
+        ensures { result.now ≡ name_of self }
     {
-        matches!(self, SignFault::StoreFailed)
+        self.report().1
     }
 }

@@ -34,10 +34,7 @@ fn read_name<I: Message>(input: &mut I, size: u8) -> Result<ArrayVec<u8, 255>, S
     let mut bytes = [0; 255];
     let name = &mut bytes[..usize::from(size)];
     fill(input, name)?;
-    match ArrayVec::try_from(&*name) {
-        Ok(name) => Ok(name),
-        Err(_) => unreachable!(),
-    }
+    Ok(ArrayVec::try_from(&*name).unwrap_or_else(|_| unreachable!()))
 }
 
 // Reads the rest of a head, after the size of the name.

@@ -33,6 +33,30 @@ pub enum KeyFault {
     Unreadable(ReadFault),
 }
 
+impl KeyFault {
+    ghost use Rattle.sign_core.specs.Key.{key_name, key_number};
+
+    /// The number that reports the fault: 2, 3 or 6.
+    pub fn number(self) -> u8
+        ensures { result ≡ key_number self }
+    {
+        match self {
+            KeyFault::Length(_) => 6,
+            KeyFault::Unreadable(fault) => fault.cause.number(),
+        }
+    }
+
+    /// The name that is printed beside the number.
+    pub fn name(self) -> &'static str
+        ensures { result.now ≡ key_name self }
+    {
+        match self {
+            KeyFault::Length(_) => "KeyLength",
+            KeyFault::Unreadable(fault) => fault.cause.name(),
+        }
+    }
+}
+
 impl AnyPublic {
     ghost use Rattle.sign_core.specs.declared.key.AnyPublic.{AnyPublic as Key};
 
@@ -68,10 +92,7 @@ fn to_array_vec(bytes: &[u8]) -> ArrayVec<u8, 68>
     requires { length bytes.now ≤ 68 }
     ensures { result.items ≡ bytes.now }
 {
-    match ArrayVec::try_from(bytes) {
-        Ok(list) => list,
-        Err(_) => unreachable!(),
-    }
+    ArrayVec::try_from(bytes).unwrap_or_else(|_| unreachable!())
 }
 
 /// Verifies a signature of the message under the key, by the key's scheme (RFC 8554 5.4.2 and 6.3, RFC 8391 4.1.10).

@@ -233,15 +233,7 @@ impl Ledger {
     pub(crate) fn has_identifier(&self, identifier: &[u8; 16]) -> bool
         ensures { result ≡ has_identifier self.now.records identifier.now }
     {
-        let is_top = match &self.key.secret {
-            Secret::Lms(top) => top.identifier == *identifier,
-            Secret::Hss {
-                identifier: top,
-                ..
-            } => top == identifier,
-            Secret::Xmss(_) => false,
-        };
-        is_top || self.identifiers.contains_key(identifier)
+        self.key.secret.has_identifier(identifier) || self.identifiers.contains_key(identifier)
     }
 
     pub(crate) fn current(&self, level: u8) -> Option<Tree>
@@ -321,10 +313,8 @@ impl Ledger {
         ensures { result ≡ is_free self.now.key.secret self.now.records level leaf }
     {
         let leaves = self.key.secret.leaves(level);
-        match self.current(level) {
-            Some(tree) => leaf < leaves && tree.next <= leaf,
-            None => false,
-        }
+        self.current(level)
+            .is_some_and(|tree| leaf < leaves && tree.next <= leaf)
     }
 
     /// Takes up one more record, if it can follow these. An `Err` changes nothing, except that more memory may be

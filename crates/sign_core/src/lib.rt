@@ -43,7 +43,6 @@ mod laws;
 mod ledger;
 mod migration;
 mod progress;
-mod rng_source;
 mod serving;
 mod signer;
 mod source;
@@ -60,8 +59,7 @@ pub use crate::laws::{
 pub use crate::ledger::{Ledger, LedgerFault};
 pub use crate::migration::migrate_key;
 pub use crate::progress::TreeProgress;
-pub use crate::rng_source::RngSource;
 pub use crate::serving::{serve, serve_telling};
 pub use crate::signer::Signer;
-pub use crate::source::{Source, SourceFault, TapeSource};
+pub use crate::source::{RngSource, Source, SourceFault, TapeSource};
 pub use merkle::Silent;

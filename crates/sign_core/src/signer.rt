@@ -1,10 +1,9 @@
 //! The signer over a store of records.
 
-ghost use Rattle.std.specs.Prelude.{◌≡◌, ◌<◌, ◌≤◌, ◌-◌, ◌^◌, [], true, false, Some, Ok, Err, length, IfErr, IfOk};
-ghost use Rattle.std.specs.Prelude.{IsTrue, None, OnOk};
+ghost use Rattle.std.specs.Prelude.{◌≡◌, ◌<◌, ◌≤◌, ◌-◌, ◌^◌, true, false, Some, Ok, Err, length, IfErr, IfOk};
+ghost use Rattle.std.specs.Prelude.{None, OnOk};
 ghost use Rattle.merkle.specs.Tree.{root_of as tree_root};
-ghost use Rattle.state_file.specs.Store.{CanFollow};
-ghost use Rattle.sign_core.specs.inner.Signer.{DrawsSecret, Hinders, IsAppended, IsTakenUp};
+ghost use Rattle.sign_core.specs.inner.Signer.{DrawsSecret, Hinders, IsTakenUp};
 ghost use Rattle.sign_core.specs.Signer.{IsTied, LoadsAll, MakesKey};
 ghost use Rattle.sign_core.specs.inner.Signer.{LoadsRecord, LooksForKey, TakesUpLoaded};
 ghost use Rattle.sign_core.specs.Textbook.{HasSizes, key_root};
@@ -51,19 +50,6 @@ impl<S: Store, R: Source> Model for Signer<S, R> {
 
     ghost invariant = { λ s. IsSigner S.Store (view_of s.store s.random s.ledger s.caches s.is_open)
         × (the_key s.ledger.records ≡ Some s.ledger.key) };
-}
-
-// Appends a record: 29 where memory is refused, else 25.
-fn append<S: Store>(store: &mut S, entry: &Record) -> Result<(), SignFault>
-    requires running { S.stopped store.old ≡ false }
-    requires room { length (S.list store.old) < S.most store.old }
-    requires follows { IsTrue (S.honest store.old) → CanFollow (S.list store.old) entry.now }
-    ensures { IsAppended S.Store store.old store.new entry.now result }
-{
-    store.append(entry).map_err(|fault| match fault {
-        StoreFault::OutOfMemory => SignFault::OutOfMemory,
-        _ => SignFault::StoreFailed,
-    })
 }
 
 // Refuses a store that has a record, or can't be read.
@@ -139,7 +125,12 @@ fn create_key<S: Store, R: Source, P: TreeProgress>(
         root: root_of(&secret, progress),
         secret,
     };
-    append(store, &Record::Key(key.copied()))?;
+    store
+        .append(&Record::Key(key.copied()))
+        .map_err(|fault| match fault {
+            StoreFault::OutOfMemory => SignFault::OutOfMemory,
+            _ => SignFault::StoreFailed,
+        })?;
     Ok(Ledger::new(alloc, key))
 }
 
@@ -239,10 +230,9 @@ impl<S: Store, R: Source> Signer<S, R> {
     /// Each slot is loaded once, from 0 on, and none after the first that is refused: the earliest record's refusal is
     /// answered. 46 comes only where the store counts a refusal, or where a loaded record takes memory or is the
     /// 2^32nd. That memory was indeed refused for an Extend or a Bound is tested.
-    pub fn open(alloc: Global, store: S, random: R) -> Result<Self, Refused<(S, R), SignFault>>
+    pub fn open(alloc: Global, mut store: S, random: R) -> Result<Self, Refused<(S, R), SignFault>>
         ensures { Opens S.Store store random result }
     {
-        let mut store = store;
         let loaded = load_all(alloc, &mut store);
         Signer::holding(alloc, store, random, loaded)
     }
@@ -303,6 +293,7 @@ impl<S: Store, R: Source> Signer<S, R> {
         Ok(())
     }
 
+    // Appends a record and takes it up. 29 where memory is refused for the append; else 25, which closes the signer.
     fn add(&mut self, entry: Record) -> Result<(), SignFault>
         requires open { self.old.is_open ≡ true }
         requires follows { can_follow (the_key self.old.records) self.old.records entry ≡ true }
@@ -314,12 +305,15 @@ impl<S: Store, R: Source> Signer<S, R> {
         ensures adds { Adds S.Store self.old self.new entry result }
         ensures cached { self.new.cached ≡ self.old.cached }
     {
-        let appended = append(&mut self.store, &entry);
-        match appended {
-            Ok(()) => self.ledger.push(entry),
-            Err(fault) => self.is_open = !fault.closes(),
+        if let Err(fault) = self.store.append(&entry) {
+            if fault == StoreFault::OutOfMemory {
+                return Err(SignFault::OutOfMemory);
+            }
+            self.is_open = false;
+            return Err(SignFault::StoreFailed);
         }
-        appended
+        self.ledger.push(entry);
+        Ok(())
     }
 
     // The current bottom tree's next leaf, and its number of leaves; both 0 where there is none.

@@ -1,13 +1,14 @@
 //! Sources of random bytes.
 
-ghost use Rattle.std.specs.Prelude.{◌≡◌, ◌<◌, ◌↔◌, ◌∷◌, [], ℕ, List, Option, Some, IsErr, length};
-ghost use Rattle.std.specs.Prelude.{IfOk};
+ghost use Rattle.std.specs.Prelude.{◌≡◌, ◌<◌, ◌↔◌, ◌∷◌, [], ℕ, List, Option, None, Some, IsErr, length};
+ghost use Rattle.std.specs.Prelude.{IfOk, OnOk};
 ghost use Rattle.typecodes.specs.Layout.{AreBytes};
 ghost use Rattle.sign_core.specs.Events.{AreFields};
 ghost use Rattle.sign_core.specs.inner.Source.{DrawsBytes};
 ghost use Rattle.sign_core.specs.Source.{Fills};
 
 use crate::fault::SignFault;
+use rand_core::TryRng;
 use thiserror::Error;
 use typecodes::Count;
 
@@ -67,10 +68,8 @@ impl<'a> TapeSource<'a> {
         ensures bytes { tape_rest_of result ≡ bytes.entry.now }
         ensures failures { tape_failures_of result ≡ 0 }
     {
-        TapeSource {
-            bytes,
-            failures: Count::new(),
-        }
+        let failures = Count::new();
+        TapeSource { bytes, failures }
     }
 }
 
@@ -94,6 +93,46 @@ impl Source for TapeSource<'_> {
         let (first, rest) = self.bytes.split_at(into.len());
         into.copy_from_slice(first);
         self.bytes = rest;
+        Ok(())
+    }
+}
+
+/// A source that draws from a generator of random bytes, such as the operating system's. Its next bytes aren't known.
+#[derive(Drop)]
+pub struct RngSource<T: TryRng> {
+    rng: T,
+    failures: Count,
+}
+
+impl<T: TryRng> RngSource<T> {
+    ghost use Rattle.sign_core.specs.Source.{rng_failures_of, rng_of};
+
+    /// The source that draws from this generator.
+    pub fn new(rng: T) -> Self
+        ensures rng { rng_of result ≡ rng }
+        ensures failures { rng_failures_of result ≡ 0 }
+    {
+        let failures = Count::new();
+        RngSource { rng, failures }
+    }
+}
+
+impl<T: TryRng> Source for RngSource<T> {
+    ghost use Rattle.sign_core.specs.Source.{rng_failures_of, rng_of};
+
+    ghost failures = { rng_failures_of };
+
+    ghost upcoming = { λ source. None };
+
+    /// Fills `into` from the generator; answers 23 if the generator fails. That it fails only then is tested.
+    fn fill(&mut self, into: &mut [u8]) -> Result<(), SourceFault>
+        ensures fills { Fills (rng_failures_of self.old) (rng_failures_of self.new) None None into.new result }
+        ensures gives { OnOk result (T.may_fill (rng_of self.old) into.new (rng_of self.new)) }
+    {
+        if self.rng.try_fill_bytes(into).is_err() {
+            self.failures.add_one();
+            return Err(SourceFault);
+        }
         Ok(())
     }
 }

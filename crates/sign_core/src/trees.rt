@@ -45,10 +45,7 @@ impl CurrentTrees {
         requires { level < 8 }
         ensures { result ≡ place_of (kept_at self.now.levels level) }
     {
-        match self.get(level) {
-            Some(tree) => tree.place,
-            None => 0,
-        }
+        self.get(level).map_or(0, |tree| tree.place)
     }
 
     // Begins a level's tree. The trees below it are no longer current.
@@ -69,11 +66,9 @@ impl CurrentTrees {
         requires { level < 8 }
         ensures { IsRaised self.old.levels level next self.new.levels }
     {
-        if let Some(tree) = self.levels[level] {
-            self.levels[level] = Some(Tree {
-                place: tree.place,
-                next: tree.next.max(next),
-            });
+        if let Some(Tree { place, next: last }) = self.levels[level] {
+            let next = last.max(next);
+            self.levels[level] = Some(Tree { place, next });
         }
     }
 

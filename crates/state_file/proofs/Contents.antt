@@ -70,7 +70,7 @@ whole_or_not version content k opened =
 pub begins-none : (version : Version) (content : List ℕ) → MayHaveKey content → Begins version content []
 begins-none version content may = record {
   within_limit = omega arith;
-  ends = omega (arith, may.long);
+  ends = omega (arith, may.at_least_257);
   opened = λ k below. absurd (omega (arith, below));
   holds = λ k entry is. absurd (omega (arith, slice_get_within {A = Record} [] k entry is));
 }
@@ -206,7 +206,7 @@ some_opening content =
 -- ---- and one thing only
 
 no_key_may : (content : List ℕ) → HasNoKey content → MayHaveKey content → ⊥
-no_key_may content (inl short) may = omega (arith, short, may.long)
+no_key_may content (inl short) may = omega (arith, short, may.at_least_257)
 no_key_may content (inr closed) may = not_both content 0 may.opened closed
 
 spelled-may : (content : List ℕ) (records : List Record) → SpellsRecords content records → MayHaveKey content

@@ -18,7 +18,7 @@ none_file : (content : List ℕ) → IsClosed content 0 → IsFileOf [] content
 none_file content closed = record {
   within_limit = omega arith;
   first = refl;
-  gate_opened = λ k below. absurd (omega (arith, below));
+  opened = λ k below. absurd (omega (arith, below));
   closed = closed;
   spelled = λ k entry is. absurd cc;
   tagged = λ k below. absurd (omega (arith, below));

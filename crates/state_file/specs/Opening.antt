@@ -1,6 +1,6 @@
 -- What opening a place reports, and what its parts do.
 use Rattle.std.specs.Prelude.{◌≡◌, ℕ, ◌+◌, ◌*◌, ◌<◌, ◌≤◌, Bool, true, false, List, length, Option, Some, None}
-use Rattle.std.specs.Prelude.{Result, Ok, Err, IfErr, IsTrue}
+use Rattle.std.specs.Prelude.{Result, Ok, Err, IfErr, IsTrue, codes}
 use Rattle.state_file.specs.File.{Holds, IsWhole, MayHaveKey, SpellsRecords, begins_key, fields_at, most_records}
 use Rattle.state_file.specs.File.{previous_tag, tag_at, version_of, HasNoKey, HasUnknownVersion, IsDamagedAt}
 use Rattle.state_file.specs.File.{IsNoKeyFile}
@@ -12,6 +12,22 @@ use Rattle.state_file.specs.declared.file.opening.OpenFault.TheVariants.{NoKey, 
 use Rattle.state_file.specs.declared.file.opening.OpenFault.TheVariants.{Damaged, DeviceFailed}
 use Rattle.state_file.specs.declared.record.Record.{Record}
 use Rattle.state_file.specs.declared.record.Version.{Version}
+
+-- ---- the numbers and names of faults
+
+abbrev pub open_number : OpenFault → ℕ
+open_number NoKey = 40
+open_number NotKeyFile = 41
+open_number VersionFault = 42
+open_number (Damaged slot) = 43
+open_number DeviceFailed = 45
+
+abbrev pub open_name : OpenFault → List ℕ
+open_name NoKey = codes "NoKey"
+open_name NotKeyFile = codes "NotKeyFile"
+open_name VersionFault = codes "Version"
+open_name (Damaged slot) = codes "Damaged"
+open_name DeviceFailed = codes "DeviceFailed"
 
 -- ---- what opening finds
 

@@ -51,9 +51,9 @@ pub enum MigrateFault {
 }
 
 impl MigrateFault {
-    ghost use Rattle.state_file.specs.MigrateFault.{number_of};
+    ghost use Rattle.state_file.specs.MigrateFault.{name_of, number_of};
 
-    /// The fault's number.
+    /// The number that reports the fault: 26, 40 to 46, 50 or 52.
     pub fn number(self) -> u8
         ensures { result ≡ number_of self }
     {
@@ -68,6 +68,24 @@ impl MigrateFault {
             MigrateFault::OutOfMemory => 46,
             MigrateFault::KeyThere => 50,
             MigrateFault::Full => 52,
+        }
+    }
+
+    /// The name that is printed beside the number.
+    pub fn name(self) -> &'static str
+        ensures { result.now ≡ name_of self }
+    {
+        match self {
+            MigrateFault::Stopped => "Stopped",
+            MigrateFault::NoKey => "NoKey",
+            MigrateFault::NotKeyFile => "NotKeyFile",
+            MigrateFault::Version => "Version",
+            MigrateFault::Damaged(_) => "Damaged",
+            MigrateFault::Illegal(_) => "Illegal",
+            MigrateFault::DeviceFailed => "DeviceFailed",
+            MigrateFault::OutOfMemory => "OutOfMemory",
+            MigrateFault::KeyThere => "KeyThere",
+            MigrateFault::Full => "Full",
         }
     }
 }

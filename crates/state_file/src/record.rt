@@ -1,6 +1,8 @@
 //! The records of a key. None that holds a secret can be printed.
 
-ghost use Rattle.std.specs.Prelude.{◌≡◌, ◌<◌, ◌≤◌, ◌^◌, Some, true, false};
+ghost use Rattle.std.specs.Prelude.{◌≡◌, ◌<◌, ◌≤◌, ◌^◌, Some, true, false, nat_eq};
+ghost use Rattle.std.specs.Cmp.Lexicographic.{pointwise};
+ghost use Rattle.std.specs.Option.{option_map_or};
 ghost use Rattle.typecodes.specs.Types.{named};
 ghost use Rattle.state_file.specs.Carried.{in_version};
 ghost use Rattle.state_file.specs.Laws.{is_moved};
@@ -209,7 +211,7 @@ impl Secret {
 }
 
 impl Secret {
-    ghost use Rattle.state_file.specs.Laws.{leaves_at, levels_of};
+    ghost use Rattle.state_file.specs.Laws.{identifier_of_secret, leaves_at, levels_of};
 
     /// The number of levels: 1, or for HSS up to 8.
     pub fn levels(&self) -> u8
@@ -218,6 +220,21 @@ impl Secret {
         match self {
             Secret::Hss { levels, .. } => levels.count().get(),
             Secret::Lms(_) | Secret::Xmss(_) => 1,
+        }
+    }
+
+    /// Whether the top tree has this I, 16 bytes. An XMSS key has none.
+    pub fn has_identifier(&self, identifier: &[u8; 16]) -> bool
+        ensures { result
+            ≡ option_map_or (λ own. pointwise nat_eq own identifier.now) (identifier_of_secret self.now) false }
+    {
+        match self {
+            Secret::Lms(top) => top.identifier == *identifier,
+            Secret::Hss {
+                identifier: top,
+                ..
+            } => top == identifier,
+            Secret::Xmss(_) => false,
         }
     }
 

@@ -1,5 +1,5 @@
 -- Faults, by their place and cause.
-use Rattle.std.specs.Prelude.{ℕ}
+use Rattle.std.specs.Prelude.{ℕ, List, codes}
 use Rattle.typecodes.specs.declared.fault.Cause.{Cause}
 use Rattle.typecodes.specs.declared.fault.Cause.TheVariants.{Truncated, UnknownType, LevelCount}
 use Rattle.typecodes.specs.declared.fault.Cause.TheVariants.{LeafOutOfRange, Trailing}
@@ -14,3 +14,11 @@ cause_number UnknownType = 2
 cause_number LevelCount = 3
 cause_number LeafOutOfRange = 4
 cause_number Trailing = 5
+
+-- the name that is printed beside it
+abbrev pub cause_name : Cause → List ℕ
+cause_name Truncated = codes "Truncated"
+cause_name UnknownType = codes "UnknownType"
+cause_name LevelCount = codes "LevelCount"
+cause_name LeafOutOfRange = codes "LeafOutOfRange"
+cause_name Trailing = codes "Trailing"

@@ -1,7 +1,7 @@
 //! Why bytes spell no value.
 
 ghost use Rattle.std.specs.Prelude.{◌≡◌};
-ghost use Rattle.typecodes.specs.Fault.{cause_number};
+ghost use Rattle.typecodes.specs.Fault.{cause_name, cause_number};
 
 use std::fmt;
 use thiserror::Error;
@@ -37,6 +37,19 @@ impl Cause {
             Cause::LevelCount => 3,
             Cause::LeafOutOfRange => 4,
             Cause::Trailing => 5,
+        }
+    }
+
+    /// The name that is printed beside the number.
+    pub fn name(self) -> &'static str
+        ensures { result.now ≡ cause_name self }
+    {
+        match self {
+            Cause::Truncated => "Truncated",
+            Cause::UnknownType => "UnknownType",
+            Cause::LevelCount => "LevelCount",
+            Cause::LeafOutOfRange => "LeafOutOfRange",
+            Cause::Trailing => "Trailing",
         }
     }
 }

@@ -1,7 +1,7 @@
 //! Why a signature is refused.
 
 ghost use Rattle.std.specs.Prelude.{◌≡◌};
-ghost use Rattle.typecodes.specs.Refusal.{refusal_number};
+ghost use Rattle.typecodes.specs.Refusal.{refusal_name, refusal_number};
 
 use crate::fault::ReadFault;
 use std::fmt;
@@ -39,6 +39,19 @@ impl Refusal {
             Refusal::LevelMismatch => 11,
             Refusal::RootMismatch(_) => 12,
             Refusal::MessageRead => 14,
+        }
+    }
+
+    /// The name that is printed beside the number.
+    pub fn name(&self) -> &'static str
+        ensures { result.now ≡ refusal_name self.now }
+    {
+        match self {
+            Refusal::Unreadable(fault) => fault.cause.name(),
+            Refusal::TypeMismatch(_) => "TypeMismatch",
+            Refusal::LevelMismatch => "LevelMismatch",
+            Refusal::RootMismatch(_) => "RootMismatch",
+            Refusal::MessageRead => "MessageRead",
         }
     }
 }

@@ -68,10 +68,8 @@ impl<S: Store, R: Source> Signer<S, R> {
             .map_err(|_| SignFault::OutOfMemory)?;
         let count = self.ledger.len();
         let trees = SecretTrees::of(&self.ledger.key().secret);
-        let (place, leaf) = match self.ledger.current(level) {
-            Some(tree) => (tree.place, tree.next),
-            None => (0, 0),
-        };
+        let tree = self.ledger.current(level);
+        let (place, leaf) = tree.map_or((0, 0), |tree| (tree.place, tree.next));
         self.caches
             .keep_trees(&trees, &self.ledger, level, place, leaf, count, progress)
     }

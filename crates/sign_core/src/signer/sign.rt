@@ -1,6 +1,6 @@
 //! `sign`: the steps of a request, and what refuses it at each.
 
-ghost use Rattle.std.specs.Prelude.{◌≡◌, ◌<◌, [], None, Some, vec_capacity, IfErr, IsSome, OnErr, ◌≤◌, ◌↔◌};
+ghost use Rattle.std.specs.Prelude.{◌≡◌, ◌<◌, [], None, Some, vec_capacity, IfErr, IsSome, OnErr, OnOk, ◌≤◌, ◌↔◌};
 ghost use Rattle.typecodes.specs.declared.secret.XmssSecret.{XmssSecret as X};
 ghost use Rattle.sign_core.specs.Caches.{HasCurrent};
 ghost use Rattle.sign_core.specs.Textbook.{Trees, trees_of};
@@ -123,7 +123,8 @@ impl<S: Store, R: Source> Signer<S, R> {
         ensures repeat { IsSome (binding_at self.old.records name.now) →
             KeepsForRepeat self.old self.new (is_fault is_before_repeat result) }
     {
-        self.sign_telling(name, message, out, &Silent::new())
+        let signed = self.sign_into(name, message, out, &Silent::new());
+        cleared_at_fault(signed, out)
     }
 
     /// As `sign`, telling the progress of each tree that is made: a current or new one, or for a bound name an earlier
@@ -142,11 +143,8 @@ impl<S: Store, R: Source> Signer<S, R> {
         ensures repeat { IsSome (binding_at self.old.records name.now) →
             KeepsForRepeat self.old self.new (is_fault is_before_repeat result) }
     {
-        if let Err(fault) = self.sign_into(name, message, out, progress) {
-            out.clear();
-            return Err(fault);
-        }
-        Ok(())
+        let signed = self.sign_into(name, message, out, progress);
+        cleared_at_fault(signed, out)
     }
 
     // As `sign_telling`, without clearing `out` on error.
@@ -188,4 +186,17 @@ impl<S: Store, R: Source> Signer<S, R> {
         // 23, 24, 29 and 25 for each tree; 23, 27, 25
         self.bind_below(level, name, message, out, progress)
     }
+}
+
+// The answer. Where it is a fault, the output is emptied.
+fn cleared_at_fault(signed: Result<(), SignFault>, out: &mut Vec<u8>) -> Result<(), SignFault>
+    ensures answer { result ≡ signed }
+    ensures capacity { vec_capacity out.new ≡ vec_capacity out.old }
+    ensures empty { OnErr result (out.new.items ≡ []) }
+    ensures stays { OnOk result (out.new.items ≡ out.old.items) }
+{
+    if signed.is_err() {
+        out.clear();
+    }
+    signed
 }

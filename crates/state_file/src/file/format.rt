@@ -24,6 +24,32 @@ pub enum FormatFault {
     KeyThere,
 }
 
+impl FormatFault {
+    ghost use Rattle.state_file.specs.Format.{format_name, format_number};
+
+    /// The number that reports the fault: 41, 45 or 50.
+    pub fn number(self) -> u8
+        ensures { result ≡ format_number self }
+    {
+        match self {
+            FormatFault::NotKeyFile => 41,
+            FormatFault::DeviceFailed => 45,
+            FormatFault::KeyThere => 50,
+        }
+    }
+
+    /// The name that is printed beside the number.
+    pub fn name(self) -> &'static str
+        ensures { result.now ≡ format_name self }
+    {
+        match self {
+            FormatFault::NotKeyFile => "NotKeyFile",
+            FormatFault::DeviceFailed => "DeviceFailed",
+            FormatFault::KeyThere => "KeyThere",
+        }
+    }
+}
+
 impl From<DiskFault> for FormatFault {
     ghost use Rattle.state_file.specs.declared.file.format.FormatFault.TheVariants.{DeviceFailed};
 

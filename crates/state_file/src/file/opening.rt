@@ -43,6 +43,36 @@ pub enum OpenFault {
     DeviceFailed,
 }
 
+impl OpenFault {
+    ghost use Rattle.state_file.specs.Opening.{open_name, open_number};
+
+    /// The number that reports the fault: 40 to 43 or 45.
+    pub fn number(self) -> u8
+        ensures { result ≡ open_number self }
+    {
+        match self {
+            OpenFault::NoKey => 40,
+            OpenFault::NotKeyFile => 41,
+            OpenFault::Version => 42,
+            OpenFault::Damaged(_) => 43,
+            OpenFault::DeviceFailed => 45,
+        }
+    }
+
+    /// The name that is printed beside the number.
+    pub fn name(self) -> &'static str
+        ensures { result.now ≡ open_name self }
+    {
+        match self {
+            OpenFault::NoKey => "NoKey",
+            OpenFault::NotKeyFile => "NotKeyFile",
+            OpenFault::Version => "Version",
+            OpenFault::Damaged(_) => "Damaged",
+            OpenFault::DeviceFailed => "DeviceFailed",
+        }
+    }
+}
+
 impl From<DiskFault> for OpenFault {
     ghost use Rattle.state_file.specs.declared.file.opening.OpenFault.TheVariants.{DeviceFailed};
 

@@ -30,7 +30,7 @@ loop-i-preserved g c =
       | in_default w ↦
           let past : n ≤ i =
           elim (cases_lt i n) [
-            | inl below ↦ absurd (let used = w.in_default.ensures.some.1 (omega arith) in cc)
+            | inl below ↦ absurd (let used = w.in_default.ensures.is_some.1 (omega arith) in cc)
             | inr past ↦ past
           ] in
           record {

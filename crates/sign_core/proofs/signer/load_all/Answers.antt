@@ -42,7 +42,7 @@ returns-in_err-entry-clause-loads g c =
     (unloaded g.S.Store c.args.store.now c.loop-slot.store c.load_at-in-loop-slot.new.store _ c.loop-slot.slot _ c.loop-slot.invariant.loaded c.in_err-entry.ensures)
 
 pub take_up-requires : goal.take_up-requires
-take_up-requires g c = omega (arith, c.loop-slot.invariant.loaded.begins.long, c.loop-slot-test.true, c.limit-slot-end.type_inv)
+take_up-requires g c = omega (arith, c.loop-slot.invariant.loaded.begins.same_length, c.loop-slot-test.true, c.limit-slot-end.type_inv)
 
 pub returns-in_err-take_up-in-Some-2-clause-loads : goal.returns-in_err-take_up-in-Some-2-clause-loads
 returns-in_err-take_up-in-Some-2-clause-loads g c =

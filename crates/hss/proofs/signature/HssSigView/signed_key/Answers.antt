@@ -1,8 +1,8 @@
 use Rattle.hss.proofs.Shown.{slot-key, slot-range, slot-signature, slot-spells, slot-used}
 use Rattle.hss.proofs.signature.HssSigView.signed_key.Goals as goal
 
-pub returns-clause-some : goal.returns-clause-some
-returns-clause-some c =
+pub returns-clause-is_some : goal.returns-clause-is_some
+returns-clause-is_some c =
     let view = c.args.self.now in
     slot-used view.signed.count view.signed.slots view.bottom view.signed.first c.args.i _ c.get.ensures
 
