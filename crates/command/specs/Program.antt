@@ -1,4 +1,5 @@
 -- What a run of the program does: what it prints, and what it does to files.
+use Rattle.command.specs.declared.line.TheConstants.{VERSION}
 use Rattle.std.specs.Prelude.{ℕ, List, Result, ◌≡◌, ◌⊎◌, ◌∷◌, codes, ◌<◌, length, Err, [], string_bytes}
 use Rattle.std.specs.Prelude.{Bool, true, false, ◌++◌}
 use Rattle.std.specs.Str.{bytes_eq}
@@ -58,11 +59,8 @@ AsksToServe words = (state : List ℕ) × (random : List ℕ) × FindsTask words
 abbrev pub Helps : List ℕ → Taken → Taken → ℕ → Type 0
 Helps text old new status = ((status ≡ 0) × WritesText text old new) ⊎ ((status ≡ 3) × Fails old new)
 
-abbrev pub version : List ℕ
-version = codes "0.2.0"
-
 abbrev pub version_line : List ℕ
-version_line = codes "hbsign " ++ version ++ codes "\n"
+version_line = codes "hbsign " ++ VERSION.now ++ codes "\n"
 
 -- A text was written, or the output failed.
 abbrev pub Says : List ℕ → Taken → Taken → Type 0

@@ -146,7 +146,7 @@ impl UsageFault {
     }
 }
 
-/// The program's version, which `specs/Program.antt` repeats. Manual and packages take it from `--version`.
+/// The program's version. Manual and packages take it from `--version`.
 pub const VERSION: &str = "0.2.0";
 
 /// A reader of lines, which counts how often memory was refused.
