@@ -13,9 +13,10 @@
 //! and two outputs. Its contract says which files are opened, read and written, in which order, and which step a signer
 //! makes on the disk of a state file. It also says the line printed, the exit status, and the replies of `serve`.
 //!
-//! - the line: `line`, `argument` and `number`; where it gives no request, `line_fault` and `texts`
+//! - the line: `line`, `argument` and `number`; where it gives no request, `usage_fault`, `line_fault`
+//!   and `texts`
 //! - the commands: `make`, `sign`, `verify`, `retire`, `audit`, `audit_given`, `serve`, `migrate`, `list`, `public`
-//! - the answer: `answer`, `refusal` and `listing_text`, written to `output`
+//! - the answer: `answer`, `refusal`, `listing_text` and `hex_text`, written to `output`
 //! - a signer: `key_file` over the disk of a state file, `signing` over any store
 //! - files: `files` has the traits, `trace` what contracts see of the calls
 //! - the machine: `machine`, `standard` (its streams, and what is said of failed calls), `state`, `file_disk` and

@@ -148,6 +148,7 @@ fn number_detail(word: &'static str, number: u64) -> [Part<'static>; 4]
     [Part::Text(word), Part::Number(number), NONE, NONE]
 }
 
+/// 46 for an error of kind `OutOfMemory`, 53 for any other.
 impl From<io::Error> for Refusal {
     ghost from_gives = { λ error refusal. refusal ≡ refusal_of (error_kind error) };
 
