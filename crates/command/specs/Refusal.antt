@@ -6,17 +6,17 @@ use Rattle.command.specs.declared.refusal.Refusal.TheVariants.{OutOfMemory, File
 use Rattle.command.specs.declared.refusal.Refusal.TheVariants.{Signer, Opening, Preparing, Audit, Given, Locked}
 use Rattle.command.specs.declared.refusal.Refusal.TheVariants.{BadName, BadSpec, Migration, Serving}
 use Rattle.sign_core.specs.declared.fault.SignFault.TheVariants as sign
-use Rattle.sign_core.specs.Fault.{name_of as signer_name, number_of as signer_number, serve_name_of, serve_number_of}
-use Rattle.sign_core.specs.Key.{key_name, key_number}
+use Rattle.sign_core.specs.Fault.{serve_fault_name, serve_fault_number, sign_fault_name, sign_fault_number}
+use Rattle.sign_core.specs.Key.{key_fault_name, key_fault_number}
 use Rattle.key_audit.specs.declared.given.GivenFault.TheVariants as given
 use Rattle.key_audit.specs.declared.report.AuditFault.TheVariants as audit
-use Rattle.key_audit.specs.Audit.{audit_name, audit_number}
-use Rattle.key_audit.specs.Given.{fault_name as given_name, fault_number as given_number}
+use Rattle.key_audit.specs.Audit.{audit_fault_name, audit_fault_number}
+use Rattle.key_audit.specs.Given.{given_fault_name, given_fault_number}
 use Rattle.state_file.specs.declared.file.opening.OpenFault.TheVariants as opening
 use Rattle.state_file.specs.declared.migration.MigrateFault.TheVariants as migrate
-use Rattle.state_file.specs.Format.{format_name, format_number}
-use Rattle.state_file.specs.MigrateFault.{name_of as migrate_name, number_of as migrate_number}
-use Rattle.state_file.specs.Opening.{open_name, open_number}
+use Rattle.state_file.specs.Format.{format_fault_name, format_fault_number}
+use Rattle.state_file.specs.MigrateFault.{migrate_fault_name, migrate_fault_number}
+use Rattle.state_file.specs.Opening.{open_fault_name, open_fault_number}
 use Rattle.std.specs.Prelude.{ℕ, length, List, codes, [], ◌++◌, decimal}
 use Rattle.typecodes.specs.Refusal.{refusal_name, refusal_number}
 use Rattle.sign_core.specs.declared.key.KeyFault.TheVariants.{Length as KeyLength, Unreadable as UnreadableKey}
@@ -29,15 +29,15 @@ refusal_of kind.OutOfMemory = OutOfMemory
 refusal_of _ = FileFailed
 
 abbrev pub number_of : Refusal → ℕ
-number_of (Key fault) = key_number fault
+number_of (Key fault) = key_fault_number fault
 number_of (Signature refusal) = refusal_number refusal
-number_of (Signer fault) = signer_number fault
-number_of (Opening fault) = open_number fault
-number_of (Preparing fault) = format_number fault
-number_of (Audit fault) = audit_number fault
-number_of (Given fault) = given_number fault
-number_of (Migration fault) = migrate_number fault
-number_of (Serving fault) = serve_number_of fault
+number_of (Signer fault) = sign_fault_number fault
+number_of (Opening fault) = open_fault_number fault
+number_of (Preparing fault) = format_fault_number fault
+number_of (Audit fault) = audit_fault_number fault
+number_of (Given fault) = given_fault_number fault
+number_of (Migration fault) = migrate_fault_number fault
+number_of (Serving fault) = serve_fault_number fault
 number_of OutOfMemory = 46
 number_of FileFailed = 53
 number_of Locked = 54
@@ -45,15 +45,15 @@ number_of BadName = 34
 number_of BadSpec = 51
 
 abbrev pub name_of : Refusal → List ℕ
-name_of (Key fault) = key_name fault
+name_of (Key fault) = key_fault_name fault
 name_of (Signature refusal) = refusal_name refusal
-name_of (Signer fault) = signer_name fault
-name_of (Opening fault) = open_name fault
-name_of (Preparing fault) = format_name fault
-name_of (Audit fault) = audit_name fault
-name_of (Given fault) = given_name fault
-name_of (Migration fault) = migrate_name fault
-name_of (Serving fault) = serve_name_of fault
+name_of (Signer fault) = sign_fault_name fault
+name_of (Opening fault) = open_fault_name fault
+name_of (Preparing fault) = format_fault_name fault
+name_of (Audit fault) = audit_fault_name fault
+name_of (Given fault) = given_fault_name fault
+name_of (Migration fault) = migrate_fault_name fault
+name_of (Serving fault) = serve_fault_name fault
 name_of OutOfMemory = codes "OutOfMemory"
 name_of FileFailed = codes "FileFailed"
 name_of Locked = codes "Locked"

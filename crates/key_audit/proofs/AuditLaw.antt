@@ -7,12 +7,12 @@ use Rattle.sign_core.proofs.Illegal.{none_from_legal}
 use Rattle.key_audit.specs.declared.report.Anchor.{Anchor}
 use Rattle.key_audit.specs.declared.report.AuditFault.{AuditFault}
 use Rattle.key_audit.specs.declared.report.AuditFault.TheVariants.{Stopped, NoKey, Damaged, Illegal, DeviceFailed, OutOfMemory, AnchorCount, AnchorTag}
-use Rattle.key_audit.specs.Audit.{AreTags, AuditLaw, IsBeyond, IsOutsideRecords, IsTagged, AnchorCounts, Judges}
+use Rattle.key_audit.specs.Audit.{AreTags, AuditLaw, IsBeyond, IsOutsideRecords, IsTagged, AnchorFits, Judges}
 use Rattle.key_audit.specs.Tags.{IsTag}
 use Rattle.key_audit.proofs.Audits.{some_legal}
 use Rattle.key_audit.proofs.Tags.{tag_law}
 
-within_or_beyond : (anchor : Option Anchor) (records : List Record) → AnchorCounts anchor records → IsBeyond anchor records → ⊥
+within_or_beyond : (anchor : Option Anchor) (records : List Record) → AnchorFits anchor records → IsBeyond anchor records → ⊥
 within_or_beyond None records within beyond = beyond
 within_or_beyond (Some anchor) records within (inl none) = omega (arith, within.0, none)
 within_or_beyond (Some anchor) records within (inr within_limit) = omega (arith, within.1, within_limit)
@@ -20,7 +20,7 @@ within_or_beyond (Some anchor) records within (inr within_limit) = omega (arith,
 none_or_some : {k : ℕ} → ◌≡◌ {A = Option ℕ} None (Some k) → ⊥
 none_or_some is = absurd cc
 
-accepted_else : (records : List Record) (anchor : Option Anchor) (fault : AuditFault) → IsLegal records → AnchorCounts anchor records
+accepted_else : (records : List Record) (anchor : Option Anchor) (fault : AuditFault) → IsLegal records → AnchorFits anchor records
     → IsTagged (IsTag records) anchor → Judges true records anchor (Err fault) → AreTags (IsTag records) anchor (Err fault) → IsOutsideRecords fault
 accepted_else records anchor Stopped legal within tagged judges tags = tt
 accepted_else records anchor DeviceFailed legal within tagged judges tags = tt

@@ -16,7 +16,7 @@ use Rattle.key_audit.specs.declared.report.AuditFault.{AuditFault}
 use Rattle.key_audit.specs.declared.report.AuditFault.TheVariants.{Stopped, NoKey, Damaged, Illegal, DeviceFailed, OutOfMemory, AnchorCount, AnchorTag}
 use Rattle.key_audit.specs.declared.report.Report.{Report}
 use Rattle.key_audit.specs.inner.Audit.{ChecksAnchor, FitsAnchor}
-use Rattle.key_audit.specs.Audit.{AreTags, Audits, IsBeyond, IsSlotTag, IsTagged, AnchorCounts, Judges, ReadsStore, Reports, is_fault, is_stopped}
+use Rattle.key_audit.specs.Audit.{AreTags, Audits, IsBeyond, IsSlotTag, IsTagged, AnchorFits, Judges, ReadsStore, Reports, is_fault, is_stopped}
 use Rattle.key_audit.specs.inner.Loading.{AreLoaded, GivesTag, IsNoLedger, ReadsSlotTag}
 use Rattle.key_audit.specs.Tags.{IsTag}
 use Rattle.key_audit.proofs.Loads.{IsUnchanged, answered, kept_by, reads_after}
@@ -29,7 +29,7 @@ some_legal records legal = slice_get_within records 0 (KeyRecord legal.key) lega
 
 -- tags in one sense are tags in another
 tagged_along : (A B : ℕ → List ℕ → Type 0) (records : List Record) (anchor : Option Anchor)
-    → ((k : ℕ) (tag : List ℕ) → k < length records → A k tag → B k tag) → AnchorCounts anchor records → IsTagged A anchor → IsTagged B anchor
+    → ((k : ℕ) (tag : List ℕ) → k < length records → A k tag → B k tag) → AnchorFits anchor records → IsTagged A anchor → IsTagged B anchor
 tagged_along A B records None along within are = tt
 tagged_along A B records (Some anchor) along within are = along (anchor.count - 1) anchor.tag (omega (arith, within.0, within.1)) are
 
@@ -80,7 +80,7 @@ judged_alike honest records anchor OutOfMemory judges = (judges, λ A. tt)
 judged_alike honest records anchor AnchorCount judges = absurd judges.1
 judged_alike honest records anchor AnchorTag judges = absurd (true≢false (sym judges.1))
 
-within_alike : (a b : List Record) (anchor : Option Anchor) → length a ≡ length b → AnchorCounts anchor a → AnchorCounts anchor b
+within_alike : (a b : List Record) (anchor : Option Anchor) → length a ≡ length b → AnchorFits anchor a → AnchorFits anchor b
 within_alike a b None same within = tt
 within_alike a b (Some anchor) same within = (within.0, omega (arith, within.1, same))
 

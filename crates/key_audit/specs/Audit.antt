@@ -20,26 +20,26 @@ use Rattle.key_audit.specs.declared.report.AuditFault.TheVariants.{OutOfMemory, 
 use Rattle.key_audit.specs.declared.report.Report.{Report}
 use Rattle.key_audit.specs.Tags.{IsTag}
 
-abbrev pub audit_number : AuditFault → ℕ
-audit_number Stopped = 26
-audit_number NoKey = 40
-audit_number (Damaged k) = 43
-audit_number (Illegal k) = 44
-audit_number DeviceFailed = 45
-audit_number OutOfMemory = 46
-audit_number AnchorCount = 47
-audit_number AnchorTag = 48
+abbrev pub audit_fault_number : AuditFault → ℕ
+audit_fault_number Stopped = 26
+audit_fault_number NoKey = 40
+audit_fault_number (Damaged k) = 43
+audit_fault_number (Illegal k) = 44
+audit_fault_number DeviceFailed = 45
+audit_fault_number OutOfMemory = 46
+audit_fault_number AnchorCount = 47
+audit_fault_number AnchorTag = 48
 
 -- the name that is printed beside it
-abbrev pub audit_name : AuditFault → List ℕ
-audit_name Stopped = codes "Stopped"
-audit_name NoKey = codes "NoKey"
-audit_name (Damaged slot) = codes "Damaged"
-audit_name (Illegal slot) = codes "Illegal"
-audit_name DeviceFailed = codes "DeviceFailed"
-audit_name OutOfMemory = codes "OutOfMemory"
-audit_name AnchorCount = codes "AnchorCount"
-audit_name AnchorTag = codes "AnchorTag"
+abbrev pub audit_fault_name : AuditFault → List ℕ
+audit_fault_name Stopped = codes "Stopped"
+audit_fault_name NoKey = codes "NoKey"
+audit_fault_name (Damaged slot) = codes "Damaged"
+audit_fault_name (Illegal slot) = codes "Illegal"
+audit_fault_name DeviceFailed = codes "DeviceFailed"
+audit_fault_name OutOfMemory = codes "OutOfMemory"
+audit_fault_name AnchorCount = codes "AnchorCount"
+audit_fault_name AnchorTag = codes "AnchorTag"
 
 -- ---- what it does to the store
 
@@ -86,9 +86,9 @@ pub record Reports (records : List Record) (report : Report) : Type 0 where
 -- ---- anchors
 
 -- The anchor, if given, counts at least one record, and no more than there are.
-abbrev pub AnchorCounts : Option Anchor → List Record → Type 0
-AnchorCounts None records = Unit {0}
-AnchorCounts (Some anchor) records = (0 < anchor.count) × (anchor.count ≤ length records)
+abbrev pub AnchorFits : Option Anchor → List Record → Type 0
+AnchorFits None records = Unit {0}
+AnchorFits (Some anchor) records = (0 < anchor.count) × (anchor.count ≤ length records)
 
 -- An anchor is given that counts none, or more than there are.
 abbrev pub IsBeyond : Option Anchor → List Record → Type 0
@@ -108,7 +108,7 @@ IsSlotTag d on k tag = tag ≡ tag_at (d.state on).content k
 -- The answer about these records, tags aside. Legality comes before the anchor's count, and that before its tag. 46
 -- needs a record, and 43 a disk that isn't honest.
 abbrev pub Judges : (honest : Bool) → List Record → Option Anchor → Result Report AuditFault → Type 0
-Judges honest records anchor (Ok report) = IsLegal records × AnchorCounts anchor records × Reports records report
+Judges honest records anchor (Ok report) = IsLegal records × AnchorFits anchor records × Reports records report
 Judges honest records anchor (Err Stopped) = Unit {0}
 Judges honest records anchor (Err NoKey) = records ≡ []
 Judges honest records anchor (Err (Damaged k)) = (honest ≡ false) × (k < length records)
@@ -116,7 +116,7 @@ Judges honest records anchor (Err (Illegal k)) = first_illegal records ≡ Some 
 Judges honest records anchor (Err DeviceFailed) = Unit {0}
 Judges honest records anchor (Err OutOfMemory) = 0 < length records
 Judges honest records anchor (Err AnchorCount) = IsLegal records × IsBeyond anchor records
-Judges honest records anchor (Err AnchorTag) = IsLegal records × IsSome anchor × AnchorCounts anchor records
+Judges honest records anchor (Err AnchorTag) = IsLegal records × IsSome anchor × AnchorFits anchor records
 
 -- What the answer says of tags: Ok, the report's and the anchor's are right; 48, the anchor's isn't.
 abbrev pub AreTags : (IsTagOf : ℕ → List ℕ → Type 0) → Option Anchor → Result Report AuditFault → Type 0
@@ -151,12 +151,12 @@ IsOutsideRecords _ = ⊥
 pub record AuditLaw : Type 0 where
   -- legal records that fit the anchor are refused only for reasons outside them
   pub accepts : (records : List Record) (anchor : Option Anchor) (fault : AuditFault) → IsLegal records
-      → AnchorCounts anchor records → IsTagged (IsTag records) anchor → Judges true records anchor (Err fault)
+      → AnchorFits anchor records → IsTagged (IsTag records) anchor → Judges true records anchor (Err fault)
       → AreTags (IsTag records) anchor (Err fault) → IsOutsideRecords fault
   -- a report is an anchor that its records fit, whatever records follow
   pub anchors : (honest : Bool) (records more : List Record) (anchor : Option Anchor) (report : Report)
       → Judges honest records anchor (Ok report) → AreTags (IsTag records) anchor (Ok report)
-      → AnchorCounts (Some (anchor_of report)) (records ++ more)
+      → AnchorFits (Some (anchor_of report)) (records ++ more)
       × IsTagged (IsTag (records ++ more)) (Some (anchor_of report))
   -- fewer records don't fit it
   pub put_back : (honest : Bool) (records : List Record) (anchor : Option Anchor) (report : Report) (n : ℕ)

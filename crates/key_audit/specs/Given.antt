@@ -69,12 +69,12 @@ Checks public given (Err (NotValid i)) = IsFirstNotValid public given i
 Checks public given (Err (LeafTwice i j)) = AreValid public given × IsFirstTwice public given i j
 Checks public given (Err OutOfMemory) = AreValid public given × (0 < length given)
 
-abbrev pub fault_number : GivenFault → ℕ
-fault_number (NotValid i) = 60
-fault_number (LeafTwice i j) = 61
-fault_number OutOfMemory = 46
+abbrev pub given_fault_number : GivenFault → ℕ
+given_fault_number (NotValid i) = 60
+given_fault_number (LeafTwice i j) = 61
+given_fault_number OutOfMemory = 46
 
-abbrev pub fault_name : GivenFault → List ℕ
-fault_name (NotValid place) = codes "NotValid"
-fault_name (LeafTwice first second) = codes "LeafTwice"
-fault_name OutOfMemory = codes "OutOfMemory"
+abbrev pub given_fault_name : GivenFault → List ℕ
+given_fault_name (NotValid place) = codes "NotValid"
+given_fault_name (LeafTwice first second) = codes "LeafTwice"
+given_fault_name OutOfMemory = codes "OutOfMemory"

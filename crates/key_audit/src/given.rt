@@ -1,8 +1,8 @@
 //! Signatures that were given out: does a leaf sign two digests?
 
 ghost use Rattle.std.specs.Prelude.{◌≡◌, ◌↔◌, true, MatchOption};
-ghost use Rattle.key_audit.specs.Given.{AreValid, Checks, IsFirstNotValid, IsValidGiven, fault_name};
-ghost use Rattle.key_audit.specs.Given.{fault_number};
+ghost use Rattle.key_audit.specs.Given.{AreValid, Checks, IsFirstNotValid, IsValidGiven, given_fault_name};
+ghost use Rattle.key_audit.specs.Given.{given_fault_number};
 
 use crate::in_memory::InMemory;
 use crate::leaf_index::LeafIndex;
@@ -37,7 +37,7 @@ pub enum GivenFault {
 impl GivenFault {
     /// The number that reports the fault: 46, 60 or 61.
     pub fn number(self) -> u8
-        ensures { result ≡ fault_number self }
+        ensures { result ≡ given_fault_number self }
     {
         match self {
             GivenFault::NotValid(_) => 60,
@@ -48,7 +48,7 @@ impl GivenFault {
 
     /// The name that is printed beside the number.
     pub fn name(self) -> &'static str
-        ensures { result.now ≡ fault_name self }
+        ensures { result.now ≡ given_fault_name self }
     {
         match self {
             GivenFault::NotValid(_) => "NotValid",

@@ -59,11 +59,11 @@ pub enum AuditFault {
 
 impl AuditFault {
     ghost use Rattle.std.specs.Prelude.{◌≡◌};
-    ghost use Rattle.key_audit.specs.Audit.{audit_name, audit_number};
+    ghost use Rattle.key_audit.specs.Audit.{audit_fault_name, audit_fault_number};
 
     /// The number that reports the fault: 26, 40 or 43 to 48.
     pub fn number(self) -> u8
-        ensures { result ≡ audit_number self }
+        ensures { result ≡ audit_fault_number self }
     {
         match self {
             AuditFault::Stopped => 26,
@@ -79,7 +79,7 @@ impl AuditFault {
 
     /// The name that is printed beside the number.
     pub fn name(self) -> &'static str
-        ensures { result.now ≡ audit_name self }
+        ensures { result.now ≡ audit_fault_name self }
     {
         match self {
             AuditFault::Stopped => "Stopped",

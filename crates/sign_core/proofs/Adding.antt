@@ -17,7 +17,8 @@ use Rattle.sign_core.specs.declared.fault.SignFault.TheVariants.{OutOfMemory, St
 use Rattle.sign_core.specs.Cuts.{IsBeginning}
 use Rattle.sign_core.specs.Caches.{Cached}
 use Rattle.sign_core.specs.Signer.{IsSigner, view_of, IsTied, LeavesOld, UsesMemory, View}
-use Rattle.sign_core.specs.inner.Signer.{Adds, IsAppended, LeavesEither}
+use Rattle.sign_core.specs.inner.Signer.{Adds}
+use Rattle.sign_core.proofs.Appends.{IsAppended, LeavesEither}
 use Rattle.sign_core.specs.Records.{can_follow, the_key, is_long}
 use Rattle.sign_core.specs.inner.Ledger.{Grows}
 use Rattle.sign_core.specs.Ledger.{Table, TakesMemory}

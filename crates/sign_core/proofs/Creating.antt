@@ -22,7 +22,8 @@ use Rattle.sign_core.specs.declared.source.Source as source
 use Rattle.sign_core.specs.Source.{Provides}
 use Rattle.sign_core.specs.Cuts.{IsBeginning}
 use Rattle.state_file.specs.declared.refused.Refused.{Refused}
-use Rattle.sign_core.specs.inner.Signer.{DrawsSecret, HoldsParts, IsAppended, IsTakenUp, LooksForKey}
+use Rattle.sign_core.specs.inner.Signer.{DrawsSecret, HoldsParts, IsTakenUp, LooksForKey}
+use Rattle.sign_core.proofs.Appends.{IsAppended}
 use Rattle.sign_core.specs.Ledger.{Table}
 use Rattle.sign_core.specs.Records.{the_key}
 use Rattle.sign_core.specs.Signer.{Creates, IsAnswered, KeepsStore, LeavesOld, LeavesSource, LoadFails, MakesKey, View}

@@ -21,7 +21,7 @@ use Rattle.sign_core.specs.declared.frames.Head.{Head}
 use Rattle.sign_core.specs.declared.serving.Reply.{Reply}
 use Rattle.sign_core.specs.declared.serving.Reply.TheVariants.{BadName, Refused, Signed}
 use Rattle.sign_core.specs.declared.source.Source as source
-use Rattle.sign_core.specs.Fault.{serve_number_of}
+use Rattle.sign_core.specs.Fault.{serve_fault_number}
 use Rattle.sign_core.specs.Frames.{CutsField, Ending, IsCut, IsWholeMessage, ReadsInput, Request, after_size, broken, ended, given_message, going, head}
 use Rattle.sign_core.specs.inner.Frames.{FillsBuffer, ReadsField, ReadsHead, WasReadOrFailed, bytes_of, head_fields}
 use Rattle.sign_core.specs.Records.{binding_at}
@@ -427,7 +427,7 @@ pub record Taken {S R I : Type 0} (g : store.Ghosts S) (r : source.Ghosts R) (m 
   pub answers : AnswersInTurn g r exchanges old new capacity room
 
 pub taken_head : {S R I : Type 0} (g : store.Ghosts S) (r : source.Ghosts R) (m : message.Ghosts I) (signer : View S R) (before after : I) (capacity : ℕ)
-    (e : ServeFault) → ReadsHead m before after (Err e) → Taken g r m signer signer before after capacity capacity (reply_frame (serve_number_of e) []) (Some e)
+    (e : ServeFault) → ReadsHead m before after (Err e) → Taken g r m signer signer before after capacity capacity (reply_frame (serve_fault_number e) []) (Some e)
 taken_head g r m signer before after capacity FrameCut (bytes, some, cuts, reads) =
     record { bytes = bytes; ending = ended; exchanges = []; turn = (refl, refl, some, cuts, refl); reads = reads; answers = (refl, refl) }
 taken_head g r m signer before after capacity MessageRead (bytes, cuts, reads) =
@@ -522,17 +522,17 @@ module _ {S R I : Type 0} (g : store.Ghosts S) (r : source.Ghosts R) (m : messag
 
 -- A head that is cut gets a reply, or the reply is lost.
 module _ {S R I : Type 0} (g : store.Ghosts S) (r : source.Ghosts R) (m : message.Ghosts I) (signer : View S R) (before after : I) (capacity : ℕ)
-    (contents left : Option (List ℕ)) (e : ServeFault) (number : ℕ) (is : number ≡ serve_number_of e) (head_is : ReadsHead m before after (Err e)) where
+    (contents left : Option (List ℕ)) (e : ServeFault) (number : ℕ) (is : number ≡ serve_fault_number e) (head_is : ReadsHead m before after (Err e)) where
   pub head_failed : Appends contents left (reply_frame number []) → Turns g r m signer signer before after contents left capacity capacity (Err e)
   head_failed written =
-      turn_fails g r m signer signer before after capacity capacity contents left (reply_frame (serve_number_of e) []) e
+      turn_fails g r m signer signer before after capacity capacity contents left (reply_frame (serve_fault_number e) []) e
       (taken_head g r m signer before after capacity e head_is) (subst (λ n. Appends contents left (reply_frame n [])) is written)
 
   pub head_lost : (lost : ServeFault) (result : Result Bool ServeFault) → result ≡ Err lost → WritesReply (reply_frame number []) contents left (Err lost)
       → Turns g r m signer signer before after contents left capacity capacity result
   head_lost lost result answer writes =
       subst (λ (a : Result Bool ServeFault). Turns g r m signer signer before after contents left capacity capacity a) (sym answer)
-      (turn_lost g r m signer signer before after capacity capacity contents left (reply_frame (serve_number_of e) []) (Some e) lost
+      (turn_lost g r m signer signer before after capacity capacity contents left (reply_frame (serve_fault_number e) []) (Some e) lost
       (taken_head g r m signer before after capacity e head_is) (subst (λ n. WritesReply (reply_frame n []) contents left (Err lost)) is writes))
 
 -- So does a request.

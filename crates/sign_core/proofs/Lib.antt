@@ -27,6 +27,7 @@ pub mod Legal
 pub mod Illegal
 pub mod Append
 pub mod Appended
+pub mod Appends
 pub mod Migrating
 pub mod Next
 pub mod Uses

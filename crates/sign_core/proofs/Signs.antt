@@ -26,7 +26,7 @@ use Rattle.sign_core.specs.Cuts.{IsBeginning}
 use Rattle.sign_core.specs.inner.Request.{HasPrepared, Prepares}
 use Rattle.sign_core.specs.Caches.{Cached}
 use Rattle.sign_core.specs.inner.Signer.{Hinders}
-use Rattle.sign_core.specs.Signer.{IsRead, IsSigner, IsTied, KeepsAll, KeepsForRepeat, KeepsStore, LacksMemory, LacksTree, RefusesMemory, wanted_records, Signs, View, is_out_of_memory}
+use Rattle.sign_core.specs.Signer.{IsRead, IsSigner, IsTied, KeepsAll, KeepsForRepeat, KeepsStore, LacksMemory, LacksTree, RefusesMemory, wanted_total, Signs, View, is_out_of_memory}
 use Rattle.sign_core.specs.Signer.{is_before_caches, is_before_repeat, is_fault, is_random_failed, is_store_failed, signature_size, state_of}
 use Rattle.sign_core.specs.inner.Signing.{CanBind, BindsBelow, Does, IsBindingOf, IsReady, Repeats, repeat_chance}
 use Rattle.sign_core.specs.Signing.{UnderKey, answered_value}
@@ -215,7 +215,7 @@ module _ {S R M : Type 0} (g : store.Ghosts S) (r : source.Ghosts R) (m : messag
       refusals = subst (λ s. RefusesMemory has_room answer (g.refusals old.store) (g.refusals s)) (sym keeps.store)
           (refuses_early has_room answer (g.refusals old.store) (calm.memory (g.refusals old.store)));
       memory = omega (arith, spare, ap length keeps.records);
-      keeps = keeps_at_all g has_room (wanted_records key.secret (deepest key.secret old.records)) old new answer keeps caches
+      keeps = keeps_at_all g has_room (wanted_total key.secret (deepest key.secret old.records)) old new answer keeps caches
           (calm_refuses has_room answer (calm.memory 0));
     };
     message = read;
@@ -398,7 +398,7 @@ module _ {S R M : Type 0} (g : store.Ghosts S) (r : source.Ghosts R) (m : messag
             at_once = λ early. kept_of_other old new mid.spare mid.cached (b.keeps.at_once early);
             caches = λ early. absurd (true≢false (sym early ∙ b.not_before_caches));
             unprepared = λ lacking. absurd (true≢false (sym b.room ∙ lacking));
-            lacks_tree = λ room. subst (λ l. LacksTree g (wanted_records key.secret l) old new answer) (sym at)
+            lacks_tree = λ room. subst (λ l. LacksTree g (wanted_total key.secret l) old new answer) (sym at)
                 (b.keeps.lacks_tree refl);
             store = b.keeps.store;
           };

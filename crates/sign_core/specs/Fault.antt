@@ -9,55 +9,55 @@ use Rattle.sign_core.specs.declared.fault.SignFault.TheVariants.{NoKey, NoMemory
 use Rattle.sign_core.specs.declared.fault.SignFault.TheVariants.{RandomRepeated, RetireRange, Stopped, StoreFailed}
 use Rattle.sign_core.specs.declared.fault.SignFault.TheVariants.{Unreadable}
 
-abbrev pub number_of : SignFault → ℕ
-number_of Changed = 21
-number_of Exhausted = 22
-number_of RandomFailed = 23
-number_of RandomRepeated = 24
-number_of StoreFailed = 25
-number_of Stopped = 26
-number_of MessageRead = 27
-number_of (Damaged slot) = 28
-number_of OutOfMemory = 29
-number_of LedgerFull = 30
-number_of Moved = 31
-number_of RetireRange = 32
-number_of LongName = 33
-number_of NoKey = 40
-number_of (Unreadable slot) = 43
-number_of (Illegal slot) = 44
-number_of DeviceFailed = 45
-number_of NoMemoryToOpen = 46
-number_of KeyThere = 50
+abbrev pub sign_fault_number : SignFault → ℕ
+sign_fault_number Changed = 21
+sign_fault_number Exhausted = 22
+sign_fault_number RandomFailed = 23
+sign_fault_number RandomRepeated = 24
+sign_fault_number StoreFailed = 25
+sign_fault_number Stopped = 26
+sign_fault_number MessageRead = 27
+sign_fault_number (Damaged slot) = 28
+sign_fault_number OutOfMemory = 29
+sign_fault_number LedgerFull = 30
+sign_fault_number Moved = 31
+sign_fault_number RetireRange = 32
+sign_fault_number LongName = 33
+sign_fault_number NoKey = 40
+sign_fault_number (Unreadable slot) = 43
+sign_fault_number (Illegal slot) = 44
+sign_fault_number DeviceFailed = 45
+sign_fault_number NoMemoryToOpen = 46
+sign_fault_number KeyThere = 50
 
 -- the names that are printed beside them
-abbrev pub name_of : SignFault → List ℕ
-name_of Changed = codes "Changed"
-name_of Exhausted = codes "Exhausted"
-name_of RandomFailed = codes "RandomFailed"
-name_of RandomRepeated = codes "RandomRepeated"
-name_of StoreFailed = codes "StoreFailed"
-name_of Stopped = codes "Stopped"
-name_of MessageRead = codes "MessageRead"
-name_of (Damaged slot) = codes "Damaged"
-name_of OutOfMemory = codes "OutOfMemory"
-name_of LedgerFull = codes "LedgerFull"
-name_of Moved = codes "Moved"
-name_of RetireRange = codes "RetireRange"
-name_of LongName = codes "LongName"
-name_of NoKey = codes "NoKey"
-name_of (Unreadable slot) = codes "Damaged"
-name_of (Illegal slot) = codes "Illegal"
-name_of DeviceFailed = codes "DeviceFailed"
-name_of NoMemoryToOpen = codes "OutOfMemory"
-name_of KeyThere = codes "KeyThere"
+abbrev pub sign_fault_name : SignFault → List ℕ
+sign_fault_name Changed = codes "Changed"
+sign_fault_name Exhausted = codes "Exhausted"
+sign_fault_name RandomFailed = codes "RandomFailed"
+sign_fault_name RandomRepeated = codes "RandomRepeated"
+sign_fault_name StoreFailed = codes "StoreFailed"
+sign_fault_name Stopped = codes "Stopped"
+sign_fault_name MessageRead = codes "MessageRead"
+sign_fault_name (Damaged slot) = codes "Damaged"
+sign_fault_name OutOfMemory = codes "OutOfMemory"
+sign_fault_name LedgerFull = codes "LedgerFull"
+sign_fault_name Moved = codes "Moved"
+sign_fault_name RetireRange = codes "RetireRange"
+sign_fault_name LongName = codes "LongName"
+sign_fault_name NoKey = codes "NoKey"
+sign_fault_name (Unreadable slot) = codes "Damaged"
+sign_fault_name (Illegal slot) = codes "Illegal"
+sign_fault_name DeviceFailed = codes "DeviceFailed"
+sign_fault_name NoMemoryToOpen = codes "OutOfMemory"
+sign_fault_name KeyThere = codes "KeyThere"
 
-abbrev pub serve_number_of : ServeFault → ℕ
-serve_number_of serving.MessageRead = 27
-serve_number_of serving.FrameCut = 35
-serve_number_of serving.WriteFailed = 36
+abbrev pub serve_fault_number : ServeFault → ℕ
+serve_fault_number serving.MessageRead = 27
+serve_fault_number serving.FrameCut = 35
+serve_fault_number serving.WriteFailed = 36
 
-abbrev pub serve_name_of : ServeFault → List ℕ
-serve_name_of serving.MessageRead = codes "MessageRead"
-serve_name_of serving.FrameCut = codes "FrameCut"
-serve_name_of serving.WriteFailed = codes "WriteFailed"
+abbrev pub serve_fault_name : ServeFault → List ℕ
+serve_fault_name serving.MessageRead = codes "MessageRead"
+serve_fault_name serving.FrameCut = codes "FrameCut"
+serve_fault_name serving.WriteFailed = codes "WriteFailed"

@@ -31,13 +31,13 @@ KeyHasFault bytes (Unreadable fault) =
     ⊎ ((length bytes ≡ 68) × HasFault xmss_public_key bytes 0 fault)
 
 -- the number that reports the fault, and its name
-abbrev pub key_number : KeyFault → ℕ
-key_number (Length n) = 6
-key_number (Unreadable fault) = cause_number fault.cause
+abbrev pub key_fault_number : KeyFault → ℕ
+key_fault_number (Length n) = 6
+key_fault_number (Unreadable fault) = cause_number fault.cause
 
-abbrev pub key_name : KeyFault → List ℕ
-key_name (Length n) = codes "KeyLength"
-key_name (Unreadable fault) = cause_name fault.cause
+abbrev pub key_fault_name : KeyFault → List ℕ
+key_fault_name (Length n) = codes "KeyLength"
+key_fault_name (Unreadable fault) = cause_name fault.cause
 
 abbrev pub KeyVerdict : {A : Type 0} → AnyPublic → List ℕ → List ℕ → Result A Refusal → Type 0
 KeyVerdict (Lms key) message bytes result = LmsVerdict key message bytes result

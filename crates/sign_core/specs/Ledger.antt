@@ -95,10 +95,10 @@ TakesMemory Moved = ⊥
 
 -- ---- records that are taken up
 
-abbrev pub fault_number : LedgerFault → ℕ
-fault_number Empty = 40
-fault_number (Illegal k) = 44
-fault_number OutOfMemory = 46
+abbrev pub ledger_fault_number : LedgerFault → ℕ
+ledger_fault_number Empty = 40
+ledger_fault_number (Illegal k) = 44
+ledger_fault_number OutOfMemory = 46
 
 -- ---- a list of records that is taken up
 

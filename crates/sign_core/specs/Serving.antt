@@ -14,7 +14,7 @@ use Rattle.sign_core.specs.declared.fault.SignFault.TheVariants.{Damaged}
 use Rattle.sign_core.specs.declared.serving.Reply.{Reply}
 use Rattle.sign_core.specs.declared.serving.Reply.TheVariants.{BadName, Refused, Signed}
 use Rattle.sign_core.specs.declared.source.Source as source
-use Rattle.sign_core.specs.Fault.{number_of}
+use Rattle.sign_core.specs.Fault.{sign_fault_number}
 use Rattle.sign_core.specs.Frames.{CutsField, Ending, IsCut, IsFrame, IsWholeMessage, ReadsInput, Request, broken}
 use Rattle.sign_core.specs.Frames.{ended, given_message, going, head}
 use Rattle.sign_core.specs.Records.{binding_at}
@@ -35,7 +35,7 @@ body_of _ = []
 -- the bytes of a reply, for Ok with this signature
 abbrev pub reply_bytes : Reply → (signature : List ℕ) → List ℕ
 reply_bytes Signed signature = reply_frame 0 signature
-reply_bytes (Refused fault) signature = reply_frame (number_of fault) (body_of fault)
+reply_bytes (Refused fault) signature = reply_frame (sign_fault_number fault) (body_of fault)
 reply_bytes BadName signature = reply_frame 34 []
 
 pub record Exchange : Type 0 where

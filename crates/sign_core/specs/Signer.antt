@@ -167,9 +167,9 @@ signature_size (Hss levels identifier seed) = hss_signature_size levels
 signature_size (Xmss secret) = xmss_signature_len_of secret.tree
 
 -- how many records a new name needs
-abbrev pub wanted_records : Secret → Option ℕ → ℕ
-wanted_records secret None = 0
-wanted_records secret (Some level) = wanted_count secret level
+abbrev pub wanted_total : Secret → Option ℕ → ℕ
+wanted_total secret None = 0
+wanted_total secret (Some level) = wanted_count secret level
 
 -- Where a request may be refused memory. The output's capacity is too small for the signature; or there is no memory
 -- for a new name's records; or a cache is missing. For a new name it is a current tree's, down to the deepest level
@@ -179,7 +179,7 @@ abbrev pub LacksMemory : {S R : Type 0} → Key → View S R → (level : Option
 LacksMemory key view level (Some (k, bound)) capacity = (capacity < signature_size key.secret)
     ⊎ LacksCache key view.records (Some (bottom_of key.secret)) k view.cached
 LacksMemory key view level None capacity = (capacity < signature_size key.secret)
-    ⊎ (view.spare < wanted_records key.secret level)
+    ⊎ (view.spare < wanted_total key.secret level)
     ⊎ LacksCache key view.records level (length view.records) view.cached
 
 -- The message was read whole and gave this text, or can't be read; or it is as it was.
@@ -263,7 +263,7 @@ pub record AnswersRequest {S R : Type 0} (g : store.Ghosts S) (r : source.Ghosts
       → LacksMemory key old (deepest key.secret old.records) (binding_at old.records name) capacity
   pub refusals : RefusesMemory chance.has_room answer (g.refusals old.store) (g.refusals new.store)
   pub memory : UsesMemory old new
-  pub keeps : let wanted = wanted_records key.secret (deepest key.secret old.records) in
+  pub keeps : let wanted = wanted_total key.secret (deepest key.secret old.records) in
       KeepsAtRefusal g chance.has_room wanted old new answer
 
 -- A call of sign answers a request by such a step, and the message is read or as it was.

@@ -130,9 +130,9 @@ refuse_if fault wrong state rest = if wrong then refused state fault else rest t
 abbrev pub answer_if : {B : Type 0} → B → Bool → Step B (Unit {0})
 answer_if answer done state rest = if done then answered state answer else rest tt state
 
-abbrev pub refuse_any : {B : Type 0} → Option SignFault → Step B (Unit {0})
-refuse_any (Some fault) state rest = refused state fault
-refuse_any None state rest = rest tt state
+abbrev pub refuse_some : {B : Type 0} → Option SignFault → Step B (Unit {0})
+refuse_some (Some fault) state rest = refused state fault
+refuse_some None state rest = rest tt state
 
 abbrev pub close : {B : Type 0} → Step B (Unit {0})
 close state rest = rest tt (closed_state state.records)
@@ -185,7 +185,7 @@ publish public = do
 -- A create: it begins a key where no record stands.
 abbrev pub created : State → Spec → Creation → Outcome AnyPublic
 created state spec chance = event (do
-  refuse_any chance.failed_load
+  refuse_some chance.failed_load
   records ← the_records
   refuse_if KeyThere (nat_le 1 (length records))
   secret ← draw (secret_of_fields spec chance.fields) chance.fields
@@ -211,7 +211,7 @@ first_refusal (Some (slot, fault)) (Some k) = Some (if nat_lt k slot then Illega
 abbrev pub opened : State → Opening → Outcome AnyPublic
 opened state chance = event (do
   records ← the_records
-  refuse_any (first_refusal chance (first_illegal records))
+  refuse_some (first_refusal chance (first_illegal records))
   publish (public_of_key (the_key records))) state
 
 -- ---- requests
@@ -251,7 +251,7 @@ repeat key k bound chance = do
   refuse_if Changed (not (are_same (digest_at key records k bound.leaf bound.randomizer message) bound.digest))
   refuse_if OutOfMemory (not chance.has_room)
   bottom ← give (bottom_of key.secret)
-  refuse_any (option_map Damaged (damaged_at key bottom records (current_at bottom records k)))
+  refuse_some (option_map Damaged (damaged_at key bottom records (current_at bottom records k)))
   give (textbook_signature key records k bound)
 
 -- a new tree of a level, whose public key a leaf of its parent tree signs
@@ -324,7 +324,7 @@ bind_new_name limit key name chance = do
   level ← some_or Exhausted (deepest key.secret records)
   refuse_if LedgerFull (nat_lt limit (length records + wanted_count key.secret level))
   refuse_if OutOfMemory (not chance.has_room)
-  refuse_any (option_map Damaged (damaged_at key level records (current_at level records (length records))))
+  refuse_some (option_map Damaged (damaged_at key level records (current_at level records (length records))))
   open_signer
   begin_trees key (bottom_of key.secret - level) chance.trees
   bind key name chance

@@ -81,11 +81,11 @@ pub enum ServeFault {
 }
 
 impl ServeFault {
-    ghost use Rattle.sign_core.specs.Fault.{serve_name_of, serve_number_of};
+    ghost use Rattle.sign_core.specs.Fault.{serve_fault_name, serve_fault_number};
 
     /// The number that reports the fault: 27, 35 or 36.
     pub fn number(self) -> u8
-        ensures { result ≡ serve_number_of self }
+        ensures { result ≡ serve_fault_number self }
     {
         match self {
             ServeFault::MessageRead => 27,
@@ -96,7 +96,7 @@ impl ServeFault {
 
     /// The name that is printed beside the number.
     pub fn name(self) -> &'static str
-        ensures { result.now ≡ serve_name_of self }
+        ensures { result.now ≡ serve_fault_name self }
     {
         match self {
             ServeFault::MessageRead => "MessageRead",
@@ -107,12 +107,12 @@ impl ServeFault {
 }
 
 impl SignFault {
-    ghost use Rattle.sign_core.specs.Fault.{name_of, number_of};
+    ghost use Rattle.sign_core.specs.Fault.{sign_fault_name, sign_fault_number};
 
     // Its number and its name.
     fn report(self) -> (u8, &'static str)
-        ensures number { result.0 ≡ number_of self }
-        ensures name { result.1.now ≡ name_of self }
+        ensures number { result.0 ≡ sign_fault_number self }
+        ensures name { result.1.now ≡ sign_fault_name self }
     {
         match self {
             SignFault::Changed => (21, "Changed"),
@@ -139,14 +139,14 @@ impl SignFault {
 
     /// The number that reports the fault.
     pub fn number(self) -> u8
-        ensures { result ≡ number_of self }
+        ensures { result ≡ sign_fault_number self }
     {
         self.report().0
     }
 
     /// The name that is printed beside the number.
     pub fn name(self) -> &'static str
-        ensures { result.now ≡ name_of self }
+        ensures { result.now ≡ sign_fault_name self }
     {
         self.report().1
     }

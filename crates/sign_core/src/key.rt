@@ -34,11 +34,11 @@ pub enum KeyFault {
 }
 
 impl KeyFault {
-    ghost use Rattle.sign_core.specs.Key.{key_name, key_number};
+    ghost use Rattle.sign_core.specs.Key.{key_fault_name, key_fault_number};
 
     /// The number that reports the fault: 2, 3 or 6.
     pub fn number(self) -> u8
-        ensures { result ≡ key_number self }
+        ensures { result ≡ key_fault_number self }
     {
         match self {
             KeyFault::Length(_) => 6,
@@ -48,7 +48,7 @@ impl KeyFault {
 
     /// The name that is printed beside the number.
     pub fn name(self) -> &'static str
-        ensures { result.now ≡ key_name self }
+        ensures { result.now ≡ key_fault_name self }
     {
         match self {
             KeyFault::Length(_) => "KeyLength",

@@ -34,11 +34,11 @@ pub enum LedgerFault {
 }
 
 impl LedgerFault {
-    ghost use Rattle.sign_core.specs.Ledger.{fault_number};
+    ghost use Rattle.sign_core.specs.Ledger.{ledger_fault_number};
 
     /// The number that reports the fault: 40, 44 or 46.
     pub fn number(self) -> u8
-        ensures { result ≡ fault_number self }
+        ensures { result ≡ ledger_fault_number self }
     {
         match self {
             LedgerFault::Empty => 40,

@@ -8,15 +8,15 @@ use Rattle.state_file.specs.declared.file.format.FormatFault.{FormatFault}
 use Rattle.state_file.specs.declared.file.format.FormatFault.TheVariants.{NotKeyFile, DeviceFailed, KeyThere}
 
 -- the numbers and names of faults
-abbrev pub format_number : FormatFault → ℕ
-format_number NotKeyFile = 41
-format_number DeviceFailed = 45
-format_number KeyThere = 50
+abbrev pub format_fault_number : FormatFault → ℕ
+format_fault_number NotKeyFile = 41
+format_fault_number DeviceFailed = 45
+format_fault_number KeyThere = 50
 
-abbrev pub format_name : FormatFault → List ℕ
-format_name NotKeyFile = codes "NotKeyFile"
-format_name DeviceFailed = codes "DeviceFailed"
-format_name KeyThere = codes "KeyThere"
+abbrev pub format_fault_name : FormatFault → List ℕ
+format_fault_name NotKeyFile = codes "NotKeyFile"
+format_fault_name DeviceFailed = codes "DeviceFailed"
+format_fault_name KeyThere = codes "KeyThere"
 
 -- What preparing leaves: of under 257 bytes the first is zero and the others stay; 257 bytes all stay.
 abbrev pub PreparesPlace : (content : List ℕ) (new : DiskState) → Type 0

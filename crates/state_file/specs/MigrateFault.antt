@@ -5,30 +5,30 @@ use Rattle.state_file.specs.declared.migration.MigrateFault.TheVariants.{Stopped
 use Rattle.state_file.specs.declared.migration.MigrateFault.TheVariants.{Version as VersionFault, Damaged, Illegal}
 use Rattle.state_file.specs.declared.migration.MigrateFault.TheVariants.{DeviceFailed, OutOfMemory, KeyThere, Full}
 
-abbrev pub number_of : MigrateFault → ℕ
-number_of Stopped = 26
-number_of NoKey = 40
-number_of NotKeyFile = 41
-number_of VersionFault = 42
-number_of (Damaged slot) = 43
-number_of (Illegal slot) = 44
-number_of DeviceFailed = 45
-number_of OutOfMemory = 46
-number_of KeyThere = 50
-number_of Full = 52
+abbrev pub migrate_fault_number : MigrateFault → ℕ
+migrate_fault_number Stopped = 26
+migrate_fault_number NoKey = 40
+migrate_fault_number NotKeyFile = 41
+migrate_fault_number VersionFault = 42
+migrate_fault_number (Damaged slot) = 43
+migrate_fault_number (Illegal slot) = 44
+migrate_fault_number DeviceFailed = 45
+migrate_fault_number OutOfMemory = 46
+migrate_fault_number KeyThere = 50
+migrate_fault_number Full = 52
 
 -- the names that are printed beside them
-abbrev pub name_of : MigrateFault → List ℕ
-name_of Stopped = codes "Stopped"
-name_of NoKey = codes "NoKey"
-name_of NotKeyFile = codes "NotKeyFile"
-name_of VersionFault = codes "Version"
-name_of (Damaged slot) = codes "Damaged"
-name_of (Illegal slot) = codes "Illegal"
-name_of DeviceFailed = codes "DeviceFailed"
-name_of OutOfMemory = codes "OutOfMemory"
-name_of KeyThere = codes "KeyThere"
-name_of Full = codes "Full"
+abbrev pub migrate_fault_name : MigrateFault → List ℕ
+migrate_fault_name Stopped = codes "Stopped"
+migrate_fault_name NoKey = codes "NoKey"
+migrate_fault_name NotKeyFile = codes "NotKeyFile"
+migrate_fault_name VersionFault = codes "Version"
+migrate_fault_name (Damaged slot) = codes "Damaged"
+migrate_fault_name (Illegal slot) = codes "Illegal"
+migrate_fault_name DeviceFailed = codes "DeviceFailed"
+migrate_fault_name OutOfMemory = codes "OutOfMemory"
+migrate_fault_name KeyThere = codes "KeyThere"
+migrate_fault_name Full = codes "Full"
 
 -- Only 45 counts as a failure.
 abbrev pub is_failed_migration : MigrateFault → Bool

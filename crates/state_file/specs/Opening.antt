@@ -15,19 +15,19 @@ use Rattle.state_file.specs.declared.record.Version.{Version}
 
 -- ---- the numbers and names of faults
 
-abbrev pub open_number : OpenFault → ℕ
-open_number NoKey = 40
-open_number NotKeyFile = 41
-open_number VersionFault = 42
-open_number (Damaged slot) = 43
-open_number DeviceFailed = 45
+abbrev pub open_fault_number : OpenFault → ℕ
+open_fault_number NoKey = 40
+open_fault_number NotKeyFile = 41
+open_fault_number VersionFault = 42
+open_fault_number (Damaged slot) = 43
+open_fault_number DeviceFailed = 45
 
-abbrev pub open_name : OpenFault → List ℕ
-open_name NoKey = codes "NoKey"
-open_name NotKeyFile = codes "NotKeyFile"
-open_name VersionFault = codes "Version"
-open_name (Damaged slot) = codes "Damaged"
-open_name DeviceFailed = codes "DeviceFailed"
+abbrev pub open_fault_name : OpenFault → List ℕ
+open_fault_name NoKey = codes "NoKey"
+open_fault_name NotKeyFile = codes "NotKeyFile"
+open_fault_name VersionFault = codes "Version"
+open_fault_name (Damaged slot) = codes "Damaged"
+open_fault_name DeviceFailed = codes "DeviceFailed"
 
 -- ---- what opening finds
 

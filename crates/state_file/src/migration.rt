@@ -51,11 +51,11 @@ pub enum MigrateFault {
 }
 
 impl MigrateFault {
-    ghost use Rattle.state_file.specs.MigrateFault.{name_of, number_of};
+    ghost use Rattle.state_file.specs.MigrateFault.{migrate_fault_name, migrate_fault_number};
 
     /// The number that reports the fault: 26, 40 to 46, 50 or 52.
     pub fn number(self) -> u8
-        ensures { result ≡ number_of self }
+        ensures { result ≡ migrate_fault_number self }
     {
         match self {
             MigrateFault::Stopped => 26,
@@ -73,7 +73,7 @@ impl MigrateFault {
 
     /// The name that is printed beside the number.
     pub fn name(self) -> &'static str
-        ensures { result.now ≡ name_of self }
+        ensures { result.now ≡ migrate_fault_name self }
     {
         match self {
             MigrateFault::Stopped => "Stopped",

@@ -7,17 +7,17 @@ use Rattle.state_file.specs.FileStore.{disk_of, records_of}
 use Rattle.key_audit.specs.declared.report.Anchor.{Anchor}
 use Rattle.key_audit.specs.declared.report.AuditFault.{AuditFault}
 use Rattle.key_audit.specs.declared.report.AuditFault.TheVariants.{Stopped, DeviceFailed, AnchorCount, AnchorTag}
-use Rattle.key_audit.specs.Audit.{IsBeyond, IsSlotTag, IsTagged, AnchorCounts, ReadsStore}
+use Rattle.key_audit.specs.Audit.{IsBeyond, IsSlotTag, IsTagged, AnchorFits, ReadsStore}
 
 -- The anchor, if given, fits the store's records, or this is why not.
 abbrev pub FitsAnchor : (IsTagOf : ℕ → List ℕ → Type 0) → (honest : Bool) → List Record → Option Anchor
     → Result (Unit {0}) AuditFault → Type 0
-FitsAnchor IsTagOf honest list anchor (Ok _) = AnchorCounts anchor list × (IsTrue honest → IsTagged IsTagOf anchor)
+FitsAnchor IsTagOf honest list anchor (Ok _) = AnchorFits anchor list × (IsTrue honest → IsTagged IsTagOf anchor)
 FitsAnchor IsTagOf honest list anchor (Err Stopped) = Unit {0}
 FitsAnchor IsTagOf honest list anchor (Err DeviceFailed) = Unit {0}
 FitsAnchor IsTagOf honest list anchor (Err AnchorCount) = IsBeyond anchor list
 FitsAnchor IsTagOf honest list anchor (Err AnchorTag) =
-    IsSome anchor × AnchorCounts anchor list × (IsTrue honest → IsTagged IsTagOf anchor → ⊥)
+    IsSome anchor × AnchorFits anchor list × (IsTrue honest → IsTagged IsTagOf anchor → ⊥)
 FitsAnchor IsTagOf honest list anchor (Err _) = ⊥
 
 pub record ChecksAnchor {D : Type 0} (d : disk.Ghosts D) (old new : FileStore D d) (anchor : Option Anchor)

@@ -21,7 +21,7 @@ use Rattle.sign_core.specs.World.{◌>>=◌, ◌>>◌, Chance, Creation, Draw, F
 use Rattle.sign_core.specs.World.{append, begin_trees, bind, draw, draw_identifier, draw_seed, event}
 use Rattle.sign_core.specs.World.{extend_record, first_refusal, give, new_key, open_state}
 use Rattle.sign_core.specs.World.{open_signer, publish, read, refuse_if}
-use Rattle.sign_core.specs.World.{refuse_any, secret_of_fields, repeat_or_bind, some_or, the_records}
+use Rattle.sign_core.specs.World.{refuse_some, secret_of_fields, repeat_or_bind, some_or, the_records}
 
 -- ---- create and open
 
@@ -41,7 +41,7 @@ begun state chance made = event (do
 -- record 0 could be loaded, or couldn't
 abbrev pub created_load : Option SignFault → State → Spec → Creation → Outcome AnyPublic
 created_load failed state spec chance = event (do
-  refuse_any failed
+  refuse_some failed
   records ← the_records
   refuse_if KeyThere (nat_le 1 (length records))
   secret ← draw (secret_of_fields spec chance.fields) chance.fields
@@ -58,7 +58,7 @@ opened_key records found = event (publish (public_of_key found)) (open_state rec
 abbrev pub opened_illegal : State → Opening → (illegal : Option ℕ) → Outcome AnyPublic
 opened_illegal state chance illegal = event (do
   records ← the_records
-  refuse_any (first_refusal chance illegal)
+  refuse_some (first_refusal chance illegal)
   publish (public_of_key (the_key records))) state
 
 -- ---- a repeat
@@ -66,7 +66,7 @@ opened_illegal state chance illegal = event (do
 -- this slot is damaged
 abbrev pub repeated_sound : State → Key → (k : ℕ) → Bound → (damaged : Option ℕ) → Outcome (List ℕ)
 repeated_sound state key k bound damaged = event (do
-  refuse_any (option_map Damaged damaged)
+  refuse_some (option_map Damaged damaged)
   give (textbook_signature key state.records k bound)) state
 
 -- the message's reader gave this
@@ -76,7 +76,7 @@ repeated state key k bound chance given = event (do
   refuse_if Changed (not (are_same (digest_at key state.records k bound.leaf bound.randomizer message) bound.digest))
   refuse_if OutOfMemory (not chance.has_room)
   bottom ← give (bottom_of key.secret)
-  refuse_any (option_map Damaged (damaged_at key bottom state.records (current_at bottom state.records k)))
+  refuse_some (option_map Damaged (damaged_at key bottom state.records (current_at bottom state.records k)))
   give (textbook_signature key state.records k bound)) state
 
 -- ---- new trees
@@ -136,7 +136,7 @@ bound_trees key name chance below draws records = event (do
 -- this slot is damaged
 abbrev pub bound_sound : State → Key → (name : List ℕ) → Chance → (level : ℕ) → (damaged : Option ℕ) → Outcome (List ℕ)
 bound_sound state key name chance level damaged = event (do
-  refuse_any (option_map Damaged damaged)
+  refuse_some (option_map Damaged damaged)
   open_signer
   begin_trees key (bottom_of key.secret - level) chance.trees
   bind key name chance) state
@@ -148,7 +148,7 @@ bound_level limit state key name chance deepest = event (do
   level ← some_or Exhausted deepest
   refuse_if LedgerFull (nat_lt limit (length records + wanted_count key.secret level))
   refuse_if OutOfMemory (not chance.has_room)
-  refuse_any (option_map Damaged (damaged_at key level records (current_at level records (length records))))
+  refuse_some (option_map Damaged (damaged_at key level records (current_at level records (length records))))
   open_signer
   begin_trees key (bottom_of key.secret - level) chance.trees
   bind key name chance) state

@@ -78,7 +78,7 @@ impl<S: Store, R: Source> Signer<S, R> {
     /// No signature depends on caches, so tests check the rest. The number is the cache's count of leaves, a signer
     /// uses its caches, and one just made or opened has none.
     pub fn cache_leaves(&self, level: u8) -> Option<u64>
-        ensures within_limit { UnderKey self.now.records (λ key. levels_of key.secret ≤ level → result ≡ None) }
+        ensures no_level { UnderKey self.now.records (λ key. levels_of key.secret ≤ level → result ≡ None) }
         ensures chain { UnderKey self.now.records (λ key. (trees : Trees) → trees_of key.secret ≡ Some trees →
             level < levels_of key.secret → IsSome result ↔ HasCurrent trees self.now.records level self.now.cached) }
         ensures xmss { UnderKey self.now.records (λ key. (secret : X) → IsXmssKey secret key → level ≡ 0 →

@@ -25,11 +25,11 @@ pub enum FormatFault {
 }
 
 impl FormatFault {
-    ghost use Rattle.state_file.specs.Format.{format_name, format_number};
+    ghost use Rattle.state_file.specs.Format.{format_fault_name, format_fault_number};
 
     /// The number that reports the fault: 41, 45 or 50.
     pub fn number(self) -> u8
-        ensures { result ≡ format_number self }
+        ensures { result ≡ format_fault_number self }
     {
         match self {
             FormatFault::NotKeyFile => 41,
@@ -40,7 +40,7 @@ impl FormatFault {
 
     /// The name that is printed beside the number.
     pub fn name(self) -> &'static str
-        ensures { result.now ≡ format_name self }
+        ensures { result.now ≡ format_fault_name self }
     {
         match self {
             FormatFault::NotKeyFile => "NotKeyFile",

@@ -44,11 +44,11 @@ pub enum OpenFault {
 }
 
 impl OpenFault {
-    ghost use Rattle.state_file.specs.Opening.{open_name, open_number};
+    ghost use Rattle.state_file.specs.Opening.{open_fault_name, open_fault_number};
 
     /// The number that reports the fault: 40 to 43 or 45.
     pub fn number(self) -> u8
-        ensures { result ≡ open_number self }
+        ensures { result ≡ open_fault_number self }
     {
         match self {
             OpenFault::NoKey => 40,
@@ -61,7 +61,7 @@ impl OpenFault {
 
     /// The name that is printed beside the number.
     pub fn name(self) -> &'static str
-        ensures { result.now ≡ open_name self }
+        ensures { result.now ≡ open_fault_name self }
     {
         match self {
             OpenFault::NoKey => "NoKey",

@@ -1,7 +1,8 @@
 use Rattle.std.proofs.Common.{rules, ◌≡◌, ◌∙◌, ◌∷◌, ◌++◌, ◌<◌, List, [], Ok, Err, false, length, refl, sym, ap, subst, arith}
 use Rattle.state_file.specs.declared.record.Record.{Record}
 use Rattle.state_file.specs.declared.record.Record.TheVariants.{Key as KeyRecord}
-use Rattle.sign_core.specs.inner.Signer.{IsAppended, IsTakenUp}
+use Rattle.sign_core.specs.inner.Signer.{IsTakenUp}
+use Rattle.sign_core.proofs.Appends.{IsAppended}
 use Rattle.sign_core.specs.Signer.{MakesKey}
 use Rattle.sign_core.specs.World.{new_key}
 use Rattle.sign_core.proofs.Adding.{follows_none}
