@@ -1,4 +1,4 @@
-//! Bytes as text.
+//! Bytes in lower-case hex.
 
 ghost use Rattle.std.specs.Prelude.{OnOk};
 ghost use Rattle.std.specs.Io.KnownBytes.{Appends};

@@ -146,7 +146,8 @@ impl UsageFault {
     }
 }
 
-/// The program's version. Manual and packages take it from `--version`.
+/// The program's version. Manual and packages take it from `--version`, and the specification of that line takes it
+/// from here: no contract says which version it is.
 pub const VERSION: &str = "0.2.0";
 
 /// A reader of lines, which counts how often memory was refused.
