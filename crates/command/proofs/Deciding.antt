@@ -64,11 +64,11 @@ abbrev with_path : ℕ → OtsType → List ℕ → List (List ℕ) → LmsType 
 with_path q ots randomizer chains tree path =
     done (whole_signature (record { tree = tree; ots = ots }) q randomizer chains path)
 
-abbrev path_of : ℕ → OtsType → LmsType → Layout (List (List ℕ))
-path_of q ots tree = cond (nat_lt q (2 ^ height_of tree)) (values (height_of tree)) (refuse (type_end ots) LeafOutOfRange)
+abbrev path_at : ℕ → OtsType → LmsType → Layout (List (List ℕ))
+path_at q ots tree = cond (nat_lt q (2 ^ height_of tree)) (values (height_of tree)) (refuse (type_end ots) LeafOutOfRange)
 
 abbrev with_tree : ℕ → OtsType → List ℕ → List (List ℕ) → LmsType → Layout LmsSignature
-with_tree q ots randomizer chains tree = path_of q ots tree >>= with_path q ots randomizer chains tree
+with_tree q ots randomizer chains tree = path_at q ots tree >>= with_path q ots randomizer chains tree
 
 abbrev with_chains : ℕ → OtsType → List ℕ → List (List ℕ) → Layout LmsSignature
 with_chains q ots randomizer chains = lms_type >>= with_tree q ots randomizer chains
@@ -90,7 +90,7 @@ most-lms_signature =
     most-bind (block 32) (with_randomizer q ots) 32 9284 Any Any (most-block 32) (λ randomizer any.
     most-bind (values (chains_of ots)) (with_chains q ots randomizer) 8480 804 Any Any (most-greater (values (chains_of ots)) (32 * chains_of ots) 8480 Any (most_chains ots) (most-values (chains_of ots))) (λ chains any.
     most-bind lms_type (with_tree q ots randomizer chains) 4 800 Any Any most-lms_type (λ tree any.
-    most-bind (path_of q ots tree) (with_path q ots randomizer chains tree) 800 0 Any Any
+    most-bind (path_at q ots tree) (with_path q ots randomizer chains tree) 800 0 Any Any
     (most-if (nat_lt q (2 ^ height_of tree)) (values (height_of tree)) (refuse (type_end ots) LeafOutOfRange) 800 Any
     (λ inside. most-greater (values (height_of tree)) (32 * height_of tree) 800 Any (most_path tree) (most-values (height_of tree)))
     (most-refuse (type_end ots) LeafOutOfRange 800 Any))

@@ -57,7 +57,7 @@ impl<'a> HssSigView<'a> {
     pub fn levels(&self) -> u8
         ensures value { result ≡ level_count (signature_of self.now) }
         ensures range { result ≡ big_number 4 (take 4 (bytes_of self.now)) + 1 }
-        ensures most { result ≤ 8 }
+        ensures at_most_8 { result ≤ 8 }
     {
         self.signed.count + 1
     }

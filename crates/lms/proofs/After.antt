@@ -25,12 +25,12 @@ abbrev pub after_key_tree : LmsType → Layout LmsPublic
 after_key_tree tree = ots_type >>= after_types tree
 
 -- of a signature
-abbrev pub path_of : ℕ → OtsType → LmsType → Layout (List (List ℕ))
-path_of q ots tree =
+abbrev pub path_at : ℕ → OtsType → LmsType → Layout (List (List ℕ))
+path_at q ots tree =
     if nat_lt q (2 ^ height_of tree) then values (height_of tree) else refuse (type_end ots) LeafOutOfRange
 
 abbrev pub after_tree : ℕ → OtsType → List ℕ → List (List ℕ) → LmsType → Layout Signature
-after_tree q ots randomizer chains tree = path_of q ots tree
+after_tree q ots randomizer chains tree = path_at q ots tree
     >>= λ path. done (record { pair = record { tree = tree; ots = ots }; q = q; randomizer = randomizer; chains = chains; path = path })
 
 abbrev pub after_chains : ℕ → OtsType → List ℕ → List (List ℕ) → Layout Signature

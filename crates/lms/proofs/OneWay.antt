@@ -10,7 +10,7 @@ use Rattle.typecodes.proofs.OneWay.{one_way-block, one_way-number, one_way-ots_t
 use Rattle.typecodes.proofs.Ways.{Way, way-bind, way-done, one_way-if}
 use Rattle.lms.specs.Key.{public_key}
 use Rattle.lms.specs.Signature.{signature, type_end}
-use Rattle.lms.proofs.After.{after_chains, after_identifier, after_q, after_key_tree, after_ots, after_randomizer, after_root, after_tree, after_types, path_of}
+use Rattle.lms.proofs.After.{after_chains, after_identifier, after_q, after_key_tree, after_ots, after_randomizer, after_root, after_tree, after_types, path_at}
 
 pub one_way-public_key : OneSpelling public_key
 unfolding public_key
@@ -23,7 +23,7 @@ one_way-public_key =
     way-done _ _ (refl, (refl, (refl, (refl, tt)))))))) in
     way.one
 
-one_way-path : (q : ℕ) (ots : OtsType) (tree : LmsType) → OneSpelling (path_of q ots tree)
+one_way-path : (q : ℕ) (ots : OtsType) (tree : LmsType) → OneSpelling (path_at q ots tree)
 one_way-path q ots tree =
     one_way-if (nat_lt q (2 ^ height_of tree)) (values (height_of tree)) (refuse (type_end ots) LeafOutOfRange)
     (one_way-values (height_of tree)) (one_way-refuse (type_end ots) LeafOutOfRange)
@@ -37,6 +37,6 @@ one_way-signature =
     way-bind (block 32) (after_randomizer q ots) (λ s. s.randomizer) _ (one_way-block 32) (λ randomizer.
     way-bind (values (chains_of ots)) (after_chains q ots randomizer) (λ s. s.chains) _ (one_way-values (chains_of ots)) (λ chains.
     way-bind lms_type (after_tree q ots randomizer chains) (λ s. s.pair.tree) _ one_way-lms_type (λ tree.
-    way-bind (path_of q ots tree) (λ path. done (record { pair = record { tree = tree; ots = ots }; q = q; randomizer = randomizer; chains = chains; path = path })) (λ s. s.path) _ (one_way-path q ots tree) (λ path.
+    way-bind (path_at q ots tree) (λ path. done (record { pair = record { tree = tree; ots = ots }; q = q; randomizer = randomizer; chains = chains; path = path })) (λ s. s.path) _ (one_way-path q ots tree) (λ path.
     way-done _ _ (refl, (refl, (refl, (refl, (refl, (refl, tt)))))))))))) in
     way.one

@@ -2,7 +2,7 @@
 -- Appendix A); and what callers see of its tree.
 use Rattle.std.specs.Prelude.{ℕ, List}
 use Rattle.typecodes.specs.Types.{height_of}
-use Rattle.merkle.specs.Tree.{Joins, Leaves, path_of, root_of}
+use Rattle.merkle.specs.Tree.{Joins, Leaves, path_at, root_of}
 use Rattle.lmots.specs.Key.{ends_of_seed, message_digest_of, public_hash}
 use Rattle.lms.specs.declared.key.LmsPublic.{LmsPublic}
 use Rattle.typecodes.specs.declared.secret.LmsSecret.{LmsSecret}
@@ -29,7 +29,7 @@ abbrev pub public_of : LmsSecret → LmsPublic
 public_of secret = rooted_public secret (root_of_secret secret)
 
 abbrev pub leaf_path : LmsSecret → ℕ → List (List ℕ)
-leaf_path secret q = path_of (leaves_of secret) (joins_of secret) (height_of secret.pair.tree) q
+leaf_path secret q = path_at (leaves_of secret) (joins_of secret) (height_of secret.pair.tree) q
 
 -- the digest Q of a message that leaf q signs with the randomizer C
 abbrev pub digest_at : LmsSecret → ℕ → List ℕ → List ℕ → List ℕ

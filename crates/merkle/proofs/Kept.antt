@@ -6,7 +6,7 @@ use Rattle.std.proofs.lemmas.Grind.{pow_more}
 use Rattle.std.proofs.lemmas.List.FromFn.{map-range_with_len_more}
 use Rattle.std.proofs.lemmas.Nat.{pow-add, pow_pos}
 use Rattle.std.proofs.Math.Nat.{div-div-eq-div-mul, div-lt_iff_lt-mul, pow-le-pow_right}
-use Rattle.merkle.specs.Tree.{Leaves, Joins, node, path_of, root_of, sibling}
+use Rattle.merkle.specs.Tree.{Leaves, Joins, node, path_at, root_of, sibling}
 use Rattle.merkle.specs.Nodes.{part_path}
 use Rattle.merkle.specs.Cache.{View, KeepsNodes, block_height, block_nodes, upper_nodes}
 use Rattle.merkle.proofs.Listing.{nodes_count, nodes_last}
@@ -82,13 +82,13 @@ upper_count leaf join height nodes are =
     ap (λ xs. length xs + 1) are ∙ nodes_count leaf join (block_height height) (height - block_height height) 0
 
 -- a path that begins at the leaves is the path
-from_lowest : (leaf : Leaves) (join : Joins) (depth q : ℕ) → path_of leaf join depth q ≡ part_path leaf join 0 depth q
+from_lowest : (leaf : Leaves) (join : Joins) (depth q : ℕ) → path_at leaf join depth q ≡ part_path leaf join 0 depth q
 from_lowest leaf join zero q = refl
 from_lowest leaf join (suc depth) q =
     let f : ℕ → List ℕ = λ k. node leaf join k (sibling (q / 2 ^ k)) in
     let g : ℕ → List ℕ = λ k. node leaf join (0 + k) (sibling (q / 2 ^ k)) in
     let low : depth ≡ 0 + depth = omega arith in
-    ap (λ h. path_of leaf join h q) (sym (add-one depth))
+    ap (λ h. path_at leaf join h q) (sym (add-one depth))
     ∙ map-range_with_len_more f 0 depth depth (omega arith)
     ∙ ap (λ xs. xs ++ f depth ∷ []) (from_lowest leaf join depth q)
     ∙ ap (λ h. part_path leaf join 0 depth q ++ node leaf join h (sibling (q / 2 ^ depth)) ∷ []) low
@@ -97,10 +97,10 @@ from_lowest leaf join (suc depth) q =
 
 -- a path up to a height, and from there on
 path_parts : (leaf : Leaves) (join : Joins) (base depth q : ℕ)
-    → path_of leaf join (base + depth) q ≡ part_path leaf join 0 base q ++ part_path leaf join base depth (q / 2 ^ base)
+    → path_at leaf join (base + depth) q ≡ part_path leaf join 0 base q ++ part_path leaf join base depth (q / 2 ^ base)
 path_parts leaf join base zero q =
     let same : base + 0 ≡ base = omega arith in
-    ap (λ h. path_of leaf join h q) same
+    ap (λ h. path_at leaf join h q) same
     ∙ from_lowest leaf join base q
     ∙ sym (append-nil (part_path leaf join 0 base q))
 path_parts leaf join base (suc depth) q =
@@ -111,7 +111,7 @@ path_parts leaf join base (suc depth) q =
     let e : base + suc depth ≡ base + depth + 1 = omega arith in
     let over : q / 2 ^ (base + depth) ≡ q / 2 ^ base / 2 ^ depth
     = ap (λ n. q / n) (pow-add 2 base depth) ∙ sym (div-div-eq-div-mul q (2 ^ base) (2 ^ depth)) in
-    ap (λ h. path_of leaf join h q) e
+    ap (λ h. path_at leaf join h q) e
     ∙ map-range_with_len_more f 0 (base + depth) (base + depth) (omega arith)
     ∙ ap (λ xs. xs ++ f (base + depth) ∷ []) (path_parts leaf join base depth q)
     ∙ append_assoc lower upper (f (base + depth) ∷ [])
@@ -124,14 +124,14 @@ pub whole_path : (leaf : Leaves) (join : Joins) (height q index : ℕ) (lower up
     → lower ≡ part_path leaf join 0 (block_height height) q
     → upper ≡ part_path leaf join (block_height height) (height - block_height height) index
     → index ≡ q / 2 ^ block_height height
-    → lower ++ upper ≡ path_of leaf join height q
+    → lower ++ upper ≡ path_at leaf join height q
 whole_path leaf join height q index lower upper lower_is upper_is is =
     let b = block_height height in
     let all : b + (height - b) ≡ height = omega arith in
     ap (λ xs. xs ++ upper) lower_is
     ∙ ap (λ xs. part_path leaf join 0 b q ++ xs) (upper_is ∙ ap (part_path leaf join b (height - b)) is)
     ∙ sym (path_parts leaf join b (height - b) q)
-    ∙ ap (λ h. path_of leaf join h q) all
+    ∙ ap (λ h. path_at leaf join h q) all
 
 pub upper_some : (leaf : Leaves) (join : Joins) (height : ℕ) (nodes : List (List ℕ))
     → nodes ≡ upper_nodes leaf join height → 1 ≤ length nodes

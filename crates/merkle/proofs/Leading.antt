@@ -4,7 +4,7 @@ use Rattle.std.specs.Prelude.{◌==◌, if◌then◌else◌}
 use Rattle.std.proofs.Math.Nat.{div-eq_of_lt}
 use Rattle.std.proofs.lemmas.Bool.{cases_eq, ne_eqb}
 use Rattle.std.proofs.lemmas.List.FromFn.{get_or-map-range_with_len}
-use Rattle.merkle.specs.Tree.{Leaves, Joins, node, root_of, sibling, path_of}
+use Rattle.merkle.specs.Tree.{Leaves, Joins, node, root_of, sibling, path_at}
 use Rattle.merkle.specs.Ascent.{at}
 use Rattle.merkle.proofs.Climb.{climbed, climbed-zero, climb_step, half_of}
 
@@ -39,20 +39,20 @@ node_over leaf join k i =
     ]
 
 pub path_of_at : (leaf : Leaves) (join : Joins) (h q k : ℕ) → k < h
-    → at (path_of leaf join h q) k ≡ node leaf join k (sibling (q / 2 ^ k))
+    → at (path_at leaf join h q) k ≡ node leaf join k (sibling (q / 2 ^ k))
 path_of_at leaf join h q k below =
     get_or-map-range_with_len (λ k. node leaf join k (sibling (q / 2 ^ k))) 0 h k k [] below (omega arith)
 
 -- along the path of q the climb goes through the nodes over q
 pub climbed_along : (leaf : Leaves) (join : Joins) (h q k : ℕ) → k ≤ h
-    → climbed join q (leaf q) (path_of leaf join h q) k ≡ node leaf join k (q / 2 ^ k)
+    → climbed join q (leaf q) (path_at leaf join h q) k ≡ node leaf join k (q / 2 ^ k)
 unfolding node
 climbed_along leaf join h q zero below =
-    climbed-zero join q (leaf q) (path_of leaf join h q)
+    climbed-zero join q (leaf q) (path_at leaf join h q)
     ∙ (let whole : q ≡ q / 2 ^ 0 = omega arith in ap leaf whole)
 climbed_along leaf join h q (suc k) below =
     let i = q / 2 ^ k in
-    let path = path_of leaf join h q in
+    let path = path_at leaf join h q in
     let above_is : node leaf join (k + 1) (i / 2)
     ≡ (if i % 2 == 1
     then join k (i / 2) (at path k) (node leaf join k i)
@@ -67,7 +67,7 @@ climbed_along leaf join h q (suc k) below =
 -- so the path of q leads leaf q to the root
 pub climbed_to_root : (leaves : Leaves) (join : Joins) (h q : ℕ) (leaf : List ℕ) (path : List (List ℕ))
     → q < 2 ^ h
-    → path ≡ path_of leaves join h q
+    → path ≡ path_at leaves join h q
     → leaf ≡ leaves q
     → climbed join q leaf path h ≡ root_of leaves join h
 climbed_to_root leaves join h q leaf path inside path_is leaf_is =

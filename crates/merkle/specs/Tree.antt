@@ -24,5 +24,5 @@ abbrev pub sibling : ℕ → ℕ
 sibling j = if j % 2 == 0 then j + 1 else j - 1
 
 -- the authentication path of leaf q: at each height below h the sibling of the node over q
-abbrev pub path_of : Leaves → Joins → ℕ → ℕ → List (List ℕ)
-path_of leaf join h q = map (λ k. node leaf join k (sibling (q / 2 ^ k))) (range_with_len 0 h)
+abbrev pub path_at : Leaves → Joins → ℕ → ℕ → List (List ℕ)
+path_at leaf join h q = map (λ k. node leaf join k (sibling (q / 2 ^ k))) (range_with_len 0 h)

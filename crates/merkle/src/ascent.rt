@@ -2,20 +2,20 @@
 
 ghost use Rattle.std.specs.Prelude.{◌≡◌, ◌≤◌, ◌<◌, ◌+◌, ◌^◌, ℕ, List, length};
 ghost use Rattle.merkle.specs.Ascent.{PathLeadsTo};
-ghost use Rattle.merkle.specs.Tree.{path_of, root_of};
+ghost use Rattle.merkle.specs.Tree.{path_at, root_of};
 
 use crate::tree::{NodeHash, TreeHash, path};
 
 /// The node to which an authentication path leads leaf q (RFC 8554 5.4.2, RFC 8391 4.1.10). It is the root if the path
 /// is q's. The caller keeps the path at most 25 long and q below `2^(path.len())`.
 pub fn root_from_path<T: NodeHash>(tree: &T, q: u32, leaf: &[u8; 32], path: &[[u8; 32]]) -> [u8; 32]
-    requires height { length path.now ≤ 25 }
+    requires at_most_25 { length path.now ≤ 25 }
     requires is_leaf { q < 2 ^ length path.now }
     // The last of the nodes above the leaf, and no other.
     ensures last { PathLeadsTo (T.join_of tree.now) q leaf.now path.now result }
     ensures only { (other : List ℕ) → PathLeadsTo (T.join_of tree.now) q leaf.now path.now other → other ≡ result }
     // The path of leaf q leads from it to the root.
-    ensures leads { (leaves : ℕ → List ℕ) → path.now ≡ path_of leaves (T.join_of tree.now) (length path.now) q →
+    ensures leads { (leaves : ℕ → List ℕ) → path.now ≡ path_at leaves (T.join_of tree.now) (length path.now) q →
         leaf.now ≡ leaves q → result ≡ root_of leaves (T.join_of tree.now) (length path.now) }
 {
     let mut node = *leaf;
@@ -41,10 +41,10 @@ pub fn root_and_path<T: TreeHash>(
     leaf: u32,
     into: &mut [[u8; 32]],
 ) -> [u8; 32]
-    requires height { height ≤ 25 }
+    requires at_most_25 { height ≤ 25 }
     requires is_leaf { leaf < 2 ^ height }
     requires exact_length { length into.old ≡ height }
-    ensures path { into.new ≡ path_of (T.leaf_of tree.old) (T.join_of tree.old) height leaf }
+    ensures path { into.new ≡ path_at (T.leaf_of tree.old) (T.join_of tree.old) height leaf }
     ensures length { length into.new ≡ height }
     ensures root { result ≡ root_of (T.leaf_of tree.old) (T.join_of tree.old) height }
     // Each leaf of the tree is made once.

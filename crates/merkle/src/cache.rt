@@ -3,7 +3,7 @@
 ghost use Rattle.std.specs.Prelude.{◌≡◌, ◌==◌, ◌≤◌, ◌<◌, ◌+◌, ◌-◌, ◌/◌, ◌^◌, IfOk, length, min, vec_len};
 ghost use Rattle.std.specs.Prelude.{if◌then◌else◌};
 ghost use Rattle.merkle.specs.Cache.{KeepsNodes, block_height};
-ghost use Rattle.merkle.specs.Tree.{path_of, root_of};
+ghost use Rattle.merkle.specs.Tree.{path_at, root_of};
 
 use crate::nodes::{fill, fill_around, read_path};
 use crate::out_of_memory::OutOfMemory;
@@ -47,7 +47,7 @@ impl<T: TreeHash> PathCache<T> {
     pub fn new(alloc: Global, tree: T, height: u8) -> Result<PathCache<T>, OutOfMemory>
     where
         T: Drop,
-        requires height { height ≤ 25 }
+        requires at_most_25 { height ≤ 25 }
         requires fresh { T.made tree ≡ 0 }
         ensures counted { IfOk result (λ cache. T.made cache.tree ≡ 2 ^ height) }
         ensures leaves { IfOk result (λ cache. T.leaf_of cache.tree ≡ T.leaf_of tree) }
@@ -62,7 +62,7 @@ impl<T: TreeHash> PathCache<T> {
     pub fn for_leaf(alloc: Global, tree: T, height: u8, q: u32) -> Result<PathCache<T>, OutOfMemory>
     where
         T: Drop,
-        requires height { height ≤ 25 }
+        requires at_most_25 { height ≤ 25 }
         requires fresh { T.made tree ≡ 0 }
         requires is_leaf { q < 2 ^ height }
         ensures counted { IfOk result (λ cache. T.made cache.tree ≡ 2 ^ height) }
@@ -85,7 +85,7 @@ impl<T: TreeHash> PathCache<T> {
     ) -> Result<PathCache<T>, OutOfMemory>
     where
         T: Drop,
-        requires height { height ≤ 25 }
+        requires at_most_25 { height ≤ 25 }
         requires fresh { T.made tree ≡ 0 }
         requires is_leaf { q < 2 ^ height }
         ensures counted { IfOk result (λ cache. T.made cache.tree ≡ 2 ^ height) }
@@ -126,7 +126,7 @@ impl<T: TreeHash> PathCache<T> {
     pub fn path_at(&mut self, q: u32, into: &mut [[u8; 32]])
         requires is_leaf { q < 2 ^ self.old.height }
         requires exact_length { length into.old ≡ self.old.height }
-        ensures value { into.new ≡ path_of (T.leaf_of self.old.tree) (T.join_of self.old.tree) self.old.height q }
+        ensures value { into.new ≡ path_at (T.leaf_of self.old.tree) (T.join_of self.old.tree) self.old.height q }
         // The leaves of a block are made if it isn't kept, and no others.
         ensures counted { let index = q / 2 ^ block_height self.old.height in
             T.made self.new.tree
@@ -180,7 +180,7 @@ impl<T: TreeHash> PathCache<T> {
 
 // The block of leaf q, from the left.
 fn block_of(height: u8, q: u32) -> u32
-    requires height { height ≤ 25 }
+    requires at_most_25 { height ≤ 25 }
     requires is_leaf { q < 2 ^ height }
     ensures index { result ≡ q / 2 ^ block_height height }
     ensures is_block { result < 2 ^ (height - block_height height) }

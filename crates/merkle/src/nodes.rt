@@ -15,7 +15,7 @@ pub(crate) fn fill<T: TreeHash>(
     index: u32,
     into: &mut [[u8; 32]],
 )
-    requires height { base + depth ≤ 25 }
+    requires at_most_25 { base + depth ≤ 25 }
     requires node_in_tree { index < 2 ^ (25 - (base + depth)) }
     requires exact_length { length into.old + 1 ≡ 2 ^ (depth + 1) }
     ensures value { into.new ≡ part_nodes (T.leaf_of tree.old) (T.join_of tree.old) base depth index }
@@ -50,7 +50,7 @@ fn fill_from_leaves<T: NodeHash>(
     leaves: &[[u8; 32]],
     into: &mut [[u8; 32]],
 )
-    requires height { base + depth ≤ 25 }
+    requires at_most_25 { base + depth ≤ 25 }
     requires node_in_tree { index < 2 ^ (25 - (base + depth)) }
     requires count { length leaves.now ≡ 2 ^ (base + depth) }
     requires exact_length { length into.old + 1 ≡ 2 ^ (depth + 1) }
@@ -82,7 +82,7 @@ pub(crate) fn fill_around<T: TreeHash>(
     known: &[u8; 32],
     into: &mut [[u8; 32]],
 )
-    requires height { base + depth ≤ 25 }
+    requires at_most_25 { base + depth ≤ 25 }
     requires node_in_tree { index < 2 ^ (25 - (base + depth)) }
     requires under { known_index / 2 ^ depth ≡ index }
     requires known { known.now ≡ node (T.leaf_of tree.old) (T.join_of tree.old) base known_index }
@@ -115,7 +115,7 @@ pub(crate) fn fill_around<T: TreeHash>(
 
 /// Reads the siblings of the lowest node `i` and of the nodes over it from a list that `fill` wrote, the lowest first.
 pub(crate) fn read_path(nodes: &[[u8; 32]], i: u32, into: &mut [[u8; 32]])
-    requires height { length into.old ≤ 25 }
+    requires at_most_25 { length into.old ≤ 25 }
     requires whole { length nodes.now + 1 ≡ 2 ^ (length into.old + 1) }
     ensures { (leaf : Leaves) (join : Joins) (base : ℕ) →
         nodes.now ≡ part_nodes leaf join base (length into.old) (i / 2 ^ length into.old) →

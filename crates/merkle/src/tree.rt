@@ -3,7 +3,7 @@
 ghost use Rattle.std.specs.Prelude.{◌≡◌, ◌≤◌, ◌<◌, ◌+◌, ◌-◌, ◌^◌, ℕ, List, [], length, slice_index_or};
 ghost use Rattle.merkle.specs.Lanes.{lanes};
 ghost use Rattle.merkle.specs.Nodes.{AreUnder};
-ghost use Rattle.merkle.specs.Tree.{Leaves, node, root_of, path_of, sibling};
+ghost use Rattle.merkle.specs.Tree.{Leaves, node, root_of, path_at, sibling};
 
 /// How many leaves are made together, one in each lane of a hash. docs/CONTRIBUTING.md lists what else another number
 /// changes.
@@ -61,7 +61,7 @@ pub(crate) fn node_over<T: NodeHash>(
     index: u32,
     leaves: &[[u8; 32]],
 ) -> [u8; 32]
-    requires height { height ≤ 25 }
+    requires at_most_25 { height ≤ 25 }
     requires node_in_tree { index < 2 ^ (25 - height) }
     requires count { length leaves.now ≡ 2 ^ height }
     ensures { (leaf : Leaves) → AreUnder leaf height index leaves.now
@@ -79,7 +79,7 @@ pub(crate) fn node_over<T: NodeHash>(
 
 /// Node `index` of a height. Its leaves are made in lanes where eight or more stand below it.
 pub(crate) fn node_at<T: TreeHash>(tree: &mut T, height: u8, index: u32) -> [u8; 32]
-    requires height { height ≤ 25 }
+    requires at_most_25 { height ≤ 25 }
     requires node_in_tree { index < 2 ^ (25 - height) }
     ensures value { result ≡ node (T.leaf_of tree.old) (T.join_of tree.old) height index }
     // Each leaf below it is made once.
@@ -123,10 +123,10 @@ pub fn root<T: TreeHash>(tree: &mut T, height: u8) -> [u8; 32]
 /// The authentication path of leaf q (RFC 8554 5.4, RFC 8391 4.1.9), the leaf's sibling first. The caller keeps the
 /// height at most 25, q below `2^height`, and `into` as long as the tree is high.
 pub fn path<T: TreeHash>(tree: &mut T, height: u8, q: u32, into: &mut [[u8; 32]])
-    requires height { height ≤ 25 }
+    requires at_most_25 { height ≤ 25 }
     requires is_leaf { q < 2 ^ height }
     requires exact_length { length into.old ≡ height }
-    ensures value { into.new ≡ path_of (T.leaf_of tree.old) (T.join_of tree.old) height q }
+    ensures value { into.new ≡ path_at (T.leaf_of tree.old) (T.join_of tree.old) height q }
     // Each leaf but q is made once.
     ensures counted { T.made tree.new ≡ T.made tree.old + (2 ^ height - 1) }
     ensures leaves { T.leaf_of tree.new ≡ T.leaf_of tree.old }

@@ -12,7 +12,7 @@ use Rattle.typecodes.specs.declared.secret.LmsSecret.{LmsSecret}
 use Rattle.hss.specs.Secret.{Signing}
 use Rattle.typecodes.specs.declared.secret.XmssSecret.{XmssSecret}
 use Rattle.xmss.specs.Digest.{message_digest_of as xmss_message_digest_of}
-use Rattle.xmss.specs.Secret.{digest_at as xmss_digest_at, randomizer_of}
+use Rattle.xmss.specs.Secret.{digest_at as xmss_digest_at, randomizer_at}
 use Rattle.xmss.specs.Writing.{signature_bytes as xmss_signature_bytes, textbook as xmss_textbook}
 use Rattle.state_file.specs.Laws.{IsCurrent, IsLegal, bottom_of, leaves_at, levels_of}
 use Rattle.state_file.specs.declared.record.Bound.{Bound}
@@ -201,7 +201,7 @@ tree_digest records key trees place k leaf identifier randomizer keyed these at 
 
 -- M'
 pub xmss_tree_digest : (records : List Record) (key : Key) (secret : XmssSecret) (k leaf : ℕ) (made root randomizer : List ℕ) → IsXmssKey secret key
-    → made ≡ randomizer_of secret.prf_key leaf → root ≡ key.root → xmss_message_digest_of made root leaf ≡ digest_at key records k leaf randomizer
+    → made ≡ randomizer_at secret.prf_key leaf → root ≡ key.root → xmss_message_digest_of made root leaf ≡ digest_at key records k leaf randomizer
 xmss_tree_digest records key secret k leaf made root randomizer of_key is same =
     (λ i. xmss_message_digest_of (is i) (same i) leaf)
     ∙ (λ i text. sym (xmss_leaf_digest records key secret k leaf randomizer text of_key) i)

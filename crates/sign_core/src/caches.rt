@@ -2,7 +2,7 @@
 
 ghost use Rattle.std.specs.Prelude.{◌≡◌, ◌≢◌, ◌↔◌, ◌<◌, ◌^◌, ◌∷◌, List, Some, None, length, ℕ, IfErr, IfOk};
 ghost use Rattle.std.specs.Prelude.{IsSome, OnErr, OnOk, replicate};
-ghost use Rattle.merkle.specs.Tree.{path_of, root_of};
+ghost use Rattle.merkle.specs.Tree.{path_at, root_of};
 ghost use Rattle.typecodes.specs.Types.{height_of, xmss_height_of};
 ghost use Rattle.state_file.specs.declared.record.Record.{Record as R};
 ghost use Rattle.state_file.specs.declared.record.Key.{Key as K};
@@ -113,7 +113,7 @@ impl<X: TreeSecret, P: TreeProgress> TreeRequest<'_, X, P> {
         requires inside { self.leaf < 2 ^ X.tree_height self.secret }
         requires room { length into.old ≡ X.tree_height self.secret }
         ensures path { let secret = self.entry.secret in
-            into.new ≡ path_of (X.tree_leaves secret) (X.tree_joins secret) (X.tree_height secret) self.entry.leaf }
+            into.new ≡ path_at (X.tree_leaves secret) (X.tree_joins secret) (X.tree_height secret) self.entry.leaf }
         ensures length { length into.new ≡ X.tree_height self.entry.secret }
         ensures root { let secret = self.entry.secret in
             result ≡ root_of (X.tree_leaves secret) (X.tree_joins secret) (X.tree_height secret) }

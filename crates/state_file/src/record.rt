@@ -47,7 +47,7 @@ impl Record {
     /// any other record.
     pub fn fits(&self, version: Version) -> bool
         ensures fits { result ≡ true → FitsVersion version self.now }
-        ensures not { result ≡ false → FitsVersion version self.now → ⊥ }
+        ensures unfit { result ≡ false → FitsVersion version self.now → ⊥ }
     {
         match self {
             Record::Key(key) => key.version == version,
@@ -138,7 +138,7 @@ impl Version {
     /// The greatest length of a name, in bytes.
     pub fn name_most(self) -> u8
         ensures value { result ≡ name_most self }
-        ensures least { 64 ≤ result }
+        ensures at_least_64 { 64 ≤ result }
         ensures at_most_128 { result ≤ 128 }
     {
         match self {

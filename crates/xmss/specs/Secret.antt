@@ -2,7 +2,7 @@
 -- 3.1.4, 4.1.6, 4.1.7 and 4.1.9). Also what callers see of its tree.
 use Rattle.std.specs.Prelude.{ℕ, List}
 use Rattle.typecodes.specs.Types.{xmss_height_of}
-use Rattle.merkle.specs.Tree.{Joins, Leaves, path_of, root_of}
+use Rattle.merkle.specs.Tree.{Joins, Leaves, path_at, root_of}
 use Rattle.wots_plus.specs.Hashes.{prf}
 use Rattle.wots_plus.specs.Key.{ends_of_secret, public_hash}
 use Rattle.xmss.specs.declared.key.XmssPublic.{XmssPublic}
@@ -32,15 +32,15 @@ abbrev pub public_of : XmssSecret → XmssPublic
 public_of secret = rooted_public secret (root_of_secret secret)
 
 abbrev pub leaf_path : XmssSecret → ℕ → List (List ℕ)
-leaf_path secret index = path_of (leaves_of secret) (joins_of secret) (xmss_height_of secret.tree) index
+leaf_path secret index = path_at (leaves_of secret) (joins_of secret) (xmss_height_of secret.tree) index
 
 -- r = PRF(SK_PRF, toByte(idx, 32)) (4.1.9)
-abbrev pub randomizer_of : List ℕ → ℕ → List ℕ
-randomizer_of prf_key index = prf prf_key (index_bytes index)
+abbrev pub randomizer_at : List ℕ → ℕ → List ℕ
+randomizer_at prf_key index = prf prf_key (index_bytes index)
 
 -- M', the digest of a message that a leaf signs
 abbrev pub digest_at : XmssSecret → List ℕ → ℕ → List ℕ → List ℕ
-digest_at secret root index message = message_digest_of (randomizer_of secret.prf_key index) root index message
+digest_at secret root index message = message_digest_of (randomizer_at secret.prf_key index) root index message
 
 abbrev pub secret_of : XmssTree → XmssSecret
 secret_of tree = tree.secret

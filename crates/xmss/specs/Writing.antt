@@ -6,14 +6,14 @@ use Rattle.wots_plus.specs.Hashes.{to_byte}
 use Rattle.wots_plus.specs.Key.{signed_values}
 use Rattle.xmss.specs.declared.key.XmssPublic.{XmssPublic}
 use Rattle.typecodes.specs.declared.secret.XmssSecret.{XmssSecret}
-use Rattle.xmss.specs.Secret.{leaf_path, randomizer_of}
+use Rattle.xmss.specs.Secret.{leaf_path, randomizer_at}
 use Rattle.xmss.specs.Signature.{Signature}
 
 -- a leaf's signature of the digest M', with any path
 abbrev pub made_signature : XmssSecret → ℕ → List ℕ → List (List ℕ) → Signature
 made_signature secret index digest path =
     let chains = signed_values secret.public_seed index secret.secret_seed digest in
-    record { index = index; randomizer = randomizer_of secret.prf_key index; chains = chains; path = path }
+    record { index = index; randomizer = randomizer_at secret.prf_key index; chains = chains; path = path }
 
 -- the textbook signature, with the leaf's own path
 abbrev pub textbook : XmssSecret → ℕ → List ℕ → Signature

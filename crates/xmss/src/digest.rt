@@ -4,7 +4,7 @@ ghost use Rattle.std.specs.Prelude.{◌≡◌, ◌++◌};
 ghost use Rattle.typecodes.specs.Message.{Digests};
 ghost use Rattle.xmss.specs.Digest as spec;
 ghost use Rattle.xmss.specs.Digest.{message_digest_of, message_prefix_of};
-ghost use Rattle.xmss.specs.Secret.{digest_at, randomizer_of};
+ghost use Rattle.xmss.specs.Secret.{digest_at, randomizer_at};
 
 use typecodes::{Message, MessageFailed, XmssSecret, put};
 use wots_plus::{Prf, hash_message, hash_message_from};
@@ -35,7 +35,7 @@ pub fn message_digest_from<M: Message>(
 
 /// r, the randomizer of a leaf's signature, 32 bytes (RFC 8391 4.1.9).
 pub fn randomizer(secret: &XmssSecret, leaf: u32) -> [u8; 32]
-    ensures { result ≡ randomizer_of secret.now.prf_key leaf }
+    ensures { result ≡ randomizer_at secret.now.prf_key leaf }
 {
     Prf::new(secret.prf_key).hash(&index_bytes(leaf))
 }

@@ -5,7 +5,7 @@ ghost use Rattle.typecodes.specs.Layout.{Spells};
 ghost use Rattle.typecodes.specs.Types.{xmss_height_of, xmss_signature_len_of};
 ghost use Rattle.xmss.specs.Key.{public_key};
 ghost use Rattle.xmss.specs.Signature.{signature};
-ghost use Rattle.xmss.specs.Secret.{digest_at, leaf_path, public_of, randomizer_of, root_of_secret};
+ghost use Rattle.xmss.specs.Secret.{digest_at, leaf_path, public_of, randomizer_at, root_of_secret};
 ghost use Rattle.xmss.specs.Writing.{public_bytes, signature_bytes, made_signature, textbook};
 ghost use Rattle.xmss.specs.Verification.{IsValid};
 
@@ -47,7 +47,7 @@ pub fn write_signature(
     into: &mut [u8],
 )
     requires inside { leaf < 2 ^ xmss_height_of secret.now.tree }
-    requires randomizer { randomizer.now ≡ randomizer_of secret.now.prf_key leaf }
+    requires randomizer { randomizer.now ≡ randomizer_at secret.now.prf_key leaf }
     requires path { length path.now ≡ xmss_height_of secret.now.tree }
     requires room { length into.old ≡ xmss_signature_len_of secret.now.tree }
     ensures bytes { into.new ≡ signature_bytes (made_signature secret.now leaf digest.now path.now) }

@@ -12,7 +12,7 @@ use Rattle.key_audit.proofs.uses.hss_uses.Goals as goal
 pub push-requires : goal.push-requires
 push-requires c =
     let many = level_count_of c.args.top.now c.args.message.now (signature_of c.args.signature.now) c.loop-level.level c.loop-level.uses.items c.loop-level.key c.loop-level.invariant in
-    omega (arith, many, c.loop-level-test.true, c.levels-level-end.ensures.most)
+    omega (arith, many, c.loop-level-test.true, c.levels-level-end.ensures.at_most_8)
 
 pub loop-level-preserved : goal.loop-level-preserved
 loop-level-preserved c =
@@ -34,7 +34,7 @@ loop-level-preserved c =
 pub push-requires-2 : goal.push-requires-2
 push-requires-2 c =
     let many = level_count_of c.args.top.now c.args.message.now (signature_of c.args.signature.now) c.loop-level.level c.loop-level.uses.items c.loop-level.key c.loop-level.invariant in
-    omega (arith, many, c.loop-level.invariant.within, c.levels-level-end.ensures.value, c.levels-level-end.ensures.most)
+    omega (arith, many, c.loop-level.invariant.within, c.levels-level-end.ensures.value, c.levels-level-end.ensures.at_most_8)
 
 pub returns : goal.returns
 returns c =

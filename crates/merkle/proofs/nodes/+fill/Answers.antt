@@ -17,14 +17,14 @@ pub fill-requires : goal.fill-requires
 fill-requires g t c κs within =
     let room = half_room (length c.args.into.now) c.args.depth c.requires.exact_length (omega arith) in
     let inside
-    = halves_inside c.args.base c.args.depth c.args.index (omega arith) c.requires.height c.requires.node_in_tree in
+    = halves_inside c.args.base c.args.depth c.args.index (omega arith) c.requires.at_most_25 c.requires.node_in_tree in
     search rules
 
 pub fill-requires-2 : goal.fill-requires-2
 fill-requires-2 g t c κs within =
     let room = half_room (length c.args.into.now) c.args.depth c.requires.exact_length (omega arith) in
     let inside
-    = halves_inside c.args.base c.args.depth c.args.index (omega arith) c.requires.height c.requires.node_in_tree in
+    = halves_inside c.args.base c.args.depth c.args.index (omega arith) c.requires.at_most_25 c.requires.node_in_tree in
     search rules
 
 pub overflow_sub-half : goal.overflow_sub-half

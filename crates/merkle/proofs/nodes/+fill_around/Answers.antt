@@ -24,7 +24,7 @@ pub fill_around-requires : goal.fill_around-requires
 fill_around-requires g t c κs within =
     let room = half_room (length c.args.into.now) c.args.depth c.requires.exact_length (omega arith) in
     let inside
-    = halves_inside c.args.base c.args.depth c.args.index (omega arith) c.requires.height c.requires.node_in_tree in
+    = halves_inside c.args.base c.args.depth c.args.index (omega arith) c.requires.at_most_25 c.requires.node_in_tree in
     let power : c.pow.result ≡ 2 ^ (c.args.depth - 1) = c.pow.ensures ∙ ap (λ n. 2 ^ n) c.from.ensures in
     let under : c.args.known_index / 2 ^ (c.args.depth - 1) ≡ 2 * c.args.index
     = ap (λ n. c.args.known_index / n) (sym power) ∙ c.if-over-index.true in
@@ -32,17 +32,17 @@ fill_around-requires g t c κs within =
 
 pub fill-requires-clause-node_in_tree : goal.fill-requires-clause-node_in_tree
 fill-requires-clause-node_in_tree g t c =
-    halves_inside c.args.base c.args.depth c.args.index (omega arith) c.requires.height c.requires.node_in_tree
+    halves_inside c.args.base c.args.depth c.args.index (omega arith) c.requires.at_most_25 c.requires.node_in_tree
 
 pub fill-requires-else-over-index-clause-node_in_tree : goal.fill-requires-else-over-index-clause-node_in_tree
 fill-requires-else-over-index-clause-node_in_tree g t c =
-    omega (arith, halves_inside c.args.base c.args.depth c.args.index (omega arith) c.requires.height c.requires.node_in_tree)
+    omega (arith, halves_inside c.args.base c.args.depth c.args.index (omega arith) c.requires.at_most_25 c.requires.node_in_tree)
 
 pub fill_around-requires-else-over-index : goal.fill_around-requires-else-over-index
 fill_around-requires-else-over-index g t c κs within =
     let room = half_room (length c.args.into.now) c.args.depth c.requires.exact_length (omega arith) in
     let inside
-    = halves_inside c.args.base c.args.depth c.args.index (omega arith) c.requires.height c.requires.node_in_tree in
+    = halves_inside c.args.base c.args.depth c.args.index (omega arith) c.requires.at_most_25 c.requires.node_in_tree in
     let power : c.pow.result ≡ 2 ^ (c.args.depth - 1) = c.pow.ensures ∙ ap (λ n. 2 ^ n) c.from.ensures in
     let under = under_second c.args.known_index c.args.depth c.args.index c.pow.result (omega arith) c.requires.under
     power c.if-over-index.false in

@@ -19,7 +19,7 @@ pub fill_from_leaves-requires : goal.fill_from_leaves-requires
 fill_from_leaves-requires g t c κs within =
     let room = half_room (length c.args.into.now) c.args.depth c.requires.exact_length (omega arith) in
     let inside
-    = halves_inside c.args.base c.args.depth c.args.index (omega arith) c.requires.height c.requires.node_in_tree in
+    = halves_inside c.args.base c.args.depth c.args.index (omega arith) c.requires.at_most_25 c.requires.node_in_tree in
     let lower : c.args.base + c.args.depth - 1 ≡ c.args.base + (c.args.depth - 1) = omega arith in
     let count = first_count (c.args.base + c.args.depth) (length c.args.leaves.now / 2) c.args.leaves.now (omega arith) c.requires.count refl
     ∙ ap (λ h. 2 ^ h) lower in
@@ -29,7 +29,7 @@ pub fill_from_leaves-requires-2 : goal.fill_from_leaves-requires-2
 fill_from_leaves-requires-2 g t c κs within =
     let room = half_room (length c.args.into.now) c.args.depth c.requires.exact_length (omega arith) in
     let inside
-    = halves_inside c.args.base c.args.depth c.args.index (omega arith) c.requires.height c.requires.node_in_tree in
+    = halves_inside c.args.base c.args.depth c.args.index (omega arith) c.requires.at_most_25 c.requires.node_in_tree in
     let lower : c.args.base + c.args.depth - 1 ≡ c.args.base + (c.args.depth - 1) = omega arith in
     let count = second_count (c.args.base + c.args.depth) (length c.args.leaves.now / 2) c.args.leaves.now (omega arith) c.requires.count refl
     ∙ ap (λ h. 2 ^ h) lower in

@@ -17,12 +17,12 @@ returns-then-height-eq-LANES_HEIGHT-clause-value g t c =
 
 pub node_at-left-requires : goal.node_at-left-requires
 node_at-left-requires g t c κs within =
-    let both = children_inside c.args.height c.args.index (omega arith) c.requires.height c.requires.node_in_tree in
+    let both = children_inside c.args.height c.args.index (omega arith) c.requires.at_most_25 c.requires.node_in_tree in
     search rules
 
 pub node_at-right-requires : goal.node_at-right-requires
 node_at-right-requires g t c κs within =
-    let both = children_inside c.args.height c.args.index (omega arith) c.requires.height c.requires.node_in_tree in
+    let both = children_inside c.args.height c.args.index (omega arith) c.requires.at_most_25 c.requires.node_in_tree in
     search rules
 
 pub returns-clause-value : goal.returns-clause-value

@@ -15,13 +15,13 @@ returns-then-height-eq0 g t c = λ leaf under.
 
 pub node_over-left-requires : goal.node_over-left-requires
 node_over-left-requires g t c κs within =
-    let inside = children_inside c.args.height c.args.index (omega arith) c.requires.height c.requires.node_in_tree in
+    let inside = children_inside c.args.height c.args.index (omega arith) c.requires.at_most_25 c.requires.node_in_tree in
     let count = first_count c.args.height (length c.args.leaves.now / 2) c.args.leaves.now (omega arith) c.requires.count refl in
     search rules
 
 pub node_over-right-requires : goal.node_over-right-requires
 node_over-right-requires g t c κs within =
-    let inside = children_inside c.args.height c.args.index (omega arith) c.requires.height c.requires.node_in_tree in
+    let inside = children_inside c.args.height c.args.index (omega arith) c.requires.at_most_25 c.requires.node_in_tree in
     let count = second_count c.args.height (length c.args.leaves.now / 2) c.args.leaves.now (omega arith) c.requires.count refl in
     search rules
 

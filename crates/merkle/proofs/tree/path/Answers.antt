@@ -8,12 +8,12 @@ use Rattle.merkle.proofs.Building.{sibling_inside, over_inside, path_leaves_more
 
 pub sibling_of-requires : goal.sibling_of-requires
 sibling_of-requires g c =
-    over_inside c.args.height c.args.q c.loop-k.k _ c.requires.height c.requires.is_leaf c.loop-k.invariant.index_over
+    over_inside c.args.height c.args.q c.loop-k.k _ c.requires.at_most_25 c.requires.is_leaf c.loop-k.invariant.index_over
 
 pub node_at-requires-clause-node_in_tree : goal.node_at-requires-clause-node_in_tree
 node_at-requires-clause-node_in_tree g c =
     rw c.sibling_of.ensures
-    (sibling_inside c.args.height c.args.q c.loop-k.k _ c.requires.height c.requires.is_leaf (omega arith) c.loop-k.invariant.index_over)
+    (sibling_inside c.args.height c.args.q c.loop-k.k _ c.requires.at_most_25 c.requires.is_leaf (omega arith) c.loop-k.invariant.index_over)
 
 pub loop-k-preserved : goal.loop-k-preserved
 loop-k-preserved g c =

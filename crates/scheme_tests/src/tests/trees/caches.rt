@@ -19,7 +19,7 @@ struct Counted<'a> {
 impl<'a> Counted<'a> {
     // The cache that keeps leaf q's block.
     fn for_leaf(alloc: Global, tally: &'a Tally, height: u8, q: u32) -> Result<Self, OutOfMemory>
-        requires height { height ≤ 25 }
+        requires at_most_25 { height ≤ 25 }
         requires inside { q < 2 ^ height }
         ensures { IfOk result (λ cache. cache.height ≡ height) }
     {

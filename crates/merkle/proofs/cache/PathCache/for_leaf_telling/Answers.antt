@@ -9,7 +9,7 @@ use Rattle.merkle.proofs.cache.PathCache.for_leaf_telling.Goals as goal
 
 pub fill-requires-clause-node_in_tree : goal.fill-requires-clause-node_in_tree
 fill-requires-clause-node_in_tree g c =
-    block_inside c.args.height c.block_of-kept_index.result c.requires.height c.block_of-kept_index.ensures.is_block
+    block_inside c.args.height c.block_of-kept_index.result c.requires.at_most_25 c.block_of-kept_index.ensures.is_block
 
 pub fill_around-requires-clause-known : goal.fill_around-requires-clause-known
 fill_around-requires-clause-known g c =
