@@ -10,7 +10,7 @@ use Rattle.state_file.specs.declared.record.Secret.{Secret}
 use Rattle.state_file.specs.declared.record.Secret.TheVariants.{Lms as LmsSecret, Hss as HssSecret, Xmss as XmssSecret}
 use Rattle.sign_core.specs.World.{Chance, Event, create, request}
 
--- the fields of a draw have their sizes in bytes; the last of them may be missing
+-- the fields of a draw have their sizes in bytes; where the source failed, fields at the end are missing
 abbrev pub AreFields : (sizes : List ℕ) → (fields : List (List ℕ)) → Type 0
 AreFields sizes [] = Unit {0}
 AreFields [] (field ∷ fields) = ⊥

@@ -83,6 +83,7 @@ pub record WasHanded (world : World) (x : Handed) (uses : List LeafUse) : Type 0
   pub handed : Contains world.handed x
   pub makes : MakesUses public x.message x.signature uses
 
+-- Two uses are of the same leaf of the same tree.
 pub record IsOneLeaf (u v : LeafUse) : Type 0 where
   pub identifier : u.identifier ≡ v.identifier
   pub leaf : u.leaf ≡ v.leaf
@@ -109,5 +110,8 @@ pub record SignsOnce (world : World) : Type 0 where
   pub valid : (x : Handed) → Contains world.handed x
       → (public : AnyPublic) × (public_of_world world ≡ Some public) × IsValidUnder public x.message x.signature
 
+-- So it is after every run that begins without records: creates, openings, requests, retirings, migrations and crashes
+-- in any order, whatever fails in them. The world's key is record 0. That it is the one that `create` answered, and
+-- that signatures are given at all, stands in `Openings.antt` and `Requests.antt`.
 abbrev pub HeadlineLaw : Type 0
 HeadlineLaw = (limit : ℕ) (events : List Event) → AllEvents events → SignsOnce (run limit beginning events)

@@ -135,8 +135,8 @@ pub record LivesLaw {D : Type 0} (d : disk.Ghosts D) (g : store.Ghosts (FileStor
       → AreLives d g limit (LedTo limit []) [] lives
   pub left_without_key : (limit : ℕ) (lives : List (Life D d)) (content : List ℕ)
       → all_contents_left d HasNoKey lives content → all_contents_left d (LedTo limit []) lives content
-  -- so is the new place of a migration: if runs lead to records of version 1, they lead to the carried records, and to
-  -- these with a Moved, with the same handed out
+  -- So is the new place of a migration. If runs lead to records of version 1, they lead to the carried ones, and to
+  -- those with a Moved, with the same handed out.
   pub migrates : (limit : ℕ) (handed : List Handed) (records : List Record) (content moved : List ℕ)
       → LedTo limit handed content → StandsFor records content → CanMigrate records
       → StandsFor (carried records) moved ⊎ StandsFor (with_moved records) moved → LedTo limit handed moved

@@ -34,7 +34,8 @@ pub record IsFirstDamaged (key : Key) (records : List Record) (level tree slot :
   pub above : (i k : ℕ) → i < place → slice_get (tree_chain level records tree) i ≡ Some k
       → is_sound_at key records k ≡ true
 
--- the same in the chain of a name's binding, or without one in the chain by which a new name signs
+-- The record at `slot` is the first that isn't sound in the chain of a name's binding, or, for a new name, in the chain
+-- by which it signs.
 abbrev pub IsDamagedFor : Key → List Record → Option (ℕ × Bound) → (slot : ℕ) → Type 0
 IsDamagedFor key records (Some (k, bound)) slot =
     IsFirstDamaged key records (bottom_of key.secret) (current_at (bottom_of key.secret) records k) slot

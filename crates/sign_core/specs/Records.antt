@@ -55,17 +55,18 @@ current (suc level) = λ records. under (current level) records (last_extend (su
 
 -- ---- leaves
 
--- the tree in which a record names or retires leaves, among the records before it, and the number above these leaves
+-- this tree, if there is one, and a number above leaves in it
 abbrev pub in_tree : Option ℕ → ℕ → Option (ℕ × ℕ)
 in_tree found n = option_map (λ tree. (tree, n)) found
 
+-- what a record reaches: the tree, and the number above the leaves
 abbrev pub reaches : Secret → (before : List Record) → Record → Option (ℕ × ℕ)
 reaches secret before (ExtendRecord extend) = in_tree (current (extend.level - 1) before) (extend.parent_leaf + 1)
 reaches secret before (BoundRecord bound) = in_tree (current (bottom_of secret) before) (bound.leaf + 1)
 reaches secret before (Retire upto) = in_tree (current (bottom_of secret) before) upto
 reaches secret before _ = None
 
--- that number, for one tree alone
+-- the number that is reached in one tree; 0 where none is
 abbrev pub reached_number : (tree : ℕ) → Option (ℕ × ℕ) → ℕ
 reached_number tree None = 0
 reached_number tree (Some (other, n)) = if nat_eq other tree then n else 0

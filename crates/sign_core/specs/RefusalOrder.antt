@@ -39,7 +39,7 @@ Of named Cause fault = (fault ≡ named) × Cause
 abbrev pub IsUnsound : (damaged : Option ℕ) → SignFault → Type 0
 IsUnsound damaged fault = (slot : ℕ) × (damaged ≡ Some slot) × (fault ≡ Damaged slot)
 
--- an append is cut (25), or there is no memory for its record (29)
+-- an append is cut (25), or there is no memory for its record, or for the cache of the tree that it records (29)
 abbrev pub AfterAppend : {A : Type 0} → Fate → (Rest : Result A SignFault → Type 0) → Result A SignFault → Type 0
 AfterAppend fate Rest =
     Unless (Of StoreFailed ((fate ≡ cut_old) ⊎ (fate ≡ cut_new)))
@@ -58,7 +58,7 @@ abbrev pub HasChanged : Key → List Record → (k : ℕ) → Bound → (given :
 HasChanged key records k bound given = (message : List ℕ) × (given ≡ Some message)
     × (digest_at key records k bound.leaf bound.randomizer message ≢ bound.digest)
 
--- Under a name that the record at place k binds: 27, 21, 29, 28.
+-- Under a name that the record at place k binds, as the steps of `repeat`: 27, 21, 29, 28.
 abbrev pub RefusesRepeat : State → Key → (k : ℕ) → Bound → Chance → Result (List ℕ) SignFault → Type 0
 RefusesRepeat state key k bound chance =
     let bottom = bottom_of key.secret in
@@ -73,7 +73,8 @@ HasNoLeaf secret records = (level : ℕ) → level < levels_of secret → free_a
 abbrev pub FirstFieldIs : (fields : List (List ℕ)) → (identifier : List ℕ) → Type 0
 FirstFieldIs fields identifier = (others : List (List ℕ)) × (fields ≡ identifier ∷ others)
 
--- For a new tree: 23 where I isn't drawn, 24 where it is known, 23 where SEED or C isn't drawn, and its append's.
+-- For a new tree, as `begin_tree`: 23 where I isn't drawn, 24 where it is known, 23 where SEED or C isn't drawn, and
+-- its append's.
 abbrev pub RefusesTree : (IsKnown : List ℕ → Type 0) → Draw → (Rest : Result (List ℕ) SignFault → Type 0)
     → Result (List ℕ) SignFault → Type 0
 RefusesTree IsKnown draw Rest =
@@ -81,8 +82,8 @@ RefusesTree IsKnown draw Rest =
     (Unless (Of RandomRepeated ((identifier : List ℕ) × FirstFieldIs draw.fields identifier × IsKnown identifier))
     (Unless (Of RandomFailed (length draw.fields < 3)) (AfterAppend draw.fate Rest)))
 
--- For `below` new trees, one after the other: the I of each is known to the later ones. Then for the binding: 23 where
--- C isn't drawn, 27, and its append's.
+-- For `below` new trees, as `begin_trees`: the I of each is known to the later ones. Then for the binding, as `bind`:
+-- 23 where C isn't drawn, 27, and its append's.
 abbrev pub RefusesWanted : Key → Chance → (below : ℕ) → List Draw → (IsKnown : List ℕ → Type 0)
     → Result (List ℕ) SignFault → Type 0
 RefusesWanted key chance zero = λ draws IsKnown.
@@ -94,7 +95,8 @@ RefusesWanted key chance (suc below) = λ draws IsKnown.
     (RefusesWanted key chance below (drop 1 draws)
     (λ identifier. IsKnown identifier ⊎ FirstFieldIs fields identifier))
 
--- Under a new name, where this level is the deepest with a free leaf: 30, 29, 28, and `RefusesWanted`.
+-- Under a new name, where this level is the deepest with a free leaf: 30, 29, 28, and `RefusesWanted`. With the two
+-- below these are the steps of `bind_new_name`.
 abbrev pub RefusesAt : (limit : ℕ) → State → Key → Chance → (level : ℕ) → Result (List ℕ) SignFault → Type 0
 RefusesAt limit state key chance level =
     let records = state.records in

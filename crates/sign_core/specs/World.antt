@@ -79,7 +79,7 @@ reading outcome = record outcome { is_read = true }
 -- ---- appends
 
 -- What becomes of an append: it is acknowledged; it is cut, and leaves the old records, or the new one as well; or
--- memory is refused for it.
+-- memory is refused for it, or just before it for the cache of the tree that it records.
 pub data Fate : Type 0 where
   acked : Fate
   cut_old : Fate
@@ -95,7 +95,8 @@ appended state entry no_memory next = refused state OutOfMemory
 
 -- ---- steps
 
--- A step of an event finds a state, and goes on with a value and a state to what comes next; or it ends the event.
+-- A step of an event finds a state, and goes on with a value and a state to what comes next; or it ends the event. It
+-- gives a value of A, in an event that answers a B.
 abbrev pub Step : (B A : Type 0) → Type 0
 Step B A = State → (A → State → Outcome B) → Outcome B
 
@@ -154,8 +155,8 @@ append entry fate state rest = appended state entry fate (λ records. rest tt (o
 
 -- ---- create
 
--- A create's version and chance: why record 0 couldn't be loaded, if so; the fields that the source gave, fewer where
--- it failed; whether memory was granted; and the append's fate.
+-- A create's version and chance: why record 0 couldn't be loaded, if so; the source's fields, fewer where it failed;
+-- whether memory was granted, which a signer's create doesn't ask for; and the append's fate.
 pub record Creation : Type 0 where
   pub version : Version
   pub failed_load : Option SignFault
@@ -222,8 +223,8 @@ pub record Draw : Type 0 where
   pub fields : List (List ℕ)
   pub fate : Fate
 
--- A request's chance: whether memory was granted at its beginning; each new tree's draw, from the top down, and the
--- binding's; and what the message's reader gave, if it didn't fail.
+-- A request's chance: whether memory was granted for its output, its records and the caches of current trees; each new
+-- tree's draw, from the top down, and the binding's. And what the message's reader gave, None where it failed.
 pub record Chance : Type 0 where
   pub has_room : Bool
   pub trees : List Draw

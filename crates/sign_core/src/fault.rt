@@ -35,7 +35,7 @@ pub enum SignFault {
     #[error("memory was refused")]
     OutOfMemory,
     /// 30: the store has no room for the records; nothing changed.
-    #[error("the store takes no further record")]
+    #[error("the store has no room for the records")]
     LedgerFull,
     /// 31: the records go on in another file; nothing changed.
     #[error("the records go on in another file")]

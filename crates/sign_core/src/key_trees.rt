@@ -1,5 +1,5 @@
-//! The trees of a key: of LMS or HSS the chain from the top down to one that signs, or the one tree of XMSS; and the
-//! caches of the current ones.
+//! The trees of a key, and the caches of the current ones. Under LMS and HSS they are a chain from the top down to the
+//! tree that signs, and under XMSS there is one.
 
 ghost use Rattle.std.specs.Prelude.{◌≡◌, ◌<◌, ◌+◌, ◌^◌, ◌++◌, Some, None, length, slice_index_or};
 ghost use Rattle.std.specs.Prelude.{IfErr, OnOk, IfOk, OnErr};

@@ -101,8 +101,8 @@ pub fn textbook_laws()
 ///   That message was read.
 /// - An open signer refuses a bound name with another digest as changed. For the bound digest it gives the recorded
 ///   signature, unless memory is refused or the message can't be read. Neither changes anything.
-/// - A request for a new name gets the next leaf, if a file of the key's version can hold the name, a leaf is left, the
-///   store isn't full and nothing fails.
+/// - A request for a new name gets the next leaf if one is left, the name fits the key's version, the store isn't full
+///   and nothing fails.
 /// - No refusal of a request binds a name, unless the store's device failed (25).
 /// - A retiring beyond the next leaf is recorded, if the tree has these leaves, the store isn't full and nothing fails.
 ///   Any other changes nothing, unless the device failed, and the law says what it answers.
@@ -127,13 +127,13 @@ pub fn sound_law()
 
 /// What holds over any legal records whose parts have their sizes, whoever wrote them.
 ///
-/// Their roots and digests may be wrong: a signer makes each tree of a chain anew before it signs under it, and refuses
+/// Their roots and digests may be wrong: before it signs under a tree a signer compares it with its record, and refuses
 /// a record that differs as damaged. So
 ///
 /// - an opening where nothing fails opens the signer on them, and answers the public key of record 0;
 /// - every event leaves legal records;
-/// - each signature that a request gives, or a run hands out, is valid under that key for the message that was read:
-///   for a new name or a bound one, and in every scheme;
+/// - each signature that a request gives, or a run hands out, is valid under that key for the message that was read, in
+///   every scheme;
 /// - a record refused as damaged (28) is the first in its chain of trees, from the top down, that differs from the
 ///   secrets, and nothing changed.
 ///

@@ -82,7 +82,8 @@ impl Binding {
     }
 }
 
-/// A legal list of a key's records. Its `HashMap`s hash with a fixed seed, so the time of a lookup is a mean.
+/// A legal list of a key's records. Its `HashMap`s hash with a fixed seed: a lookup takes constant time on the mean,
+/// and longer among names that were chosen against the seed.
 #[derive(Drop)]
 pub struct Ledger {
     // for contracts alone

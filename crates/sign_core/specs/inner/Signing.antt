@@ -61,7 +61,7 @@ pub record CanBind {S R : Type 0} (most wanted : ℕ) (name : List ℕ) (size : 
   pub fits : UnderKey view.records (λ key. is_long key name ≡ false)
   pub room : UnderKey view.records (λ key. size ≡ signature_size key.secret)
 
--- The draws of a new tree of these types: an I that no record has, SEED and C; or the source failed after some fields;
+-- The draws of a new tree of these types: an I that no record has, SEED and C. Or the source failed after some fields,
 -- or a record has the I.
 abbrev pub DrawsTree : LmsPair → List Record → (failures_before failures_after : ℕ) (upcoming left : Option (List ℕ))
     → Result (LmsSecret × List ℕ) SignFault → Type 0

@@ -75,8 +75,8 @@ impl<S: Store, R: Source> Signer<S, R> {
     /// How many leaves the cache of a level's current tree has made, at most `u64::MAX`; None where the level has no
     /// cache of its current tree.
     ///
-    /// No signature depends on caches, so tests check the rest. The number is the cache's count of leaves, a signer
-    /// uses its caches, and one just made or opened has none.
+    /// The contract says where there is a cache. No signature depends on caches, so the rest is tested: the number is
+    /// the cache's count of leaves, a signer uses its caches, and one just made or opened has none.
     pub fn cache_leaves(&self, level: u8) -> Option<u64>
         ensures no_level { UnderKey self.now.records (λ key. levels_of key.secret ≤ level → result ≡ None) }
         ensures chain { UnderKey self.now.records (λ key. (trees : Trees) → trees_of key.secret ≡ Some trees →
@@ -102,8 +102,8 @@ impl<S: Store, R: Source> Signer<S, R> {
     /// signature (21 for another message). A new name takes the next leaf, and is bound in the store before it signs.
     ///
     /// Refusals in their order: 26, 31. Under a bound name then 27, 21, 29, 28. Under a new one then 33, 22, 30, 29,
-    /// 28; for each new tree 23, 24, 29 for its cache and 25; and 23 for C, 27, 25. 29 also comes where the store
-    /// answers 46 to an append. After a refusal `out` is empty.
+    /// 28; for each new tree 23 for I, 24, 23 for SEED and C, 29 for its cache, 25; and 23 for C, 27, 25. 29 also comes
+    /// where the store answers 46 to an append. After a refusal `out` is empty.
     ///
     /// Once the binding's append has answered Ok, `sign` answers Ok. It draws I, SEED and C for each new tree and C for
     /// the binding; for XMSS it draws nothing. The message is read to its end, or can't be read (27), or is as it was.
@@ -149,8 +149,8 @@ impl<S: Store, R: Source> Signer<S, R> {
 
     // As `sign_telling`, without clearing `out` on error.
     //
-    // Neither this nor a step that makes trees or holds a chain is inlined. They never run together, and in one
-    // function their frames would add up. Nor is `extend`, since `bind_below` calls itself.
+    // This isn't inlined, nor are the steps that make trees or hold a chain: they run one after the other, and in one
+    // function their frames would add up. Nor are `bind` and `extend`, since `bind_below` calls itself.
     #[inline(never)]
     fn sign_into<M: Message, P: TreeProgress>(
         &mut self,
@@ -183,7 +183,7 @@ impl<S: Store, R: Source> Signer<S, R> {
         trees
             .check_current(&self.ledger, &mut self.caches, level, progress)
             .map_err(SignFault::Damaged)?;
-        // 23, 24, 29 and 25 for each tree; 23, 27, 25
+        // 23, 24, 23, 29 and 25 for each tree; 23, 27, 25
         self.bind_below(level, name, message, out, progress)
     }
 }
