@@ -5,7 +5,7 @@ use Rattle.std.specs.Io.KnownBytes.{Appends}
 use Rattle.std.proofs.lemmas.List.{length-map, map-append}
 use Rattle.typecodes.specs.declared.types.LmsPair.{LmsPair}
 use Rattle.typecodes.specs.Spec.{comma, levels_text, pair_text}
-use Rattle.command.specs.ListingText.{after_comma}
+use Rattle.command.specs.inner.ListingText.{after_comma}
 
 join_more : (parts : List (List ℕ)) (x : List ℕ)
     → join_with_byte comma (parts ++ x ∷ []) ≡ join_with_byte comma parts ++ after_comma (length parts) x

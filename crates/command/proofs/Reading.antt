@@ -11,7 +11,8 @@ use Rattle.typecodes.specs.declared.reading.ReadError.TheVariants.{Failed, TooLo
 use Rattle.typecodes.specs.Message.{Gave, IsContent, ReadOutcome, Transitions, Transition}
 use Rattle.typecodes.specs.Reading.{ReadsFull, ReadsToEnd as EndsOrFails, Refuses, Takes}
 use Rattle.typecodes.proofs.Messages.{content_at_end, fails-append, gives-all-append, gives-append}
-use Rattle.command.specs.Files.{CantKeep, FailsToRead, FileState, FillsOrFails, FillsRoom, ReadsAllOrFails, ReadsFileOnce, left_of}
+use Rattle.command.specs.Files.{CantKeep, FailsToRead, FillsOrFails, FillsRoom, ReadsAllOrFails}
+use Rattle.command.specs.inner.Files.{FileState, ReadsFileOnce, left_of}
 use Rattle.command.specs.Refusal.{refusal_of}
 use Rattle.command.specs.declared.refusal.Refusal.{Refusal}
 use Rattle.command.specs.declared.refusal.Refusal.TheVariants as refused

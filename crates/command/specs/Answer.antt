@@ -1,8 +1,5 @@
 -- The line that reports each answer, and the exit status.
-use Rattle.std.proofs.Common.{arith, ap, sym, refl, inl, inr, ◌∙◌}
-use Rattle.std.proofs.lemmas.Bool.{false≢true, or_right}
-use Rattle.std.specs.Prelude.{ℕ, List, [], ◌∷◌, codes, decimal, ◌++◌, Option, Result, Ok, Err, ◌≡◌, ◌⊎◌}
-use Rattle.std.specs.Prelude.{true, map, option_map}
+use Rattle.std.specs.Prelude.{ℕ, List, codes, decimal, ◌++◌, Result, Ok, Err, ◌≡◌, ◌⊎◌}
 use Rattle.command.specs.declared.answer.Done.{Done}
 use Rattle.command.specs.declared.answer.Done.TheVariants.{Audited, Checked, Listed, Migrated, Published, Retired}
 use Rattle.command.specs.declared.answer.Done.TheVariants.{Signed, Verified}
@@ -20,12 +17,10 @@ use Rattle.state_file.specs.declared.file.opening.OpenFault.TheVariants as openi
 use Rattle.state_file.specs.declared.file.format.FormatFault.TheVariants as preparing
 use Rattle.state_file.specs.declared.migration.MigrateFault.TheVariants as migrate
 use Rattle.typecodes.specs.declared.refusal.Refusal.TheVariants.{MessageRead}
-use Rattle.command.specs.LineFault.{BeginsWithCapital, IsHelp, has_lowercase_line}
 use Rattle.command.specs.Refusal.{refusal_line}
-use Rattle.state_file.specs.declared.record.Record.{Record}
 use Rattle.state_file.specs.Slot.{version_code}
 use Rattle.typecodes.specs.Spec.{spec_text}
-use Rattle.key_audit.specs.Listing.{ListingLaw, Shown, names_among, shown_of_listing, shown_of_records, without_secret}
+use Rattle.key_audit.specs.Listing.{Shown, names_among, shown_of_listing}
 use Rattle.command.specs.Output.{Taken, WritesText, Fails, entry_lines, level_lines, moved_line}
 
 -- the lines of a report, after the bytes of the public key
@@ -41,15 +36,6 @@ listing_lines shown =
     ((((((((codes "spec " ++ spec_text shown.spec) ++ codes "\nformat ") ++ decimal (version_code shown.version))
     ++ codes "\n") ++ level_lines 0 shown.left) ++ codes "names ") ++ decimal (names_among shown.entries))
     ++ codes "\n") ++ entry_lines 0 shown.entries
-
--- the listing of records; None without a key
-abbrev pub listed_lines : List Record → Option (List ℕ)
-listed_lines records = option_map listing_lines (shown_of_records records)
-
--- Nothing secret is listed: two lists of records that differ only in secrets have the same lines.
-pub secrets_have_no_part : ListingLaw → (a b : List Record) → map without_secret a ≡ map without_secret b
-    → listed_lines a ≡ listed_lines b
-secrets_have_no_part law a b same = ap (option_map listing_lines) (law a b same)
 
 abbrev pub done_lines : Done → List ℕ
 done_lines Verified = codes "verified\n"
@@ -107,44 +93,3 @@ abbrev pub ReportsServing : Result ℕ Refusal → Taken → Taken → ℕ → T
 ReportsServing (Ok replies) old new status = (status ≡ 0) × (new ≡ old)
 ReportsServing (Err refusal) old new status = (status ≡ status_of (Err refusal))
     × (WritesText (answer_line (Err refusal)) old new ⊎ Fails old new)
-
--- No answer's line begins with a capital letter.
-pub line_is_lower : (answer : Result Done Refusal) → BeginsWithCapital (answer_line answer) → ⊥
-line_is_lower (Ok Verified) capital = omega (arith, capital)
-line_is_lower (Ok (Retired upto)) capital = omega (arith, capital)
-line_is_lower (Ok (Published public)) capital = omega (arith, capital)
-line_is_lower (Ok (Signed name size)) capital = omega (arith, capital)
-line_is_lower (Ok (Audited public report)) capital = omega (arith, capital)
-line_is_lower (Ok (Listed listing)) capital = omega (arith, capital)
-line_is_lower (Ok (Checked count)) capital = omega (arith, capital)
-line_is_lower (Ok (Migrated count)) capital = omega (arith, capital)
-line_is_lower (Err refusal) capital = omega (arith, capital)
-
--- A text that begins with an answer's line has a line that begins with a lowercase letter,
-line_is_lowercase : (answer : Result Done Refusal) (after : List ℕ)
-    → has_lowercase_line 10 (answer_line answer ++ after) ≡ true
-unfolding has_lowercase_line
-line_is_lowercase (Ok Verified) after = refl
-line_is_lowercase (Ok (Retired upto)) after = refl
-line_is_lowercase (Ok (Published public)) after = refl
-line_is_lowercase (Ok (Signed name size)) after = refl
-line_is_lowercase (Ok (Audited public report)) after = refl
-line_is_lowercase (Ok (Listed listing)) after = refl
-line_is_lowercase (Ok (Checked count)) after = refl
-line_is_lowercase (Ok (Migrated count)) after = refl
-line_is_lowercase (Err refusal) after = refl
-
--- and so has one in which this stands after a line's end.
-later_line : (byte : ℕ) (before line : List ℕ) → has_lowercase_line 10 line ≡ true
-    → has_lowercase_line byte (before ++ 10 ∷ line) ≡ true
-unfolding has_lowercase_line
-later_line byte [] line lowercase = or_right _ _ lowercase
-later_line byte (next ∷ before) line lowercase = or_right _ _ (later_line next before line lowercase)
-
--- So no line of help is an answer's line, neither its first nor a later one.
-pub help_has_no_answer : (text before after : List ℕ) (answer : Result Done Refusal) → IsHelp text
-    → (text ≡ answer_line answer ++ after) ⊎ (text ≡ before ++ 10 ∷ (answer_line answer ++ after)) → ⊥
-help_has_no_answer text before after answer (capital, none) (inl first) =
-    false≢true (sym none ∙ ap (has_lowercase_line 10) first ∙ line_is_lowercase answer after)
-help_has_no_answer text before after answer (capital, none) (inr later) =
-    false≢true (sym none ∙ ap (has_lowercase_line 10) later ∙ later_line 10 before _ (line_is_lowercase answer after))

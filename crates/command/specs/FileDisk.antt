@@ -1,7 +1,5 @@
 -- How a disk reads and writes a file of the machine: each call may do only a part of what is requested.
 use Rattle.std.specs.Prelude.{ℕ, List, ◌≡◌, ◌+◌, ◌-◌, [], ◌∷◌, ◌++◌, ◌≤◌, ◌<◌, ◌^◌, ◌⊎◌, length, drop, Result, Ok, Err}
-use Rattle.std.proofs.Common.{subst}
-use Rattle.std.specs.Prelude.{Bool, true, false, IsTrue}
 use Rattle.std.specs.IoError.{error_kind}
 use Rattle.std.specs.declared.io.Error.{Error}
 use Rattle.std.specs.declared.io.ErrorKind.{ErrorKind}
@@ -122,11 +120,3 @@ Measures (Err fault) old new = (fault ≡ Failed) × (kind : ErrorKind) × (new 
 abbrev pub SyncsAll : Result Unit DiskFault → (old new : List Happening) → Type 0
 SyncsAll (Ok _) old new = new ≡ old ++ synced (Ok tt) ∷ []
 SyncsAll (Err fault) old new = (fault ≡ Failed) × (kind : ErrorKind) × (new ≡ old ++ synced (Err kind) ∷ [])
-
-abbrev pub IsNotTrue : Bool → Type 0
-IsNotTrue true = ⊥
-IsNotTrue false = Unit {0}
-
--- a disk that isn't honest makes no promise
-pub never : {A : Type 0} → IsTrue false → A
-never honest = absurd (subst IsNotTrue honest tt)

@@ -1,7 +1,6 @@
 -- What is read of files, and how reading them fails.
-use Rattle.std.specs.Prelude.{length, ℕ, List, [], ◌∷◌, ◌++◌, Result, Ok, Err, ◌≡◌, Option, Some, IfSome, ◌≢◌}
-use Rattle.std.specs.Prelude.{◌⊎◌, ◌<◌, ◌≤◌, ◌^◌, take}
-use Rattle.std.proofs.Common.{append_assoc, append-nil, subst, sym}
+use Rattle.std.specs.Prelude.{length, ℕ, List, [], ◌∷◌, ◌++◌, Result, Ok, Err, ◌≡◌, Option, Some, IfSome, ◌≢◌, ◌⊎◌, ◌<◌}
+use Rattle.std.specs.Prelude.{◌≤◌, ◌^◌, take}
 use Rattle.sign_core.specs.declared.key.AnyPublic.{AnyPublic}
 use Rattle.sign_core.specs.declared.key.KeyFault.{KeyFault}
 use Rattle.sign_core.specs.Key.{KeyHasFault, SpellsKey}
@@ -10,12 +9,11 @@ use Rattle.std.specs.IoError.{error_kind}
 use Rattle.std.specs.declared.io.Error.{Error}
 use Rattle.std.specs.declared.io.ErrorKind.{ErrorKind}
 use Rattle.std.specs.declared.io.ErrorKind.TheVariants.{OutOfMemory}
-use Rattle.typecodes.specs.Message.{IsContent, Transition}
+use Rattle.typecodes.specs.Message.{IsContent}
 use Rattle.command.specs.declared.refusal.Refusal.{Refusal}
 use Rattle.command.specs.declared.refusal.Refusal.TheVariants as refused
 use Rattle.command.specs.Refusal.{refusal_of}
-use Rattle.command.specs.Trace.{Happening, ReadsForever, ReadsOn, ReadsOnce, ReadsToEnd, ReadsToFailure, not_opened}
-use Rattle.command.specs.Trace.{opened}
+use Rattle.command.specs.Trace.{Happening, ReadsForever, ReadsOn, ReadsToEnd, ReadsToFailure, not_opened, opened}
 
 -- A public key's bytes were decoded, or this is wrong with them.
 abbrev pub ReadsKey : List ℕ → Result AnyPublic KeyFault → Type 0
@@ -39,17 +37,6 @@ FillsRoom role room bytes old new =
 abbrev pub FillsOrFails : Role → Result ℕ Error → List ℕ → List Happening → List Happening → Type 0
 FillsOrFails role (Ok count) buffer old new = FillsRoom role (length buffer) (take count buffer) old new
 FillsOrFails role (Err error) buffer old new = ReadsToFailure role (error_kind error) old new
-
--- what is known to be left of a file, and what happened
-abbrev pub FileState : Type 0
-FileState = Option (List ℕ) × List Happening
-
-abbrev pub left_of : FileState → Option (List ℕ)
-left_of file = file.0
-
--- One read of this file happened, and nothing else.
-abbrev pub ReadsFileOnce : Role → Transition FileState
-ReadsFileOnce role old outcome new = ReadsOnce role old.1 outcome new.1
 
 -- A file was read to its end, and the value fits its bytes, which are all that was known to be left of it. Or reading
 -- failed.
@@ -140,11 +127,3 @@ IsCount bytes count = length bytes < 2 ^ 64 → count ≡ length bytes
 -- After the bytes before them, these were counted too.
 abbrev pub CountsBytes : (before : ℕ) (bytes : List ℕ) (after : ℕ) → Type 0
 CountsBytes before bytes after = (seen : List ℕ) → IsCount seen before → IsCount (seen ++ bytes) after
-
-pub counts_nothing : (count : ℕ) → CountsBytes count [] count
-counts_nothing count seen is = subst (λ l. IsCount l count) (sym (append-nil seen)) is
-
-pub counts_more : (before middle after : ℕ) (first later : List ℕ) → CountsBytes before first middle
-    → CountsBytes middle later after → CountsBytes before (first ++ later) after
-counts_more before middle after first later one more seen is =
-    subst (λ l. IsCount l after) (append_assoc seen first later) (more (seen ++ first) (one seen is))

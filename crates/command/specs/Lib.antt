@@ -9,7 +9,6 @@ pub mod KeyFile
 pub mod Line
 pub mod LineFault
 pub mod ListState
-pub mod ListingText
 pub mod Make
 pub mod Migrate
 pub mod Number
@@ -28,3 +27,4 @@ pub mod Streams
 pub mod Target
 pub mod Trace
 pub mod Verify
+pub mod inner

@@ -110,10 +110,6 @@ task_of (Migrate words) = migrate words.old.now words.new.now
 task_of (ListState words) = list words.state.now
 task_of (Public words) = publish words.state.now words.public.now
 
-abbrev pub task_or_fault : Result Request UsageFault → Result Task UsageFault
-task_or_fault (Ok request) = Ok (task_of request)
-task_or_fault (Err fault) = Err fault
-
 -- ---- what `clap` finds in a line
 
 -- the task of each command, by the values of its words; None is a missing one

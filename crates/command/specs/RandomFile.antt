@@ -1,10 +1,9 @@
 -- What callers see of a file of random bytes, and what a draw from it does.
-use Rattle.std.specs.Prelude.{ℕ, List, ◌⊎◌, ◌≡◌, ◌<◌, length, Result, Ok, Err}
+use Rattle.std.specs.Prelude.{ℕ, List, ◌≡◌, length}
 use Rattle.std.specs.Int.{Width, from_le_bytes}
-use Rattle.typecodes.specs.Message.{GivesAll, GivesText, Transition}
+use Rattle.typecodes.specs.Message.{GivesText, Transition}
 use Rattle.command.specs.declared.random_file.RandomFile.{RandomFile}
 use Rattle.command.specs.declared.trace.Role.TheVariants.{Random}
-use Rattle.command.specs.FileDisk.{Breaks}
 use Rattle.command.specs.Trace.{Happening, ReadsOnce}
 
 abbrev pub random_file : {F : Type 0} → RandomFile F → F
@@ -21,13 +20,3 @@ ReadsRandom old outcome new = ReadsOnce Random (random_trace old) outcome (rando
 abbrev pub GivesNumber : {M : Type 0} → ℕ → Width → Transition M → M → ℕ → M → Type 0
 GivesNumber size width transition old number new = (bytes : List ℕ) × (length bytes ≡ size)
     × (number ≡ from_le_bytes width bytes) × GivesText transition bytes old new
-
--- The file ended before `size` bytes.
-abbrev pub EndsBefore : {M : Type 0} → Transition M → ℕ → M → M → Type 0
-EndsBefore transition size old new =
-    (first : List ℕ) × (length first < size) × GivesAll transition first old new
-
--- These bytes were read, and no others. Or the file ended before, or a read failed.
-abbrev pub Draws : {M A E : Type 0} → Transition M → List ℕ → Result A E → M → M → Type 0
-Draws transition bytes (Ok _) old new = GivesText transition bytes old new
-Draws transition bytes (Err _) old new = EndsBefore transition (length bytes) old new ⊎ Breaks transition old new

@@ -12,7 +12,6 @@ use Rattle.command.specs.declared.answer.Done.TheVariants.{Signed}
 use Rattle.command.specs.declared.refusal.Refusal.{Refusal}
 use Rattle.command.specs.declared.refusal.Refusal.TheVariants.{BadName, FileFailed}
 use Rattle.command.specs.declared.sign.Sign.{Sign}
-use Rattle.command.specs.declared.trace.Role.{Role}
 use Rattle.command.specs.declared.trace.Role.TheVariants as role
 use Rattle.command.specs.Argument.{random_rule, required_rule}
 use Rattle.command.specs.FileDisk.{IsStateRefusal}
@@ -56,16 +55,6 @@ FailsToSign message random old new = (new ≡ old ++ not_opened role.Message mes
 
 abbrev pub ready_to_sign : (message random : List ℕ) → List Happening
 ready_to_sign message random = opened role.Message message ∷ opened role.Random random ∷ []
-
--- Both files were opened, and show their contents, if known; or one couldn't be.
-abbrev pub ReadiesToSign : {F R : Type 0} → (role_of : F → Role) → (remaining : F → Option (List ℕ))
-    → (upcoming : R → Option (List ℕ)) → (content : List ℕ → Option (List ℕ)) → (message random : List ℕ)
-    → Result (F × R) Refusal → (old new : List Happening) → Type 0
-ReadiesToSign role_of remaining upcoming content message random (Ok (file, source)) old new =
-    (role_of file ≡ role.Message) × ShowsContent (content message) (remaining file)
-    × ShowsContent (content random) (upcoming source) × (new ≡ old ++ ready_to_sign message random)
-ReadiesToSign role_of remaining upcoming content message random (Err refusal) old new =
-    (refusal ≡ FileFailed) × FailsToSign message random old new
 
 -- ---- the step, and its answer
 

@@ -5,7 +5,8 @@ ghost use Rattle.std.specs.Io.{ReadsAtMost, WritesAtMost};
 ghost use Rattle.state_file.specs.Disk.{Counts, is_failure, is_past_end, settled};
 ghost use Rattle.typecodes.specs.Message.{read_outcome};
 ghost use Rattle.command.specs.Trace.{Happening, measured, read_at, synced, written_at};
-ghost use Rattle.command.specs.FileDisk.{Measures, ReadsAt, SyncsAll, WritesAt, kept, never};
+ghost use Rattle.command.specs.FileDisk.{Measures, ReadsAt, SyncsAll, WritesAt, kept};
+ghost use Rattle.command.specs.inner.FileDisk.{never};
 
 use state_file::{Disk, DiskFault};
 use std::io;

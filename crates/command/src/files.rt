@@ -9,7 +9,8 @@ ghost use Rattle.typecodes.specs.Message.{IsContent, read_outcome};
 ghost use Rattle.typecodes.specs.Reading.{ReadsToEnd as EndsOrFails};
 ghost use Rattle.command.specs.Files.{BeginsContent, CantKeep, FailsFile, FailsToReadOrKeep, FillsRoom, FillsOrFails};
 ghost use Rattle.command.specs.Files.{KeepsContents, KeepsOtherContents, ReadsAllOrFails, ReadsFile, ReadsKey};
-ghost use Rattle.command.specs.Files.{ReadsFileOnce, ReadsStart, ShowsContent, decisive, left_of};
+ghost use Rattle.command.specs.Files.{ReadsStart, ShowsContent, decisive};
+ghost use Rattle.command.specs.inner.Files.{ReadsFileOnce, left_of};
 ghost use Rattle.command.specs.FileDisk.{IsStateRefusal};
 ghost use Rattle.command.specs.Trace.{ReadsOnce, ReadsToEnd, making, opening, opening_state};
 ghost use Rattle.command.specs.Trace.{opening_state_to_read, opening_unlocked, writing};
@@ -356,7 +357,8 @@ struct Counted {
 }
 
 impl PieceTaker for Counted {
-    ghost use Rattle.command.specs.Files.{CountsBytes, counts_more, counts_nothing};
+    ghost use Rattle.command.specs.Files.{CountsBytes};
+    ghost use Rattle.command.specs.inner.Files.{counts_more, counts_nothing};
 
     type Error = Infallible;
 

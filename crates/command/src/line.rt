@@ -4,7 +4,8 @@ ghost use Rattle.std.specs.Prelude.{◌≡◌, ◌≢◌, ◌⊎◌, ◌+◌, �
 ghost use Rattle.clap.specs.Words.{HasKind, app_of, fault_of, kind_of, subcommand_of, subcommand_rows_of};
 ghost use Rattle.clap.specs.Words.{found_of, rows_of};
 ghost use Rattle.command.specs.Line.{AreTexts, FindsTask, IsLineOf, IsShownLineOf, bare_app, fixed_task_named};
-ghost use Rattle.command.specs.Line.{hbsign_app, usage_kind, task_found, task_of, task_or_fault};
+ghost use Rattle.command.specs.Line.{hbsign_app, usage_kind, task_found, task_of};
+ghost use Rattle.command.specs.inner.Line.{task_or_fault};
 ghost use Rattle.command.specs.Line.{Task as LineTask};
 ghost use Rattle.command.specs.LineFault.{CountsRefusals, HasLineFault, HasText, line_faults};
 

@@ -4,7 +4,7 @@ ghost use Rattle.std.specs.Prelude.{◌≡◌, ◌++◌, OnOk, codes, decimal};
 ghost use Rattle.std.specs.Io.KnownBytes.{Appends};
 ghost use Rattle.typecodes.specs.Spec.{levels_text, ots_text, pair_text, spec_text, tree_text, xmss_text};
 ghost use Rattle.command.specs.Output.{entry_line, entry_lines, entry_text};
-ghost use Rattle.command.specs.ListingText.{after_comma};
+ghost use Rattle.command.specs.inner.ListingText.{after_comma};
 
 use crate::hex_text::write_hex;
 use key_audit::Entry;

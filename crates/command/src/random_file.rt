@@ -2,7 +2,7 @@
 
 ghost use Rattle.std.specs.Prelude.{◌≡◌, []};
 ghost use Rattle.typecodes.specs.Message.{GivesText};
-ghost use Rattle.command.specs.RandomFile.{Draws};
+ghost use Rattle.command.specs.inner.RandomFile.{Draws};
 
 use crate::trace::{Role, Trace};
 use rand_core::TryRng;

@@ -4,7 +4,8 @@ ghost use Rattle.std.specs.Prelude.{◌≡◌, IfOk, codes, vec_capacity};
 ghost use Rattle.clap.specs.declared.builder.command.Command.{Command as ClapCommand};
 ghost use Rattle.clap.specs.Words.{AddsSubcommand, app_of, first_value, found_of, with_subcommand};
 ghost use Rattle.command.specs.Files.{files_seen};
-ghost use Rattle.command.specs.Sign.{IsSign, ReadiesToSign, SignsAndDelivers, SignsFile, SignsIn, SignsOpened};
+ghost use Rattle.command.specs.Sign.{IsSign, SignsAndDelivers, SignsFile, SignsIn, SignsOpened};
+ghost use Rattle.command.specs.inner.Sign.{ReadiesToSign};
 ghost use Rattle.command.specs.Sign.{sign_app};
 
 use crate::answer::{Answer, Done};

@@ -25,7 +25,9 @@ use Rattle.hss.specs.Key.{level_number, public_key}
 use Rattle.hss.specs.SignedKey.{SignedKey, signed_key, signed_keys}
 use Rattle.hss.specs.Signature.{Signature, signature, signature_size}
 use Rattle.hss.specs.Secret.{key_of, signature_of_level}
-use Rattle.hss.specs.Writing.{level_at, all_levels, pairs_of, part_size, public_bytes, signature_bytes, made_signature, made_signed_key, signed_key_bytes}
+use Rattle.hss.specs.Writing.{level_at, all_levels, pairs_of, public_bytes, signature_bytes, made_signature}
+use Rattle.hss.specs.Writing.{made_signed_key, signed_key_bytes}
+use Rattle.hss.specs.inner.Writing.{part_size}
 use Rattle.hss.proofs.Making.{signed-at, signed-count}
 
 -- a number of levels within its bounds is spelled by 4 bytes

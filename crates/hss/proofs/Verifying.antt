@@ -14,7 +14,8 @@ use Rattle.typecodes.specs.Layout.{Spells}
 use Rattle.hss.specs.declared.key.HssPublic.{HssPublic}
 use Rattle.hss.specs.SignedKey.{SignedKey}
 use Rattle.hss.specs.Signature.{Signature, key_at, keys_of, level_count, message_at, signature, signature_at}
-use Rattle.hss.specs.Verification.{AboveVerdict, AreValidAbove, IsBottom, IsDigest, IsValid, IsValidAt, LeavesMessage, Reaches, Verdict}
+use Rattle.hss.specs.Verification.{IsDigest, IsValid, IsValidAt, LeavesMessage, Reaches, Verdict}
+use Rattle.hss.specs.inner.Verification.{AboveVerdict, AreValidAbove, IsBottom}
 
 -- above the bottom a level signs the bytes of the next level's key
 pub message_at-above : (top : LmsPublic) (message : List ℕ) (s : Signature) (i : ℕ) → i < length s.signed → public_bytes (key_at top s (i + 1)) ≡ message_at message s i

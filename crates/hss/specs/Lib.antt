@@ -5,3 +5,4 @@ pub mod View
 pub mod Verification
 pub mod Secret
 pub mod Writing
+pub mod inner

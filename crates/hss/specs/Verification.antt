@@ -6,7 +6,6 @@ use Rattle.typecodes.specs.declared.refusal.Refusal.TheVariants.{RootMismatch, M
 use Rattle.typecodes.specs.Layout.{Spells, HasFault}
 use Rattle.typecodes.specs.Message.{CantBeRead, ReadWhole, Transition}
 use Rattle.lms.specs.declared.key.LmsPublic.{LmsPublic}
-use Rattle.lms.specs.Signature.{Signature as LmsSignature}
 use Rattle.lms.specs.Verification.{IsValid as IsLmsValid, digest_of as lms_digest_of, prefix_of as lms_prefix_of}
 use Rattle.hss.specs.declared.key.HssPublic.{HssPublic}
 use Rattle.hss.specs.Signature.{Signature, key_at, level_count, message_at, signature, signature_at}
@@ -73,32 +72,3 @@ LeavesMessage transition remaining key text old new (Err (TypeMismatch i)) = new
 LeavesMessage transition remaining key text old new (Err MessageRead) = CantBeRead transition old new
 LeavesMessage transition remaining key text old new (Err (RootMismatch i)) =
     ((i + 1 ≡ key.levels) × ReadWhole transition remaining text old new) ⊎ ((i + 1 ≢ key.levels) × (new ≡ old))
-
--- ---- the steps of verification
-
--- all levels above level i are valid, whatever the message
-abbrev pub AreValidAbove : LmsPublic → Signature → ℕ → Type 0
-AreValidAbove top s i = (message : List ℕ) (j : ℕ) → j < i → IsValidAt top message s j
-
--- above the bottom: all levels are valid and this is the bottom's key, or one level is the first that isn't valid
-abbrev pub AboveVerdict : LmsPublic → Signature → Result LmsPublic Refusal → Type 0
-AboveVerdict top s (Ok key) = (key ≡ key_at top s (length s.signed)) × AreValidAbove top s (length s.signed)
-AboveVerdict top s (Err (Unreadable fault)) = ⊥
-AboveVerdict top s (Err LevelMismatch) = ⊥
-AboveVerdict top s (Err MessageRead) = ⊥
-AboveVerdict top s (Err (TypeMismatch i)) =
-    (i < length s.signed) × AreValidAbove top s i × (HasKeyTypes top s i → ⊥)
-AboveVerdict top s (Err (RootMismatch i)) =
-    (i < length s.signed) × AreValidAbove top s i × HasKeyTypes top s i
-    × ((message : List ℕ) → IsValidAt top message s i → ⊥)
-
--- The bottom level of the signature that the bytes spell: its signature, its key and its number. The signature has the
--- key's number of levels, and all levels above the bottom are valid.
-pub record IsBottom (key : HssPublic) (bytes : List ℕ) (bottom : LmsSignature) (bottom_key : LmsPublic) (i : ℕ)
-    : Type 0 where
-  pub whole : Signature
-  pub spelled : Spells signature whole bytes
-  pub count : level_count whole ≡ key.levels
-  pub above : AboveVerdict key.top whole (Ok bottom_key)
-  pub last : i ≡ length whole.signed
-  pub signature_is : bottom ≡ whole.bottom

@@ -2,7 +2,7 @@
 use Rattle.std.specs.Prelude.{◌≡◌, ℕ, ◌+◌, ◌<◌, ◌^◌, List, [], ◌∷◌, ◌++◌, length, map, drop, slice_index_or}
 use Rattle.std.specs.List.{flat_map, zip}
 use Rattle.typecodes.specs.declared.types.LmsPair.{LmsPair}
-use Rattle.typecodes.specs.Types.{height_of, lms_signature_len_of}
+use Rattle.typecodes.specs.Types.{height_of}
 use Rattle.lmots.specs.Key.{message_digest_of}
 use Rattle.lmots.specs.Hashes.{u32str}
 use Rattle.lms.specs.declared.key.LmsPublic.{LmsPublic}
@@ -78,10 +78,6 @@ pub record AreSigning (above : List Signing) (bottom : Signing) (message : List 
       (message_at message (textbook above bottom) i)
 
 -- ---- the signature of levels with given roots and paths
-
--- the bytes of a level's signature with the next level's key
-abbrev pub part_size : Level → ℕ
-part_size level = lms_signature_len_of level.tree.secret.pair + 56
 
 abbrev pub made_signed_key : Level → LmsPublic → SignedKey
 made_signed_key level next = record { signature = signature_of_level level; key = next }

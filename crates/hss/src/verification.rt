@@ -2,7 +2,8 @@
 
 ghost use Rattle.std.specs.Prelude.{◌≡◌, ◌≢◌, ℕ, List, length, Err, IfOk, IfErr};
 ghost use Rattle.hss.specs.Signature.{key_at};
-ghost use Rattle.hss.specs.Verification.{AboveVerdict, HasPrefix, IsBottom, IsDigest, LeavesMessage, Verdict};
+ghost use Rattle.hss.specs.Verification.{HasPrefix, IsDigest, LeavesMessage, Verdict};
+ghost use Rattle.hss.specs.inner.Verification.{AboveVerdict, IsBottom};
 ghost use Rattle.hss.specs.View.{signature_of};
 ghost use Rattle.lms.specs.View.{signature_of as lms_signature_of};
 ghost use Rattle.typecodes.specs.Verdict.{Verifies};

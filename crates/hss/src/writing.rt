@@ -10,7 +10,8 @@ ghost use Rattle.hss.specs.SignedKey.{signed_key, signed_keys};
 ghost use Rattle.hss.specs.Signature.{signature, signature_size};
 ghost use Rattle.hss.specs.Verification.{IsValid};
 ghost use Rattle.hss.specs.Secret.{key_of, signing_of};
-ghost use Rattle.hss.specs.Writing.{AreDigests, FromSecrets, level_at, pairs_of, part_size, made_public};
+ghost use Rattle.hss.specs.Writing.{AreDigests, FromSecrets, level_at, pairs_of, made_public};
+ghost use Rattle.hss.specs.inner.Writing.{part_size};
 ghost use Rattle.hss.specs.Writing.{public_bytes, signature_bytes, made_signature, made_signed_key, signed_key_bytes};
 ghost use Rattle.hss.specs.Writing.{textbook};
 

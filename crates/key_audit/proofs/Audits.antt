@@ -9,7 +9,8 @@ use Rattle.state_file.specs.declared.record.Record.TheVariants.{Key as KeyRecord
 use Rattle.state_file.specs.declared.store.file_store.FileStore.{FileStore}
 use Rattle.state_file.specs.Disk.{DiskState}
 use Rattle.state_file.specs.File.{SpellsRecords, StandsFor, tag_at}
-use Rattle.state_file.specs.FileStore.{disk_of, has_stopped, kept_stands, records_of}
+use Rattle.state_file.specs.FileStore.{disk_of, has_stopped, records_of}
+use Rattle.state_file.specs.inner.FileStore.{kept_stands}
 use Rattle.state_file.specs.Laws.{IsLegal}
 use Rattle.key_audit.specs.declared.report.Anchor.{Anchor}
 use Rattle.key_audit.specs.declared.report.AuditFault.{AuditFault}

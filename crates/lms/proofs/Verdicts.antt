@@ -3,7 +3,8 @@ use Rattle.std.proofs.Common.{◌≡◌, ℕ, List, Option, Result, Ok, Err, sym
 use Rattle.std.specs.Prelude.{◌≢◌, IsOk}
 use Rattle.typecodes.specs.Message.{ReadWhole, Transition}
 use Rattle.typecodes.specs.Layout.{Spells}
-use Rattle.typecodes.specs.Verdict.{DigestVerdict, VerdictLaws}
+use Rattle.typecodes.specs.Verdict.{VerdictLaws}
+use Rattle.typecodes.specs.inner.Verdict.{DigestVerdict}
 use Rattle.typecodes.proofs.Verdicts.{Refused, of_digest, tree_laws}
 use Rattle.lms.specs.declared.key.LmsPublic.{LmsPublic}
 use Rattle.typecodes.specs.declared.refusal.Refusal.{Refusal}

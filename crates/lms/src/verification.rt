@@ -4,7 +4,8 @@ ghost use Rattle.std.specs.Prelude.{◌≡◌, ◌≢◌, List, ℕ, Err, IfErr,
 ghost use Rattle.lms.specs.View.{signature_of};
 ghost use Rattle.lms.specs.Verification.{HasPrefix, IsDigest, IsValidFor, LeadsTo, LeavesMessage, LevelVerdict};
 ghost use Rattle.lms.specs.Verification.{Verdict, digest_of, prefix_of};
-ghost use Rattle.typecodes.specs.Verdict.{DigestVerdict, Verifies};
+ghost use Rattle.typecodes.specs.Verdict.{Verifies};
+ghost use Rattle.typecodes.specs.inner.Verdict.{DigestVerdict};
 
 use crate::key::LmsPublic;
 use crate::nodes::Nodes;

@@ -3,9 +3,13 @@ use Rattle.std.proofs.Common.{◌≡◌, ℕ, ◌+◌, ◌-◌, ◌*◌, ◌<◌
 use Rattle.std.specs.Prelude.{slice_index_or, take, drop}
 use Rattle.std.proofs.lemmas.List.{get_or-take, get_or-drop, length-take-le, length-drop}
 use Rattle.merkle.specs.Tree.{Leaves}
-use Rattle.merkle.specs.Lanes.{lanes, lanes_height}
-use Rattle.merkle.specs.Nodes.{AreUnder}
+use Rattle.merkle.specs.Lanes.{lanes}
+use Rattle.merkle.specs.inner.Nodes.{AreUnder}
 use Rattle.merkle.proofs.Building.{leaves_twice}
+
+-- the height of a node over this many leaves
+abbrev pub lanes_height : ℕ
+lanes_height = 3
 
 -- how many leaves each half has
 pub first_count : (h n : ℕ) (leaves : List (List ℕ)) → 0 < h → length leaves ≡ 2 ^ h → n ≡ length leaves / 2

@@ -7,7 +7,7 @@ use Rattle.std.proofs.lemmas.List.FromFn.{map-range_with_len_more}
 use Rattle.std.proofs.lemmas.Nat.{pow-add, pow_pos}
 use Rattle.std.proofs.Math.Nat.{div-div-eq-div-mul, div-lt_iff_lt-mul, pow-le-pow_right}
 use Rattle.merkle.specs.Tree.{Leaves, Joins, node, path_at, root_of, sibling}
-use Rattle.merkle.specs.Nodes.{part_path}
+use Rattle.merkle.specs.inner.Nodes.{part_path}
 use Rattle.merkle.specs.Cache.{View, KeepsNodes, block_height, block_nodes, upper_nodes}
 use Rattle.merkle.proofs.Listing.{nodes_count, nodes_last}
 

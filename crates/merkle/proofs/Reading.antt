@@ -8,7 +8,8 @@ use Rattle.std.proofs.lemmas.List.{length-take-le}
 use Rattle.std.proofs.Math.ListN.{drop_of_length-le, length-set}
 use Rattle.std.proofs.Math.Seq.{take-append_seam, drop-append_seam}
 use Rattle.merkle.specs.Tree.{Leaves, Joins, node, sibling}
-use Rattle.merkle.specs.Nodes.{part_nodes, part_path}
+use Rattle.merkle.specs.Nodes.{part_nodes}
+use Rattle.merkle.specs.inner.Nodes.{part_path}
 use Rattle.merkle.proofs.Climb.{half_of}
 use Rattle.merkle.proofs.Leading.{sibling-odd, sibling-even}
 use Rattle.merkle.proofs.Listing.{half_room, nodes_count, nodes_halves, nodes_last}

@@ -4,7 +4,3 @@ use Rattle.std.specs.Prelude.{ℕ}
 -- as many as a hash has lanes. docs/CONTRIBUTING.md lists what else another number changes.
 abbrev pub lanes : ℕ
 lanes = 8
-
--- the height of a node over this many leaves
-abbrev pub lanes_height : ℕ
-lanes_height = 3

@@ -3,3 +3,4 @@ pub mod Ascent
 pub mod Nodes
 pub mod Cache
 pub mod Lanes
+pub mod inner

@@ -2,7 +2,8 @@
 
 ghost use Rattle.std.specs.Prelude.{◌≡◌, ◌≤◌, ◌<◌, ◌+◌, ◌-◌, ◌*◌, ◌/◌, ◌^◌, ℕ, List, length};
 ghost use Rattle.merkle.specs.Tree.{Leaves, Joins, node};
-ghost use Rattle.merkle.specs.Nodes.{AreUnder, part_nodes, part_path};
+ghost use Rattle.merkle.specs.Nodes.{part_nodes};
+ghost use Rattle.merkle.specs.inner.Nodes.{AreUnder, part_path};
 
 use crate::tree::{LANES, LANES_HEIGHT, NodeHash, TreeHash, node_at, node_over};
 

@@ -2,7 +2,7 @@
 
 ghost use Rattle.std.specs.Prelude.{◌≡◌, ◌≤◌, ◌<◌, ◌+◌, ◌-◌, ◌^◌, ℕ, List, [], length, slice_index_or};
 ghost use Rattle.merkle.specs.Lanes.{lanes};
-ghost use Rattle.merkle.specs.Nodes.{AreUnder};
+ghost use Rattle.merkle.specs.inner.Nodes.{AreUnder};
 ghost use Rattle.merkle.specs.Tree.{Leaves, node, root_of, path_at, sibling};
 
 /// How many leaves are made together, one in each lane of a hash. docs/CONTRIBUTING.md lists what else another number

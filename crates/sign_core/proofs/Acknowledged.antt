@@ -13,9 +13,9 @@ use Rattle.sign_core.specs.Calls.{IsOpenAfter, acknowledged_records}
 use Rattle.sign_core.specs.Records.{first_illegal, has_moved, the_key, leaves_of_current, next_at}
 use Rattle.sign_core.specs.Textbook.{any_public_of}
 use Rattle.sign_core.specs.World.{Creation, Event, Fate, Opening, Outcome, State, World, acked, after, appended, create}
-use Rattle.sign_core.specs.inner.Cases.{begun, created_load}
+use Rattle.sign_core.proofs.Cases.{begun, created_load}
 use Rattle.sign_core.specs.World.{cut_new, cut_old, new_key, no_memory, reopen, request, retire}
-use Rattle.sign_core.specs.inner.Cases.{opened_illegal, opened_key, published, retired_key}
+use Rattle.sign_core.proofs.Cases.{opened_illegal, opened_key, published, retired_key}
 use Rattle.sign_core.specs.World.{secret_of_fields, stop, migrate}
 use Rattle.sign_core.proofs.Ends.{Ends, ended_request}
 

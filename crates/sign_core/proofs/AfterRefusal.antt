@@ -26,12 +26,14 @@ use Rattle.sign_core.specs.Records.{leaves_of_current, next_at}
 use Rattle.sign_core.specs.Textbook.{Trees, any_public_of, textbook_signature, trees_of}
 use Rattle.sign_core.specs.World.{Chance, Creation, Draw, Fate, Opening, Outcome, State, acked, answered, appended}
 use Rattle.sign_core.specs.World.{cut_new, cut_old, drawing}
-use Rattle.sign_core.specs.inner.Cases.{begun, bound_message, created_load, extended, extended_identifier}
+use Rattle.sign_core.specs.inner.Cases.{extended}
+use Rattle.sign_core.proofs.Cases.{begun, bound_message, created_load, extended_identifier}
 use Rattle.sign_core.specs.World.{first_draw, new_key, no_memory, open_state}
-use Rattle.sign_core.specs.inner.Cases.{extended_seed, bound_trees}
-use Rattle.sign_core.specs.inner.Cases.{opened_illegal, opened_key}
+use Rattle.sign_core.specs.inner.Cases.{bound_trees}
+use Rattle.sign_core.proofs.Cases.{extended_seed}
+use Rattle.sign_core.proofs.Cases.{opened_illegal, opened_key}
 use Rattle.sign_core.specs.World.{randomizer_of_fields, reading, refused, requested, secret_of_fields}
-use Rattle.sign_core.specs.inner.Cases.{published, retired_key}
+use Rattle.sign_core.proofs.Cases.{published, retired_key}
 use Rattle.sign_core.proofs.Bindings.{binding_other, binds}
 use Rattle.sign_core.proofs.DrawnAgain.{IsSettled, settled_repeated, settled_key}
 use Rattle.sign_core.proofs.Fresh.{begins_along, extend_in}

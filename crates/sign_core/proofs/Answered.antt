@@ -9,9 +9,10 @@ use Rattle.sign_core.specs.declared.fault.SignFault.TheVariants.{Stopped}
 use Rattle.sign_core.specs.Records.{has_identifier, the_key, next_at}
 use Rattle.sign_core.specs.Textbook.{Trees, trees_of}
 use Rattle.sign_core.specs.World.{Chance, Draw, Fate, Outcome, State, acked, answered, appended, cut_new, cut_old}
-use Rattle.sign_core.specs.inner.Cases.{bound_message}
+use Rattle.sign_core.proofs.Cases.{bound_message}
 use Rattle.sign_core.specs.World.{first_draw, no_memory, open_state, randomizer_of_fields, requested}
-use Rattle.sign_core.specs.inner.Cases.{extended, extended_identifier, extended_seed, bound_trees}
+use Rattle.sign_core.specs.inner.Cases.{extended, bound_trees}
+use Rattle.sign_core.proofs.Cases.{extended_identifier, extended_seed}
 use Rattle.sign_core.proofs.DrawnAgain.{IsSettled, settled_repeated, settled_key}
 use Rattle.sign_core.proofs.OnceKept.{kept_choice}
 use Rattle.sign_core.proofs.OnceParts.{closed_key}

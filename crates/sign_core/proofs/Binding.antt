@@ -35,7 +35,7 @@ use Rattle.sign_core.specs.inner.Signing.{Does, DrawsRandomizer, BindsBelow, IsB
 use Rattle.sign_core.specs.declared.ledger.Binding.{Binding}
 use Rattle.sign_core.specs.Ledger.{Table, binding_kept, kept_of}
 use Rattle.sign_core.specs.World.{Fate, Outcome, acked, answered, appended, cut_new, cut_old, drawing, no_memory}
-use Rattle.sign_core.specs.inner.Cases.{bound_message}
+use Rattle.sign_core.proofs.Cases.{bound_message}
 use Rattle.sign_core.specs.World.{open_state, randomizer_of_fields, reading}
 use Rattle.sign_core.specs.Textbook.{Trees, damaged_at, digest_at, textbook_signature, current_at, trees_of}
 use Rattle.sign_core.proofs.Adding.{LeavesItsList}

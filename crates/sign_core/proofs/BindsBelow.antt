@@ -24,7 +24,8 @@ use Rattle.sign_core.specs.inner.Signing.{Does, Extends, BindsBelow, IsReady}
 use Rattle.sign_core.specs.Textbook.{Trees, trees_of}
 use Rattle.sign_core.specs.World.{Chance, Draw, Fate, Outcome, acked, answered, appended, cut_new, cut_old, drawing, no_memory}
 use Rattle.sign_core.specs.World.{open_state, refused}
-use Rattle.sign_core.specs.inner.Cases.{extended, extended_identifier, extended_seed, bound_trees}
+use Rattle.sign_core.specs.inner.Cases.{extended, bound_trees}
+use Rattle.sign_core.proofs.Cases.{extended_identifier, extended_seed}
 use Rattle.sign_core.proofs.Draws.{gives_both}
 use Rattle.sign_core.proofs.Bindings.{binding_other}
 use Rattle.sign_core.proofs.BoundBelow.{drawing_twice}

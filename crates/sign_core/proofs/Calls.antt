@@ -15,7 +15,7 @@ use Rattle.sign_core.specs.Once.{IsOnce}
 use Rattle.sign_core.specs.Records.{first_illegal, the_key}
 use Rattle.sign_core.specs.Textbook.{any_public_of}
 use Rattle.sign_core.specs.World.{Chance, Event, Opening, State, World, after, beginning, create, reopen}
-use Rattle.sign_core.specs.inner.Cases.{opened_illegal, opened_key, published}
+use Rattle.sign_core.proofs.Cases.{opened_illegal, opened_key, published}
 use Rattle.sign_core.specs.World.{request, retire, run, stop, migrate}
 use Rattle.sign_core.proofs.Acknowledged.{open_acknowledged}
 use Rattle.sign_core.proofs.Events.{kept_by_run}

@@ -29,9 +29,9 @@ use Rattle.sign_core.specs.Records.{the_key}
 use Rattle.sign_core.specs.Signer.{Creates, IsAnswered, KeepsStore, LeavesOld, LeavesSource, LoadFails, MakesKey, View}
 use Rattle.sign_core.specs.Signer.{is_fault, is_store_failed, is_random_failed, is_out_of_memory, unreadable_slot}
 use Rattle.sign_core.specs.World.{Creation, Fate, Outcome, acked, answered, appended, closed_state, created, cut, cut_new, cut_old, drawing}
-use Rattle.sign_core.specs.inner.Cases.{begun}
+use Rattle.sign_core.proofs.Cases.{begun}
 use Rattle.sign_core.specs.World.{new_key, no_memory, open_state, refused, secret_of_fields}
-use Rattle.sign_core.specs.inner.Cases.{published}
+use Rattle.sign_core.proofs.Cases.{published}
 use Rattle.sign_core.specs.Textbook.{any_public_of, public_of_key}
 use Rattle.sign_core.proofs.Adding.{moments_kept, moments_left}
 use Rattle.sign_core.proofs.Drawing.{provides_none}

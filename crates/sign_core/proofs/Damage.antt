@@ -12,7 +12,8 @@ use Rattle.sign_core.specs.Opened.{IsDamagedFor, IsFirstDamaged}
 use Rattle.sign_core.specs.Records.{are_same, binding_at, deepest, has_moved, the_key, wanted_count, is_long}
 use Rattle.sign_core.specs.Textbook.{tree_chain, damaged_at, digest_at, is_sound_at, current_at}
 use Rattle.sign_core.specs.World.{Chance, Outcome, State, requested}
-use Rattle.sign_core.specs.inner.Cases.{bound_level, bound_sound, repeated, repeated_sound, requested_binding, requested_key}
+use Rattle.sign_core.specs.inner.Cases.{requested_binding}
+use Rattle.sign_core.proofs.Cases.{bound_level, bound_sound, repeated, repeated_sound, requested_key}
 use Rattle.sign_core.proofs.Ends.{ended_bound_below, not_damaged}
 use Rattle.sign_core.proofs.OnceKept.{kept_choice}
 

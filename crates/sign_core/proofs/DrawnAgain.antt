@@ -21,13 +21,15 @@ use Rattle.sign_core.specs.Events.{AreDrawsOf, AreFields, randomizer_sizes}
 use Rattle.sign_core.specs.Requests.{DrewAgain, bytes_drawn}
 use Rattle.sign_core.specs.Events.{tree_sizes}
 use Rattle.sign_core.specs.World.{Chance, Draw, Fate, Outcome, State, acked, answered, appended}
-use Rattle.sign_core.specs.inner.Cases.{bound_level, bound_sound, bound_message}
+use Rattle.sign_core.proofs.Cases.{bound_level, bound_sound, bound_message}
 use Rattle.sign_core.specs.World.{cut_new, cut_old, drawing, extend_record}
-use Rattle.sign_core.specs.inner.Cases.{extended, extended_identifier, extended_seed}
+use Rattle.sign_core.specs.inner.Cases.{extended}
+use Rattle.sign_core.proofs.Cases.{extended_identifier, extended_seed}
 use Rattle.sign_core.specs.World.{first_draw, no_memory, open_state}
 use Rattle.sign_core.specs.inner.Cases.{bound_trees}
 use Rattle.sign_core.specs.World.{randomizer_of_fields, reading, refused, requested}
-use Rattle.sign_core.specs.inner.Cases.{repeated, repeated_sound, requested_binding, requested_key}
+use Rattle.sign_core.specs.inner.Cases.{requested_binding}
+use Rattle.sign_core.proofs.Cases.{repeated, repeated_sound, requested_key}
 use Rattle.sign_core.specs.Textbook.{Trees, damaged_at, digest_at, lms_secret, current_at, trees_of}
 use Rattle.sign_core.proofs.BoundBelow.{fields_drawn_before}
 use Rattle.sign_core.proofs.OnceKept.{kept_choice}

@@ -12,15 +12,17 @@ use Rattle.sign_core.specs.declared.fault.SignFault.TheVariants.{RandomRepeated,
 use Rattle.sign_core.specs.declared.fault.SignFault.TheVariants.{Moved as MovedAway}
 use Rattle.sign_core.specs.Records.{are_same, binding_at, deepest, has_identifier, has_moved, the_key, next_at, wanted_count, is_long}
 use Rattle.sign_core.specs.World.{Chance, Draw, Fate, Outcome, State, acked, answered, appended, cut}
-use Rattle.sign_core.specs.inner.Cases.{bound_level, bound_sound, bound_message}
+use Rattle.sign_core.proofs.Cases.{bound_level, bound_sound, bound_message}
 use Rattle.sign_core.specs.World.{cut_new, cut_old, drawing}
 use Rattle.sign_core.specs.inner.Cases.{extended}
 use Rattle.sign_core.specs.World.{first_draw, no_memory, open_state, randomizer_of_fields, reading}
-use Rattle.sign_core.specs.inner.Cases.{extended_identifier, extended_seed, bound_trees}
+use Rattle.sign_core.specs.inner.Cases.{bound_trees}
+use Rattle.sign_core.proofs.Cases.{extended_identifier, extended_seed}
 use Rattle.sign_core.specs.World.{refused}
-use Rattle.sign_core.specs.inner.Cases.{repeated, repeated_sound}
+use Rattle.sign_core.proofs.Cases.{repeated, repeated_sound}
 use Rattle.sign_core.specs.World.{requested}
-use Rattle.sign_core.specs.inner.Cases.{requested_binding, requested_key}
+use Rattle.sign_core.specs.inner.Cases.{requested_binding}
+use Rattle.sign_core.proofs.Cases.{requested_key}
 use Rattle.sign_core.specs.Textbook.{Trees, damaged_at, digest_at, current_at, trees_of}
 use Rattle.sign_core.proofs.OnceKept.{kept_choice}
 

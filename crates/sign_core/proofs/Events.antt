@@ -17,11 +17,11 @@ use Rattle.sign_core.specs.Records.{can_follow, current, first_illegal, has_move
 use Rattle.sign_core.proofs.Found.{next_of}
 use Rattle.sign_core.specs.Events.{AllEvents, AreFields, IsEvent, key_sizes}
 use Rattle.sign_core.specs.World.{Creation, Event, Fate, Handed, Opening, Outcome, State, World, acked, after, appended, beginning}
-use Rattle.sign_core.specs.inner.Cases.{begun}
+use Rattle.sign_core.proofs.Cases.{begun}
 use Rattle.sign_core.specs.World.{create}
-use Rattle.sign_core.specs.inner.Cases.{created_load}
+use Rattle.sign_core.proofs.Cases.{created_load}
 use Rattle.sign_core.specs.World.{cut_new, cut_old, new_key, no_memory, reopen, request, retire}
-use Rattle.sign_core.specs.inner.Cases.{opened_illegal, opened_key, published, retired_key}
+use Rattle.sign_core.proofs.Cases.{opened_illegal, opened_key, published, retired_key}
 use Rattle.sign_core.specs.World.{run, secret_of_fields, stop, migrate}
 use Rattle.sign_core.specs.Textbook.{HasSizes, SecretHasSizes, is_sound_at, any_public_of, key_root}
 use Rattle.sign_core.proofs.Illegal.{legal_alone}

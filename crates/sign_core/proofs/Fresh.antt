@@ -15,7 +15,8 @@ use Rattle.sign_core.specs.Records.{has_identifier, next_at}
 use Rattle.sign_core.specs.Requests.{BeginsTree, IsComplete, bytes_drawn}
 use Rattle.sign_core.specs.Events.{randomizer_sizes, tree_sizes}
 use Rattle.sign_core.specs.World.{Chance, Draw, Fate, Outcome, acked, drawing}
-use Rattle.sign_core.specs.inner.Cases.{bound_message, extended, extended_seed}
+use Rattle.sign_core.specs.inner.Cases.{extended}
+use Rattle.sign_core.proofs.Cases.{bound_message, extended_seed}
 use Rattle.sign_core.specs.World.{open_state, randomizer_of_fields, refused}
 use Rattle.sign_core.specs.inner.Cases.{bound_trees}
 use Rattle.sign_core.specs.Textbook.{Trees, digest_at, textbook_signature, trees_of}

@@ -1,7 +1,7 @@
 -- The trees kept in memory follow the records.
 use Rattle.std.proofs.Common.{◌≡◌, ◌≢◌, inl, inr, ℕ, zero, suc, ◌+◌, ◌-◌, ◌<◌, true, cond, List, [], ◌∷◌, ◌++◌}
 use Rattle.std.proofs.Common.{length, set, Option, Some, None, refl, sym, ap, subst, ◌∙◌, arith, eq-eqb, ne_eqb, lt-ltb, le-ltb}
-use Rattle.std.specs.Prelude.{slice_get, nat_lt}
+use Rattle.std.specs.Prelude.{slice_get, nat_lt, if◌then◌else◌}
 use Rattle.std.proofs.lemmas.Bool.{cases_eq, cases_lt}
 use Rattle.std.proofs.lemmas.Option.{none-some, same_Some, slice_get_within}
 use Rattle.std.proofs.lemmas.List.{get_or-set_same, get_or-set_other}
@@ -12,12 +12,32 @@ use Rattle.state_file.specs.declared.record.Record.TheVariants.{Key as KeyRecord
 use Rattle.state_file.specs.declared.record.Secret.{Secret}
 use Rattle.state_file.specs.Laws.{bottom_of}
 use Rattle.sign_core.specs.Records.{current, in_tree, next_leaf, reached_number, reaches}
-use Rattle.sign_core.specs.inner.Trees.{AreAbove, FollowsBound, FollowsExtend, FollowsRetire, IsBegun, IsRaised, raised}
+use Rattle.sign_core.specs.inner.Trees.{FollowsExtend, IsBegun, IsRaised, raised}
 use Rattle.sign_core.specs.Trees.{HasTrees, kept_at, tree_at, with_next}
 use Rattle.sign_core.specs.declared.trees.Tree.{Tree}
 use Rattle.sign_core.proofs.Leaves.{number_other}
 use Rattle.sign_core.proofs.Append.{current_above, current_cut, current_new, next_kept, next_new, next_raised}
 use Rattle.sign_core.proofs.Next.{current_bound, current_moved, current_retire, extend_reaches, trees_apart}
+use Rattle.state_file.specs.declared.record.Bound.{Bound}
+
+-- The levels above one keep their trees, and no other has one.
+abbrev pub AreAbove : (old : List (Option Tree)) (level : ℕ) (new : List (Option Tree)) → Type 0
+AreAbove old level new = (k : ℕ) → kept_at new k ≡ (if nat_lt k level then kept_at old k else None)
+
+-- The same after a Bound, in the current bottom tree.
+abbrev pub FollowsBound : (old : List (Option Tree)) (bottom leaf : ℕ) (new : List (Option Tree)) → Type 0
+FollowsBound old bottom leaf new =
+    (secret : Secret) (records : List Record) (key : Key) (bound : Bound) (tree : ℕ)
+    → slice_get records 0 ≡ Some (KeyRecord key) → bottom_of secret ≡ bottom → bound.leaf ≡ leaf
+    → current bottom records ≡ Some tree
+    → HasTrees secret records old → HasTrees secret (records ++ BoundRecord bound ∷ []) new
+
+-- The same after a Retire.
+abbrev pub FollowsRetire : (old : List (Option Tree)) (bottom upto : ℕ) (new : List (Option Tree)) → Type 0
+FollowsRetire old bottom upto new =
+    (secret : Secret) (records : List Record) (key : Key) (tree : ℕ)
+    → slice_get records 0 ≡ Some (KeyRecord key) → bottom_of secret ≡ bottom → current bottom records ≡ Some tree
+    → HasTrees secret records old → HasTrees secret (records ++ Retire upto ∷ []) new
 
 pub above_more : (old new : List (Option Tree)) (i : ℕ) → i < length new → AreAbove old i new → AreAbove old (i + 1) (set new i (kept_at old i))
 above_more old new i within above k = elim (cases_eq k i) [

@@ -15,16 +15,18 @@ use Rattle.sign_core.specs.Records.{are_same, binding_at, deepest, first_illegal
 use Rattle.sign_core.specs.Records.{wanted_count}
 use Rattle.sign_core.specs.Textbook.{Trees, damaged_at, digest_at, any_public_of, current_at, trees_of}
 use Rattle.sign_core.specs.World.{Chance, Creation, Draw, Event, Fate, Opening, Outcome, State, World, acked, after, appended}
-use Rattle.sign_core.specs.inner.Cases.{begun, bound_level}
-use Rattle.sign_core.specs.inner.Cases.{bound_sound, bound_message}
+use Rattle.sign_core.proofs.Cases.{begun, bound_level}
+use Rattle.sign_core.proofs.Cases.{bound_sound, bound_message}
 use Rattle.sign_core.specs.World.{create, created, cut_new, cut_old, first_draw}
-use Rattle.sign_core.specs.inner.Cases.{created_load, extended, extended_identifier, extended_seed, bound_trees}
+use Rattle.sign_core.specs.inner.Cases.{extended, bound_trees}
+use Rattle.sign_core.proofs.Cases.{created_load, extended_identifier, extended_seed}
 use Rattle.sign_core.specs.World.{new_key, no_memory, open_state, opened, randomizer_of_fields, reopen}
-use Rattle.sign_core.specs.inner.Cases.{opened_illegal, opened_key, published, repeated}
+use Rattle.sign_core.proofs.Cases.{opened_illegal, opened_key, published, repeated}
 use Rattle.sign_core.specs.World.{request}
-use Rattle.sign_core.specs.inner.Cases.{repeated_sound}
+use Rattle.sign_core.proofs.Cases.{repeated_sound}
 use Rattle.sign_core.specs.World.{retire, retired, run, secret_of_fields, stop, migrate}
-use Rattle.sign_core.specs.inner.Cases.{requested_binding, requested_key, retired_key}
+use Rattle.sign_core.specs.inner.Cases.{requested_binding}
+use Rattle.sign_core.proofs.Cases.{requested_key, retired_key}
 use Rattle.sign_core.specs.Lasting.{IsCarriedInto, IsNoMigration, LastingLaw, LastsInto, lasting}
 use Rattle.sign_core.specs.World.{Migration, carried_over, left_alone, migrated_list, sealed}
 use Rattle.sign_core.proofs.Migrating.{front_of, migrated_has}

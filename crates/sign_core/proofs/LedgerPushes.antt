@@ -20,7 +20,8 @@ use Rattle.state_file.specs.declared.record.Secret.TheVariants.{Lms, Hss, Xmss}
 use Rattle.state_file.specs.Laws.{bottom_of, leaves_at, tree_leaves_at, levels_of}
 use Rattle.sign_core.specs.Records.{are_same, binding_at, can_follow, can_follow_legal, current, has_identifier, has_moved, has_randomizer, is_free}
 use Rattle.sign_core.specs.Ledger.{ByPlace, ByText, IsTableOf, made_at, made_entry, of_place, of_text}
-use Rattle.sign_core.specs.inner.Trees.{FollowsBound, FollowsExtend, place_of}
+use Rattle.sign_core.specs.inner.Trees.{FollowsExtend, place_of}
+use Rattle.sign_core.proofs.Kept.{FollowsBound}
 use Rattle.sign_core.specs.Trees.{HasTrees, with_next}
 use Rattle.sign_core.specs.Trees.{kept_at as tree_kept}
 use Rattle.sign_core.specs.Textbook.{HasSizes, current_at}

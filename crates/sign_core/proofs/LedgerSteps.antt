@@ -14,7 +14,7 @@ use Rattle.state_file.specs.declared.record.Secret.{Secret}
 use Rattle.state_file.specs.Laws.{bottom_of, identifier_of, leaves_at}
 use Rattle.sign_core.specs.Records.{are_same, binding_at, can_follow, can_follow_legal, current, has_identifier, has_moved, is_moved}
 use Rattle.sign_core.specs.Ledger.{ByPlace, ByText, IsTableOf, binding_kept, kept_of, made_at, made_entry}
-use Rattle.sign_core.specs.inner.Trees.{FollowsRetire}
+use Rattle.sign_core.proofs.Kept.{FollowsRetire}
 use Rattle.sign_core.specs.Trees.{HasTrees}
 use Rattle.sign_core.specs.Textbook.{AllHaveSizes, HasSizes}
 use Rattle.sign_core.specs.declared.ledger.Binding.{Binding}

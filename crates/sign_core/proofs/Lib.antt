@@ -1,3 +1,4 @@
+pub mod Cases
 pub mod Found
 pub mod TextbookSpelling
 pub mod OnceParts

@@ -10,7 +10,8 @@ use Rattle.state_file.specs.declared.store.Store as store
 use Rattle.state_file.specs.declared.store.file_store.FileStore.{FileStore}
 use Rattle.state_file.specs.Disk.{MayLeave, settled}
 use Rattle.state_file.specs.File.{HasNoKey, LeftLists, SpellsRecords, StandsFor}
-use Rattle.state_file.specs.FileStore.{disk_of, kept_leaves, records_of, stands_one, synced_left}
+use Rattle.state_file.specs.FileStore.{disk_of, records_of}
+use Rattle.state_file.specs.inner.FileStore.{kept_leaves, stands_one, synced_left}
 use Rattle.state_file.specs.Format.{PreparesPlace}
 use Rattle.state_file.specs.Opening.{ContentKind, OpensAs, damaged, no_key, no_key_file, spelled, unknown_version}
 use Rattle.state_file.proofs.Adding.{prepared_no_key}

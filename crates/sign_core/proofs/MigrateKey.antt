@@ -18,7 +18,8 @@ use Rattle.state_file.specs.declared.refused.Refused.{Refused}
 use Rattle.state_file.specs.declared.store.file_store.FileStore.{FileStore}
 use Rattle.state_file.specs.Disk.{ChangesOnly, Counts, DiskState, IsSynced, LeavesOnly, MayLeave, settled}
 use Rattle.state_file.specs.File.{HasNoKey, SpellsRecords, StandsFor}
-use Rattle.state_file.specs.FileStore.{disk_of, has_stopped, records_of, stands_one, synced_left}
+use Rattle.state_file.specs.FileStore.{disk_of, has_stopped, records_of}
+use Rattle.state_file.specs.inner.FileStore.{stands_one, synced_left}
 use Rattle.state_file.specs.Filling.{CountsEither, LeftByFill, first_offsets}
 use Rattle.state_file.specs.Gates.{slot_and_gate}
 use Rattle.state_file.specs.Laws.{has_moved}

@@ -6,7 +6,7 @@ use Rattle.state_file.specs.declared.record.Record.{Record}
 use Rattle.state_file.specs.Carried.{carried, with_moved}
 use Rattle.state_file.specs.Disk.{MayLeave}
 use Rattle.state_file.specs.File.{HasNoKey, SpellsRecords, StandsFor}
-use Rattle.state_file.specs.FileStore.{stands_one, synced_left}
+use Rattle.state_file.specs.inner.FileStore.{stands_one, synced_left}
 use Rattle.sign_core.specs.Lives.{CanMigrate, IsAtStart, LedTo}
 use Rattle.sign_core.specs.Migration.{Migrates}
 use Rattle.sign_core.specs.Moves.{MovesLaw}

@@ -12,7 +12,8 @@ use Rattle.state_file.specs.declared.store.file_store.FileStore.{FileStore}
 use Rattle.state_file.specs.Disk.{Counts, DiskState, LeavesOnly, MayLeave, settled}
 use Rattle.state_file.specs.DiskCalls.{OnlyReads}
 use Rattle.state_file.specs.File.{SpellsRecords}
-use Rattle.state_file.specs.FileStore.{FindsRecords, disk_of, has_stopped, records_of, synced_left}
+use Rattle.state_file.specs.FileStore.{FindsRecords, disk_of, has_stopped, records_of}
+use Rattle.state_file.specs.inner.FileStore.{synced_left}
 use Rattle.state_file.specs.MigrateFault.{is_failed_migration}
 use Rattle.state_file.specs.Store.{IsRecordAt}
 use Rattle.state_file.proofs.Moments.{combined, weaker}

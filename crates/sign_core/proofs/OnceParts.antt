@@ -24,15 +24,16 @@ use Rattle.sign_core.specs.Openings.{CanStopOpening}
 use Rattle.sign_core.specs.Headline.{IsBoundTo}
 use Rattle.sign_core.specs.Once.{IsOnce}
 use Rattle.sign_core.specs.World.{Chance, Creation, Handed, Opening, Fate, Outcome, State, World, acked, after, answered, appended, cut_new, cut_old, no_memory}
-use Rattle.sign_core.specs.inner.Cases.{bound_level, bound_sound}
+use Rattle.sign_core.proofs.Cases.{bound_level, bound_sound}
 use Rattle.sign_core.specs.World.{retired}
-use Rattle.sign_core.specs.inner.Cases.{retired_key}
+use Rattle.sign_core.proofs.Cases.{retired_key}
 use Rattle.sign_core.specs.World.{newly_handed, new_key, open_state, opened}
 use Rattle.sign_core.specs.inner.Cases.{bound_trees}
 use Rattle.sign_core.specs.World.{reading, refused, request, requested}
-use Rattle.sign_core.specs.inner.Cases.{opened_illegal, opened_key, published, repeated, repeated_sound, requested_binding}
+use Rattle.sign_core.specs.inner.Cases.{requested_binding}
+use Rattle.sign_core.proofs.Cases.{opened_illegal, opened_key, published, repeated, repeated_sound}
 use Rattle.sign_core.specs.World.{secret_of_fields}
-use Rattle.sign_core.specs.inner.Cases.{requested_key}
+use Rattle.sign_core.proofs.Cases.{requested_key}
 use Rattle.sign_core.specs.Textbook.{AreSound, damaged_at, digest_at, any_public_of, textbook_signature, current_at}
 use Rattle.sign_core.proofs.Illegal.{none_from_legal}
 use Rattle.sign_core.proofs.Opened.{reopens}

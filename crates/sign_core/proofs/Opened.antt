@@ -26,13 +26,17 @@ use Rattle.sign_core.specs.Openings.{Reopens}
 use Rattle.sign_core.specs.Opened.{AreWellFormed, IsValidOver, OpenedLaw}
 use Rattle.sign_core.specs.World.{Chance, Creation, Draw, Event, Fate, Handed, Opening, Outcome, State, World, acked, after, appended}
 use Rattle.sign_core.specs.World.{create, cut_new, cut_old, drawing}
-use Rattle.sign_core.specs.inner.Cases.{begun, bound_level, bound_sound, bound_message, created_load, extended, extended_identifier, extended_seed}
+use Rattle.sign_core.specs.inner.Cases.{extended}
+use Rattle.sign_core.proofs.Cases.{begun, bound_level, bound_sound, bound_message, created_load, extended_identifier}
+use Rattle.sign_core.proofs.Cases.{extended_seed}
 use Rattle.sign_core.specs.World.{first_draw, newly_handed, no_memory, open_state}
-use Rattle.sign_core.specs.inner.Cases.{bound_trees, opened_illegal, opened_key, published}
+use Rattle.sign_core.specs.inner.Cases.{bound_trees}
+use Rattle.sign_core.proofs.Cases.{opened_illegal, opened_key, published}
 use Rattle.sign_core.specs.World.{randomizer_of_fields, refused, reopen, request, requested, retire}
-use Rattle.sign_core.specs.inner.Cases.{repeated, repeated_sound, requested_binding, requested_key}
+use Rattle.sign_core.specs.inner.Cases.{requested_binding}
+use Rattle.sign_core.proofs.Cases.{repeated, repeated_sound, requested_key}
 use Rattle.sign_core.specs.World.{run, secret_of_fields, stop, migrate}
-use Rattle.sign_core.specs.inner.Cases.{retired_key}
+use Rattle.sign_core.proofs.Cases.{retired_key}
 use Rattle.sign_core.specs.Textbook.{Trees, damaged_at, digest_at, any_public_of, textbook_signature, current_at, trees_of}
 use Rattle.sign_core.proofs.Damage.{names_damaged}
 use Rattle.sign_core.proofs.Events.{retire_can}

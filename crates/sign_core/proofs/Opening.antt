@@ -28,7 +28,7 @@ use Rattle.sign_core.specs.Signer.{GoesTo, first_slots}
 use Rattle.sign_core.specs.inner.Ledger.{LacksRoom}
 use Rattle.sign_core.specs.Ledger.{RunsOutOfMemory, Table}
 use Rattle.sign_core.specs.World.{Outcome, answered, closed_state, open_state, opened, refused}
-use Rattle.sign_core.specs.inner.Cases.{opened_illegal, opened_key, published}
+use Rattle.sign_core.proofs.Cases.{opened_illegal, opened_key, published}
 use Rattle.sign_core.specs.Textbook.{HasSizes, SecretHasSizes, any_public_of}
 use Rattle.sign_core.proofs.Adding.{LeavesItsList, length_one_more, some_records}
 use Rattle.sign_core.proofs.Follow.{key_stays}

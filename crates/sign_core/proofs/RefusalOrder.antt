@@ -25,13 +25,15 @@ use Rattle.sign_core.specs.Records.{wanted_count}
 use Rattle.sign_core.specs.Textbook.{AllHaveSizes, Trees, damaged_at, digest_at, lms_secret, any_public_of, textbook_signature, current_at, trees_of}
 use Rattle.sign_core.specs.Events.{AreDrawsOf, AreFields, key_sizes, randomizer_sizes, tree_sizes}
 use Rattle.sign_core.specs.World.{Chance, Creation, Draw, Fate, Opening, Outcome, State, acked, answered, appended, drawing}
-use Rattle.sign_core.specs.inner.Cases.{begun, bound_level, bound_sound, bound_message}
+use Rattle.sign_core.proofs.Cases.{begun, bound_level, bound_sound, bound_message}
 use Rattle.sign_core.specs.World.{cut_new, cut_old, extend_record, first_draw}
-use Rattle.sign_core.specs.inner.Cases.{created_load, extended, extended_identifier, extended_seed, bound_trees}
+use Rattle.sign_core.specs.inner.Cases.{extended, bound_trees}
+use Rattle.sign_core.proofs.Cases.{created_load, extended_identifier, extended_seed}
 use Rattle.sign_core.specs.World.{no_memory, open_state, randomizer_of_fields, refused}
-use Rattle.sign_core.specs.inner.Cases.{opened_illegal, opened_key, published, repeated, repeated_sound}
+use Rattle.sign_core.proofs.Cases.{opened_illegal, opened_key, published, repeated, repeated_sound}
 use Rattle.sign_core.specs.World.{requested, retired, secret_of_fields, new_key}
-use Rattle.sign_core.specs.inner.Cases.{requested_binding, requested_key, retired_key}
+use Rattle.sign_core.specs.inner.Cases.{requested_binding}
+use Rattle.sign_core.proofs.Cases.{requested_key, retired_key}
 use Rattle.sign_core.specs.RefusalOrder.{AfterAppend, FirstFieldIs, IsIllegalFirst, IsUnsound, Of, RefusalLaw, RefuseAlike, RefusesAt}
 use Rattle.sign_core.specs.RefusalOrder.{RefusesCreate, RefusesName, RefusesNew, RefusesOpening, RefusesRecord, RefusesRepeat, RefusesRequest}
 use Rattle.sign_core.specs.RefusalOrder.{RefusesRetire, RefusesTree, RefusesWanted, Unless, WhereOpen}

@@ -15,9 +15,10 @@ use Rattle.sign_core.specs.Requests.{bytes_drawn}
 use Rattle.sign_core.specs.Records.{has_identifier, next_at}
 use Rattle.sign_core.specs.Textbook.{Trees, lms_secret, trees_of}
 use Rattle.sign_core.specs.World.{Chance, Draw, Fate, Outcome, acked, appended, cut_new, cut_old, drawing}
-use Rattle.sign_core.specs.inner.Cases.{bound_message}
+use Rattle.sign_core.proofs.Cases.{bound_message}
 use Rattle.sign_core.specs.World.{extend_record, first_draw, no_memory}
-use Rattle.sign_core.specs.inner.Cases.{extended, extended_identifier, extended_seed, bound_trees}
+use Rattle.sign_core.specs.inner.Cases.{extended, bound_trees}
+use Rattle.sign_core.proofs.Cases.{extended_identifier, extended_seed}
 use Rattle.sign_core.specs.World.{open_state, randomizer_of_fields, refused}
 use Rattle.sign_core.proofs.BoundBelow.{fields_drawn, fields_drawn_before}
 use Rattle.sign_core.proofs.OnceKept.{kept_choice}

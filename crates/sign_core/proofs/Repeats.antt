@@ -29,7 +29,8 @@ use Rattle.sign_core.specs.inner.Signing.{IsBindingOf, Repeats, repeat_chance}
 use Rattle.sign_core.specs.Signing.{IsXmssKey, answered_value}
 use Rattle.sign_core.specs.Ledger.{kept_of}
 use Rattle.sign_core.specs.World.{Outcome, State, refused}
-use Rattle.sign_core.specs.inner.Cases.{repeated_sound, requested_binding}
+use Rattle.sign_core.specs.inner.Cases.{requested_binding}
+use Rattle.sign_core.proofs.Cases.{repeated_sound}
 use Rattle.sign_core.specs.Textbook.{Trees, damaged_at, digest_at, secret_at, textbook_signature, leaf_signing, chain_signings, current_at, trees_of}
 use Rattle.sign_core.proofs.Bindings.{binding_stands}
 use Rattle.sign_core.proofs.Refusals.{never_such}

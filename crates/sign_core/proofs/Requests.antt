@@ -27,11 +27,14 @@ use Rattle.sign_core.specs.Records.{wanted_count}
 use Rattle.sign_core.specs.Events.{AreDraws, AreFields, tree_sizes}
 use Rattle.sign_core.specs.Headline.{IsBoundTo, IsRecorded}
 use Rattle.sign_core.specs.World.{Chance, Draw, Fate, Handed, Outcome, State, extend_record}
-use Rattle.sign_core.specs.inner.Cases.{bound_level, bound_sound, bound_message, extended}
+use Rattle.sign_core.specs.inner.Cases.{extended}
+use Rattle.sign_core.proofs.Cases.{bound_level, bound_sound, bound_message}
 use Rattle.sign_core.specs.World.{first_draw}
-use Rattle.sign_core.specs.inner.Cases.{extended_identifier, extended_seed, bound_trees}
+use Rattle.sign_core.specs.inner.Cases.{bound_trees}
+use Rattle.sign_core.proofs.Cases.{extended_identifier, extended_seed}
 use Rattle.sign_core.specs.World.{open_state, randomizer_of_fields, requested}
-use Rattle.sign_core.specs.inner.Cases.{repeated, repeated_sound, requested_binding, requested_key}
+use Rattle.sign_core.specs.inner.Cases.{requested_binding}
+use Rattle.sign_core.proofs.Cases.{repeated, repeated_sound, requested_key}
 use Rattle.sign_core.specs.Textbook.{HasSizes, Trees, damaged_at, digest_at, is_sound_extend, lms_secret, secret_at, textbook_signature, current_at, trees_of}
 use Rattle.sign_core.proofs.Append.{current_new, next_new, some_leaves}
 use Rattle.sign_core.proofs.Bindings.{binding_new, binding_other}

@@ -20,7 +20,7 @@ use Rattle.sign_core.specs.Cuts.{IsBeginning}
 use Rattle.sign_core.specs.inner.Signer.{Hinders, added}
 use Rattle.sign_core.specs.Signer.{IsSigner, IsTied, Retires, View, is_out_of_memory, is_store_failed, state_of}
 use Rattle.sign_core.specs.World.{Fate, Outcome, State, acked, answered, refused, retired}
-use Rattle.sign_core.specs.inner.Cases.{retired_key}
+use Rattle.sign_core.proofs.Cases.{retired_key}
 use Rattle.sign_core.proofs.Adding.{LeavesItsList}
 
 -- a retiring, by what refuses it

@@ -33,9 +33,9 @@ use Rattle.sign_core.specs.Signer.{state_of, store_of_result}
 use Rattle.sign_core.specs.SignerCalls.{AreClosed, HandsOut, IsAfter, IsEventOf, IsOpenSigner, IsRefusedCall, IsRefusedOpening, IsRunning, OpensIn, OpensInWorld, RetiresInWorld, SignerLaw, SignsInWorld, world_of}
 use Rattle.sign_core.specs.Textbook.{any_public_of}
 use Rattle.sign_core.specs.World.{Chance, Creation, Event, Fate, Handed, Opening, Outcome, State, World, acked, after, appended, closed_state, create, created}
-use Rattle.sign_core.specs.inner.Cases.{begun}
+use Rattle.sign_core.proofs.Cases.{begun}
 use Rattle.sign_core.specs.World.{cut_new, cut_old, newly_handed, new_key, no_memory, opened, refused}
-use Rattle.sign_core.specs.inner.Cases.{created_load, opened_illegal, opened_key, published}
+use Rattle.sign_core.proofs.Cases.{created_load, opened_illegal, opened_key, published}
 use Rattle.sign_core.specs.World.{reopen, request, requested, retire, retired, secret_of_fields}
 use Rattle.sign_core.proofs.Acknowledged.{open_acknowledged}
 use Rattle.sign_core.proofs.Adding.{LeavesItsList}

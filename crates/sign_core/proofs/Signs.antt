@@ -34,7 +34,8 @@ use Rattle.sign_core.specs.Ledger.{kept_of}
 use Rattle.sign_core.specs.Events.{AreDrawsOf}
 use Rattle.sign_core.specs.Signer.{KeepsAtRefusal}
 use Rattle.sign_core.specs.World.{Chance, Outcome, State, reading, refused, requested}
-use Rattle.sign_core.specs.inner.Cases.{bound_level, bound_sound, repeated, repeated_sound, requested_binding, requested_key}
+use Rattle.sign_core.specs.inner.Cases.{requested_binding}
+use Rattle.sign_core.proofs.Cases.{bound_level, bound_sound, repeated, repeated_sound, requested_key}
 use Rattle.sign_core.specs.Textbook.{damaged_at, digest_at, current_at}
 use Rattle.sign_core.proofs.Adding.{LeavesItsList}
 use Rattle.sign_core.proofs.Refusals.{after_caches, before_repeat, keeps_at_all, keeps_after_draws, same_view}

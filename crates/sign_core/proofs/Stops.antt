@@ -16,15 +16,17 @@ use Rattle.sign_core.specs.declared.key.AnyPublic.{AnyPublic}
 use Rattle.sign_core.specs.Records.{are_same, binding_at, deepest, has_identifier, has_moved, the_key, leaves_of_current, next_at, wanted_count, is_long}
 use Rattle.sign_core.specs.Textbook.{Trees, damaged_at, digest_at, any_public_of, current_at, trees_of}
 use Rattle.sign_core.specs.World.{Chance, Creation, Draw, Fate, Outcome, State, acked, answered, appended}
-use Rattle.sign_core.specs.inner.Cases.{begun, bound_level, bound_sound}
+use Rattle.sign_core.proofs.Cases.{begun, bound_level, bound_sound}
 use Rattle.sign_core.specs.World.{closed_state, created, drawing, reading}
-use Rattle.sign_core.specs.inner.Cases.{bound_message, created_load}
+use Rattle.sign_core.proofs.Cases.{bound_message, created_load}
 use Rattle.sign_core.specs.World.{cut_new, cut_old, first_draw, new_key, no_memory, open_state}
-use Rattle.sign_core.specs.inner.Cases.{extended, extended_identifier, extended_seed, bound_trees}
+use Rattle.sign_core.specs.inner.Cases.{extended, bound_trees}
+use Rattle.sign_core.proofs.Cases.{extended_identifier, extended_seed}
 use Rattle.sign_core.specs.World.{randomizer_of_fields}
-use Rattle.sign_core.specs.inner.Cases.{published}
+use Rattle.sign_core.proofs.Cases.{published}
 use Rattle.sign_core.specs.World.{refused, secret_of_fields}
-use Rattle.sign_core.specs.inner.Cases.{repeated, repeated_sound, requested_binding, requested_key, retired_key}
+use Rattle.sign_core.specs.inner.Cases.{requested_binding}
+use Rattle.sign_core.proofs.Cases.{repeated, repeated_sound, requested_key, retired_key}
 use Rattle.sign_core.specs.Cuts.{IsBeginning, IsLeftBy, StopLaw, reached}
 use Rattle.sign_core.specs.World.{World, create, newly_handed, request, requested, retire, retired, stop}
 use Rattle.sign_core.proofs.Found.{IsTreeDraw}

@@ -14,11 +14,12 @@ use Rattle.sign_core.specs.Retirings.{IsActive, IsBeyondNext}
 use Rattle.sign_core.specs.Records.{binding_at, has_identifier, has_moved, the_key, leaves_of_current, next_at}
 use Rattle.sign_core.specs.Textbook.{Trees, lms_secret, trees_of}
 use Rattle.sign_core.specs.World.{Chance, Draw, Fate, Outcome, State, acked, answered, appended, cut_new, cut_old, extend_record}
-use Rattle.sign_core.specs.inner.Cases.{bound_message}
+use Rattle.sign_core.proofs.Cases.{bound_message}
 use Rattle.sign_core.specs.World.{first_draw, no_memory, open_state, randomizer_of_fields, refused}
-use Rattle.sign_core.specs.inner.Cases.{extended, extended_identifier, extended_seed, bound_trees}
+use Rattle.sign_core.specs.inner.Cases.{extended, bound_trees}
+use Rattle.sign_core.proofs.Cases.{extended_identifier, extended_seed}
 use Rattle.sign_core.specs.World.{requested, retired}
-use Rattle.sign_core.specs.inner.Cases.{retired_key}
+use Rattle.sign_core.proofs.Cases.{retired_key}
 use Rattle.sign_core.proofs.Bindings.{binding_other}
 use Rattle.sign_core.proofs.DrawnAgain.{IsSettled, settled_repeated, settled_key}
 use Rattle.sign_core.proofs.OnceKept.{kept_choice}

@@ -4,7 +4,7 @@ use Rattle.std.proofs.lemmas.List.{get_or_at, get_or-take}
 use Rattle.std.specs.Prelude.{max}
 use Rattle.state_file.specs.File.{HasNoKey, open_value}
 use Rattle.state_file.specs.Disk.{DiskState, ChangesOnly, range_of, IsSynced}
-use Rattle.state_file.specs.FileStore.{closed_gate}
+use Rattle.state_file.proofs.Gates.{closed_gate}
 use Rattle.state_file.specs.Format.{PreparesPlace}
 use Rattle.state_file.specs.Gates.{AddsSlot, slot_and_gate}
 

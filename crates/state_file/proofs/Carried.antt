@@ -7,7 +7,7 @@ use Rattle.std.proofs.lemmas.Option.{slice_get-get_or, slice_get-map, slice_get_
 use Rattle.state_file.specs.Carried.{carried, in_version, unmoved}
 use Rattle.state_file.specs.Laws.{has_moved}
 use Rattle.state_file.specs.Slot.{file_version}
-use Rattle.state_file.specs.Filling.{LoadsCarried}
+use Rattle.state_file.specs.inner.Filling.{LoadsCarried}
 use Rattle.state_file.specs.Store.{IsRecordAt, Loads, begins_with_key}
 use Rattle.state_file.specs.declared.record.Key.{Key}
 use Rattle.state_file.specs.declared.record.Record.{Record}

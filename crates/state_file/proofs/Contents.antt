@@ -1,8 +1,8 @@
 -- Opening finds something in every content, and one thing only.
 use Rattle.std.proofs.Common.{◌≡◌, ◌⊎◌, inl, inr, ℕ, zero, suc, ◌+◌, ◌*◌, ◌<◌, true, List, [], ◌∷◌, ◌++◌, length, get_or, Option, Some, None, refl, sym, ap, ◌∙◌, subst, arith, true≢false, length-append}
-use Rattle.std.specs.Prelude.{◌==◌, slice_get}
+use Rattle.std.specs.Prelude.{◌==◌, slice_get, ◌&&◌, ◌≤◌}
 use Rattle.std.specs.Cmp.Lexicographic.{bytes_decides, pointwise}
-use Rattle.std.proofs.lemmas.Bool.{cases_Bool, cases_eq, cases_lt, cases_order}
+use Rattle.std.proofs.lemmas.Bool.{cases_Bool, cases_eq, cases_lt, cases_order, and_parts}
 use Rattle.std.proofs.lemmas.List.{same_lists}
 use Rattle.std.proofs.lemmas.Option.{same_Some, slice_get_cases, slice_get_within, slice_get-get_or, get_or_from_slice_get}
 use Rattle.typecodes.proofs.Readers.{either}
@@ -10,14 +10,46 @@ use Rattle.typecodes.proofs.Spelling.{no_value, one_value}
 use Rattle.typecodes.specs.Layout.{Spells}
 use Rattle.state_file.specs.declared.record.Key.{Key}
 use Rattle.state_file.specs.declared.record.Record.{Record}
-use Rattle.state_file.specs.declared.record.Record.TheVariants.{Key as KeyRecord}
+use Rattle.state_file.specs.declared.record.Record.TheVariants.{Key as KeyRecord, Extend as ExtendRecord, Retire, Moved}
 use Rattle.state_file.specs.declared.record.Version.{Version}
-use Rattle.state_file.specs.File.{Begins, HasNoKey, Holds, IsClosed, IsDamagedAt, IsOpen, IsWhole, MayHaveKey, SpellsRecords, begins_key, fields_at, most_records, open_value, previous_tag, tag_at, tag_of, version_of, StandsFor}
+use Rattle.state_file.specs.File.{HasNoKey, Holds, IsClosed, IsDamagedAt, IsOpen, IsWhole, MayHaveKey, SpellsRecords}
+use Rattle.state_file.specs.File.{begins_key, fields_at, most_records, open_value, previous_tag, tag_at, tag_of}
+use Rattle.state_file.specs.File.{version_of, StandsFor}
 use Rattle.state_file.specs.Opening.{ContentKind, OpensAs, damaged, no_key, no_key_file, spelled, unknown_version}
-use Rattle.state_file.specs.FileStore.{not_both}
+use Rattle.state_file.specs.inner.FileStore.{not_both}
 use Rattle.state_file.specs.Laws.{CanSign}
-use Rattle.state_file.specs.Slot.{slot_record, file_version}
-use Rattle.state_file.specs.Shown.{key-begins, key-first, version_first}
+use Rattle.state_file.specs.Slot.{slot_record, file_version, magic, version_begun}
+use Rattle.state_file.specs.inner.Shown.{key-begins, record-parts}
+use Rattle.std.proofs.Common.{take, eqb-true}
+use Rattle.state_file.specs.declared.record.Record.TheVariants.{Bound as BoundRecord}
+use Rattle.state_file.specs.inner.Slot.{kind_of}
+
+-- The content begins with slots that hold these records, in this version, and the next gate is in it.
+pub record Begins (version : Version) (content : List ℕ) (records : List Record) : Type 0 where
+  pub within_limit : length records ≤ most_records
+  pub ends : 256 * length records < length content
+  pub opened : (k : ℕ) → k < length records → IsOpen content k
+  pub holds : (k : ℕ) (entry : Record) → slice_get records k ≡ Some entry → Holds version content k entry
+
+pub key-first : (version : Version) (entry : Record) (fields : List ℕ) → Spells (slot_record version) entry fields
+    → begins_key fields ≡ true → (key : Key) × (entry ≡ KeyRecord key)
+key-first version entry fields spells begins =
+    let (rest, is, _) = record-parts version entry fields spells in
+    let test : (kind_of entry == 1) && pointwise (λ a b. a == b) (take 8 rest) magic ≡ true = ap begins_key (sym is)
+    ∙ begins in
+    of_kind entry (eqb-true (kind_of entry) 1 (and_parts _ _ test).0)
+  where
+    of_kind : (entry : Record) → kind_of entry ≡ 1 → (key : Key) × (entry ≡ KeyRecord key)
+    of_kind (KeyRecord key) same = (key, refl)
+    of_kind (ExtendRecord extend) same = absurd (omega (arith, same))
+    of_kind (BoundRecord bound) same = absurd (omega (arith, same))
+    of_kind (Retire upto) same = absurd (omega (arith, same))
+    of_kind Moved same = absurd (omega (arith, same))
+
+pub version_first : (records : List Record) (key : Key) → slice_get records 0 ≡ Some (KeyRecord key)
+    → file_version records ≡ key.version
+version_first [] key is = absurd cc
+version_first (entry ∷ rest) key is = ap version_begun (same_Some entry (KeyRecord key) is)
 
 -- ---- slots
 

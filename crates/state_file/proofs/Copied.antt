@@ -4,7 +4,7 @@ use Rattle.std.proofs.lemmas.List.{length_push, take_all}
 use Rattle.std.proofs.lemmas.Option.{slice_get_within}
 use Rattle.typecodes.specs.Layout.{Spells}
 use Rattle.state_file.specs.File.{IsClosed, IsFileOf, first_tag, most_records, open_value, previous_tag, tag_of}
-use Rattle.state_file.specs.Filling.{IsCopied, gate_opened}
+use Rattle.state_file.specs.inner.Filling.{IsCopied, gate_opened}
 use Rattle.state_file.specs.Gates.{IsClosedAfter}
 use Rattle.state_file.specs.Slot.{slot_record, file_version}
 use Rattle.state_file.specs.declared.record.Record.{Record}

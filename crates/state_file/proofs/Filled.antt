@@ -4,8 +4,9 @@ use Rattle.std.specs.Prelude.{IsTrue, IfOk, Result, Ok, Err}
 use Rattle.state_file.specs.Carried.{carried}
 use Rattle.state_file.specs.Disk.{ChangesOnly}
 use Rattle.state_file.specs.File.{HasNoKey, IsClosed, IsFileOf, SpellsRecords}
-use Rattle.state_file.specs.FileStore.{file_stands}
-use Rattle.state_file.specs.Filling.{LeftByFill, after_first_gate, first_offsets, gate_opened}
+use Rattle.state_file.specs.inner.FileStore.{file_stands}
+use Rattle.state_file.specs.Filling.{LeftByFill, first_offsets}
+use Rattle.state_file.specs.inner.Filling.{after_first_gate, gate_opened}
 use Rattle.state_file.specs.declared.record.Record.{Record}
 use Rattle.state_file.specs.declared.record.Record.TheVariants.{Key as KeyRecord}
 use Rattle.state_file.proofs.Carried.{IsCarriedList}

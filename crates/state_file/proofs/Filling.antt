@@ -2,13 +2,14 @@
 use Rattle.std.proofs.Common.{◌≡◌, ◌⊎◌, inl, inr, ⊎_elim, ℕ, zero, suc, ◌+◌, ◌-◌, ◌<◌, ◌≤◌, List, [], ◌∷◌, ◌++◌, length, take, drop, get_or, slice_index, slice_range, refl, sym, ◌∙◌, ap, subst, arith, append_assoc, length-append, length-drop, take-append-drop, get_or-drop}
 use Rattle.std.specs.Prelude.{Result, Ok, Err, OnOk}
 use Rattle.state_file.specs.Disk.{IsSynced, Syncs, settled}
-use Rattle.state_file.specs.FileStore.{synced_left}
+use Rattle.state_file.specs.inner.FileStore.{synced_left}
 use Rattle.std.proofs.lemmas.List.{same_lists, get_or_default}
 use Rattle.std.proofs.lemmas.List.Prefix.{front_from_reads, front_reads}
 use Rattle.std.proofs.lemmas.Bool.{cases_eq}
 use Rattle.state_file.specs.Disk.{ChangesOnly, DiskState, IsOutside, MayLeave, Range, greatest_end, range_of}
 use Rattle.state_file.specs.File.{HasNoKey, IsClosed, open_value}
-use Rattle.state_file.specs.Filling.{AreWithin, IsUnfinished, after_first_gate, first_offsets, gate_opened}
+use Rattle.state_file.specs.Filling.{first_offsets}
+use Rattle.state_file.specs.inner.Filling.{AreWithin, IsUnfinished, after_first_gate, gate_opened}
 use Rattle.state_file.specs.Gates.{IsClosedAfter}
 use Rattle.state_file.proofs.SlotWrites.{Stages, split, join, stage_done}
 

@@ -3,11 +3,15 @@ use Rattle.std.proofs.Common.{◌≡◌, ℕ, ◌+◌, ◌*◌, ◌<◌, Bool, t
 use Rattle.std.specs.Prelude.{◌==◌, IfErr, slice_get}
 use Rattle.std.proofs.lemmas.Option.{slice_get-get_or, slice_get_within}
 use Rattle.typecodes.specs.Layout.{Spells}
-use Rattle.state_file.specs.File.{Begins, Holds, IsClosed, IsDamagedAt, IsOpen, IsWhole, SpellsRecords, fields_at, first_tag, most_records, open_value, previous_tag, tag_at, tag_of, IsFileOf, IsSyncedFile}
+use Rattle.state_file.specs.File.{Holds, IsClosed, IsDamagedAt, IsOpen, IsWhole, SpellsRecords, fields_at, first_tag}
+use Rattle.state_file.specs.File.{most_records, open_value, previous_tag, tag_at, tag_of, IsFileOf, IsSyncedFile}
+use Rattle.state_file.proofs.Contents.{Begins}
 use Rattle.state_file.specs.Disk.{DiskState, MayLeave, settled, Elapses, LeavesOnly}
-use Rattle.state_file.specs.FileStore.{closed_gate, fields_length, open_by_byte}
+use Rattle.state_file.proofs.Gates.{closed_gate, open_by_byte}
+use Rattle.state_file.specs.inner.FileStore.{fields_length}
 use Rattle.state_file.specs.DiskCalls.{OnlyReads}
-use Rattle.state_file.specs.Opening.{HasEntry, HasSlot, IsFound, StartsWithKey, ReportsContent, ReportsSlot}
+use Rattle.state_file.specs.Opening.{ReportsContent}
+use Rattle.state_file.specs.inner.Opening.{HasEntry, HasSlot, IsFound, StartsWithKey, ReportsSlot}
 use Rattle.state_file.specs.Slot.{slot_record, file_version}
 use Rattle.state_file.specs.declared.record.Version.{Version}
 use Rattle.state_file.specs.Store.{begins_with_key}
@@ -18,7 +22,7 @@ use Rattle.state_file.specs.declared.record.Record.TheVariants.{Key as KeyRecord
 use Rattle.state_file.proofs.Contents.{begins-all, begins-more, begins-none, begins-whole}
 use Rattle.state_file.proofs.Kept.{read_record}
 use Rattle.state_file.proofs.Moments.{goes_on, combined, started, weaker}
-use Rattle.state_file.specs.FileStore.{synced_left}
+use Rattle.state_file.specs.inner.FileStore.{synced_left}
 
 -- ---- calls that only read
 

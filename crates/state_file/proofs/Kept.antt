@@ -8,7 +8,8 @@ use Rattle.typecodes.proofs.Steps.{ends-spelled}
 use Rattle.typecodes.specs.Layout.{Spells}
 use Rattle.typecodes.specs.Cursor.{read}
 use Rattle.state_file.specs.File.{Holds, fields_at, tag_at, previous_tag, tag_of, most_records, open_value, StandsFor, IsFileOf, IsSyncedFile}
-use Rattle.state_file.specs.FileStore.{fields_length, file_stands, open_byte, open_by_byte}
+use Rattle.state_file.proofs.Gates.{open_by_byte}
+use Rattle.state_file.specs.inner.FileStore.{fields_length, file_stands, open_byte}
 use Rattle.state_file.specs.Store.{CanFollow, begins_with_key}
 use Rattle.state_file.specs.Disk.{DiskState, LeavesOnly}
 use Rattle.state_file.specs.Gates.{IsClosedAfter, IsAtRest}

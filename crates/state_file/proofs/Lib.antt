@@ -6,6 +6,7 @@ pub mod Filled
 pub mod Filling
 pub mod Copied
 pub mod Finding
+pub mod Gates
 pub mod Kept
 pub mod Levels
 pub mod Legal

@@ -4,14 +4,22 @@ use Rattle.std.proofs.lemmas.List.{length_push, get_or_push}
 use Rattle.std.proofs.lemmas.Option.{slice_get-get_or}
 use Rattle.state_file.specs.Disk.{LeavesOnly, ChangesOnly, Range, DiskState, MayLeave}
 use Rattle.state_file.specs.File.{StandsFor, LeftLists, IsSyncedFile}
-use Rattle.state_file.specs.FileStore.{one_of_two, kept_leaves}
+use Rattle.state_file.specs.inner.FileStore.{kept_leaves, stands_one}
 use Rattle.state_file.specs.Laws.{has_moved, is_moved}
 use Rattle.state_file.specs.Store.{IsRecordAt}
 use Rattle.state_file.specs.declared.record.Record.{Record}
 use Rattle.state_file.proofs.Moments.{weaker}
 use Rattle.state_file.proofs.Ranges.{changes_nothing}
-use Rattle.state_file.specs.FileStore.{synced_left}
+use Rattle.state_file.specs.inner.FileStore.{synced_left}
 use Rattle.state_file.specs.DiskCalls.{OnlyReads}
+
+-- a content that stands for one of two lists counts as no third one
+pub one_of_two : (a b list : List Record) (content : List ℕ) → StandsFor a content ⊎ StandsFor b content
+    → StandsFor list content ⊎ ((other : List Record) → StandsFor other content → ⊥) → (list ≡ a) ⊎ (list ≡ b)
+one_of_two a b list content (inl stands) (inl one) = inl (stands_one list a content one stands)
+one_of_two a b list content (inr stands) (inl one) = inr (stands_one list b content one stands)
+one_of_two a b list content (inl stands) (inr none) = absurd (none a stands)
+one_of_two a b list content (inr stands) (inr none) = absurd (none b stands)
 
 module _ {S D : Type 0} (disk_of : S → D) (moment : D → ℕ) (left_since : D → ℕ → List ℕ → Type 0) where
   abbrev pub store_moment : S → ℕ

@@ -5,7 +5,7 @@ use Rattle.state_file.proofs.Lists.{pushed_moved}
 use Rattle.state_file.specs.Carried.{with_moved}
 use Rattle.state_file.specs.Disk.{DiskState, MayLeave}
 use Rattle.state_file.specs.File.{HasNoKey, SpellsRecords, StandsFor}
-use Rattle.state_file.specs.FileStore.{stands_one, synced_left}
+use Rattle.state_file.specs.inner.FileStore.{stands_one, synced_left}
 use Rattle.state_file.specs.Laws.{CanSign, has_moved, is_moved}
 use Rattle.state_file.specs.Place.{IsFreePlace}
 use Rattle.state_file.specs.declared.record.Record.{Record}

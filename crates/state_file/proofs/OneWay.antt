@@ -1,6 +1,6 @@
 -- Records have one spelling.
 use Rattle.std.proofs.Common.{◌≡◌, ℕ, zero, suc, ◌-◌, ◌*◌, Bool, true, false, List, [], ◌∷◌, ◌++◌, length, get_or, drop, refl, sym, ap, ap₂, ◌∙◌, arith, eqb-true, nat_le}
-use Rattle.std.specs.Prelude.{◌==◌, ◌&&◌}
+use Rattle.std.specs.Prelude.{◌==◌, ◌&&◌, if◌then◌else◌}
 use Rattle.std.specs.List.{list_all}
 use Rattle.std.proofs.lemmas.Bool.{and_parts}
 use Rattle.byteorder.specs.Endian.{big_bytes}
@@ -20,8 +20,42 @@ use Rattle.state_file.specs.declared.record.Record.TheVariants.{Key as KeyRecord
 use Rattle.state_file.specs.declared.record.Secret.{Secret}
 use Rattle.state_file.specs.declared.record.Secret.TheVariants.{Lms, Hss, Xmss}
 use Rattle.state_file.specs.declared.record.Version.{Version}
-use Rattle.state_file.specs.Slot.{after_parent_leaf, are_visible, bound_fields, byte, bounded_byte, exactly, extend_fields, fields_of, hss_fields, key_fields, levels_field, lms_fields, magic, moved_fields, name_field, name_most, no_record, only_if, pair_field, pairs, retire_fields, secret_fields, slot_record, version_code, version_field, xmss_fields, zeros, kind_of, scheme_of}
-use Rattle.state_file.specs.Shown.{byte-is, exactly-is, fields-show, only_if-is, schemes-show}
+use Rattle.state_file.specs.Slot.{after_parent_leaf, are_visible, bound_fields, byte, bounded_byte, exactly}
+use Rattle.state_file.specs.Slot.{extend_fields, fields_of, hss_fields, key_fields, levels_field, lms_fields, magic}
+use Rattle.state_file.specs.Slot.{moved_fields, name_field, name_most, no_record, only_if, pair_field, pairs}
+use Rattle.state_file.specs.Slot.{retire_fields, secret_fields, slot_record, version_code, version_field, xmss_fields}
+use Rattle.state_file.specs.Slot.{zeros}
+use Rattle.state_file.specs.inner.Slot.{kind_of, scheme_of}
+use Rattle.state_file.specs.inner.Shown.{byte-is, exactly-is, fields-show, only_if-is, OfKind, kind-bind, kind-done}
+use Rattle.state_file.specs.inner.Shown.{shows-if}
+use Rattle.state_file.specs.inner.Shown.{kind-field}
+
+scheme-lms : OfKind scheme_of lms_fields 1
+unfolding lms_fields
+scheme-lms =
+    kind-bind (exactly 1 (1 ∷ [])) 1 _ (λ level. kind-bind pair_field 1 _ (λ pair. kind-bind (zeros 56) 1 _ (λ others.
+    kind-field 16 1 _ (λ identifier. kind-field 32 1 _
+    (λ seed. kind-bind (zeros 64) 1 _ (λ seeds. kind-done 1 _ refl))))))
+
+scheme-hss : OfKind scheme_of hss_fields 2
+unfolding hss_fields
+scheme-hss =
+    kind-bind levels_field 2 _ (λ levels. kind-field 16 2 _
+    (λ identifier. kind-field 32 2 _ (λ seed. kind-bind (zeros 64) 2 _ (λ seeds. kind-done 2 _ refl))))
+
+scheme-xmss : OfKind scheme_of xmss_fields 3
+unfolding xmss_fields
+scheme-xmss =
+    kind-bind (exactly 1 (1 ∷ [])) 3 _ (λ level. kind-bind xmss_type 3 _
+    (λ tree. kind-bind (zeros 60) 3 _ (λ others. kind-bind (zeros 16) 3 _ (λ identifier.
+    kind-field 32 3 _ (λ secret_seed. kind-field 32 3 _
+    (λ prf_key. kind-field 32 3 _ (λ public_seed. kind-done 3 _ refl)))))))
+
+pub schemes-show : (scheme : ℕ) → Shows (secret_fields scheme) scheme_of scheme
+schemes-show scheme =
+    shows-if scheme_of scheme 1 _ _ scheme-lms.shows
+    (shows-if scheme_of scheme 2 _ _ scheme-hss.shows
+    (shows-if scheme_of scheme 3 _ _ scheme-xmss.shows (λ v bytes spelled. absurd spelled)))
 
 -- ---- fields
 

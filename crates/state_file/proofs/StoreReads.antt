@@ -4,8 +4,9 @@ use Rattle.std.specs.Prelude.{IsTrue}
 use Rattle.state_file.specs.Carried.{carried}
 use Rattle.state_file.specs.Disk.{MayLeave}
 use Rattle.state_file.specs.FileStore.{disk_of, has_stopped}
-use Rattle.state_file.specs.Filling.{CountsEither, IsCopied}
-use Rattle.state_file.specs.StoreReads.{ReadsStore}
+use Rattle.state_file.specs.Filling.{CountsEither}
+use Rattle.state_file.specs.inner.Filling.{IsCopied}
+use Rattle.state_file.specs.inner.StoreReads.{ReadsStore}
 use Rattle.state_file.specs.declared.disk.Disk as disk
 use Rattle.state_file.specs.declared.migration.MigrateFault.{MigrateFault}
 use Rattle.state_file.specs.declared.record.Record.{Record}

@@ -21,7 +21,7 @@ use Rattle.typecodes.proofs.Spelling.{from_turn, in_turn}
 use Rattle.typecodes.specs.Name.{IsName}
 use Rattle.state_file.proofs.Visible.{visible-name}
 use Rattle.state_file.specs.Slot.{are_visible, byte, bounded_byte, exactly, name_field, only_if, pair_field, pairs, version_code, version_field, zeros}
-use Rattle.state_file.specs.Fields.{AppendsSpelling}
+use Rattle.state_file.specs.inner.Fields.{AppendsSpelling}
 use Rattle.typecodes.proofs.Codes.{known}
 
 pub writes-done : {V : Type 0} (v : V) (at : List ℕ) → AppendsSpelling (done v) v at at

@@ -10,21 +10,8 @@ pub record CountsFailures {D A E : Type 0} (d : disk.Ghosts D) (is_failed : E �
   pub past_ends : IsTrue (d.honest old) → d.past_ends new ≡ d.past_ends old
   pub honest : d.honest new ≡ d.honest old
 
--- The same for calls that read no bytes: no disk, honest or not, counts a read past the end.
-pub record CountsFailuresWithoutReads {D A E : Type 0} (d : disk.Ghosts D) (is_failed : E → Bool) (old new : D)
-    (answer : Result A E) : Type 0 where
-  pub failures : Counts is_failed (d.failures old) (d.failures new) answer
-  pub past_ends : d.past_ends new ≡ d.past_ends old
-  pub honest : d.honest new ≡ d.honest old
-
 -- Calls that only read: the state stays, and a crash leaves only what it could leave before.
 pub record OnlyReads {D : Type 0} (state : D → DiskState) (moment : D → ℕ) (left_since : D → ℕ → List ℕ → Type 0)
     (old new : D) : Type 0 where
   pub stays : state new ≡ state old
   pub leaves : LeavesOnly moment left_since old new (MayLeave (state old))
-
--- A function only reads its disk, if that is honest, and counts what failed.
-pub record ReadsDisk {D A E : Type 0} (d : disk.Ghosts D) (is_failed : E → Bool) (old new : D) (answer : Result A E)
-    : Type 0 where
-  pub only : IsTrue (d.honest old) → OnlyReads d.state d.moment d.left_since old new
-  pub counts : CountsFailures d is_failed old new answer

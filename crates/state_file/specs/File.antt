@@ -1,8 +1,7 @@
 -- A disk's content as a state file: slots of 256 bytes, slot k from byte 256 * k on, each with a gate, a record and a
 -- tag.
-use Rattle.std.specs.Prelude.{◌≡◌, ◌≢◌, ◌⊎◌, ℕ, zero, suc, ◌+◌, ◌*◌, ◌^◌, ◌<◌, ◌≤◌, Bool, true, false, ◌==◌, List}
-use Rattle.std.specs.Prelude.{◌∷◌, ◌++◌, length, take, drop, replicate, slice_get, slice_index, Option, Some, None}
-use Rattle.std.specs.Prelude.{[], Ok}
+use Rattle.std.specs.Prelude.{◌≡◌, ◌≢◌, ◌⊎◌, ℕ, zero, suc, ◌+◌, ◌*◌, ◌^◌, ◌<◌, ◌≤◌, Bool, true, false, ◌==◌, List, ◌∷◌}
+use Rattle.std.specs.Prelude.{◌++◌, length, take, drop, replicate, slice_get, slice_index, Option, Some, None, [], Ok}
 use Rattle.std.specs.Cmp.Lexicographic.{pointwise}
 use Rattle.byteorder.specs.Endian.{big_number}
 use Rattle.sha2.specs.Sha256.{sha256}
@@ -13,7 +12,6 @@ use Rattle.state_file.specs.declared.record.Record.{Record}
 use Rattle.state_file.specs.declared.record.Record.TheVariants.{Key as KeyRecord}
 use Rattle.state_file.specs.declared.record.Version.{Version}
 use Rattle.state_file.specs.Slot.{magic, slot_record, version_code, file_version, versions}
-use Rattle.std.proofs.Props.{props}
 use Rattle.typecodes.specs.Cursor.{read}
 use Rattle.state_file.specs.Disk.{DiskState, IsSynced}
 use Rattle.state_file.specs.Store.{begins_with_key}
@@ -118,13 +116,6 @@ pub record IsWhole (version : Version) (content : List ℕ) (k : ℕ) : Type 0 w
   pub entry : Record
   pub holds : Holds version content k entry
 
--- The content begins with slots that hold these records, in this version, and the next gate is in it.
-pub record Begins (version : Version) (content : List ℕ) (records : List Record) : Type 0 where
-  pub within_limit : length records ≤ most_records
-  pub ends : 256 * length records < length content
-  pub opened : (k : ℕ) → k < length records → IsOpen content k
-  pub holds : (k : ℕ) (entry : Record) → slice_get records k ≡ Some entry → Holds version content k entry
-
 -- Slot k is the first damaged one: it is open and not whole, and all before it are whole.
 pub record IsDamagedAt (content : List ℕ) (k : ℕ) : Type 0 where
   pub may : MayHaveKey content
@@ -163,10 +154,3 @@ pub record IsSyncedFile (records : List Record) (tag : List ℕ) (state : DiskSt
   pub synced : IsSynced state
   pub file : IsFileOf records state.content
   pub last : tag ≡ previous_tag state.content (length records)
-
-pub IsFileOf-prop : (records : List Record) (content : List ℕ) → IsProp (IsFileOf records content)
-IsFileOf-prop records content = hlevel props
-
-pub IsSyncedFile-prop : (records : List Record) (tag : List ℕ) (state : DiskState)
-    → IsProp (IsSyncedFile records tag state)
-IsSyncedFile-prop records tag state = hlevel (props, IsFileOf-prop)

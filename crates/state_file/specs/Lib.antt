@@ -1,7 +1,6 @@
 pub mod Carried
 pub mod Disk
 pub mod DiskCalls
-pub mod Fields
 pub mod File
 pub mod FileStore
 pub mod Filling
@@ -15,8 +14,7 @@ pub mod MigrateFault
 pub mod Migration
 pub mod Opening
 pub mod Place
-pub mod StoreReads
 pub mod Sealing
-pub mod Shown
 pub mod Slot
 pub mod Store
+pub mod inner

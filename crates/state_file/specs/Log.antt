@@ -4,8 +4,6 @@ use Rattle.std.specs.Prelude.{reverse, slice_index}
 use Rattle.state_file.specs.Disk.{Range, IsOutside, greatest_end, ChangesOnly, DiskState}
 use Rattle.state_file.specs.declared.disk.log.Entry.{Entry}
 use Rattle.state_file.specs.declared.disk.log.Entry.TheVariants.{Wrote, Synced}
-use Rattle.std.proofs.Common.{sym, subst, arith}
-use Rattle.std.proofs.lemmas.List.{take_all}
 
 -- the content at the last sync, or the first content; the log has its newest entry first
 abbrev pub base_of : List ℕ → List Entry → List ℕ
@@ -47,15 +45,3 @@ pub record IsLongestLeft (byte : ℕ) (base : List ℕ) (ranges : List Range) (c
       → slice_index c offset ≡ slice_index base offset
   pub inside : (offset : ℕ) → offset < length c → (IsOutside offset ranges → ⊥) → slice_index c offset ≡ byte
   pub after : (offset : ℕ) → offset < length c → length base ≤ offset → slice_index c offset ≡ byte
-
-pub left_now : (first : List ℕ) (log : List Entry) (t : ℕ) (c : List ℕ) → t ≤ length log → LeftBy first log c
-    → LeftSince first log t c
-left_now first log t c early left =
-    let whole : take (length log) log ≡ log = take_all (length log) log (omega arith) in
-    (length log, early, omega arith, subst (λ (l : List Entry). LeftBy first l c) (sym whole) left)
-
-pub left_only_now : (first : List ℕ) (log : List Entry) (c : List ℕ) → LeftSince first log (length log) c
-    → LeftBy first log c
-left_only_now first log c since =
-    let whole : take since.0 log ≡ log = take_all since.0 log since.1 in
-    subst (λ (l : List Entry). LeftBy first l c) whole since.3

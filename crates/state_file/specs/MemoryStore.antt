@@ -8,8 +8,6 @@ use Rattle.state_file.specs.Disk.{LeavesOnly}
 use Rattle.state_file.specs.declared.store.memory_store.Cut.TheVariants.{Old, New}
 use Rattle.state_file.specs.declared.store.StoreFault.{StoreFault}
 use Rattle.state_file.specs.declared.store.StoreFault.TheVariants.{DeviceFailed, OutOfMemory}
-use Rattle.std.proofs.Common.{sym, ◌∙◌, arith}
-use Rattle.std.proofs.lemmas.List.{take_all}
 
 abbrev pub records_of : MemoryStore → List Record
 records_of store = store.records.items
@@ -86,10 +84,3 @@ HadBeen records t left = (k : ℕ) × (t ≤ k) × (k ≤ length records) × (le
 abbrev pub LeavesInMemory : (old new : MemoryStore) (P : List Record → Type 0) → Type 0
 LeavesInMemory old new P =
     LeavesOnly (λ store. length (records_of store)) (λ store. HadBeen (records_of store)) old new P
-
-pub had_been_all : (records : List Record) (t : ℕ) → t ≤ length records → HadBeen records t records
-had_been_all records t early =
-    (length records, early, omega arith, sym (take_all (length records) records (omega arith)))
-
-pub had_been_only : (records left : List Record) → HadBeen records (length records) left → left ≡ records
-had_been_only records left had = had.3 ∙ take_all had.0 records had.1

@@ -1,6 +1,5 @@
 -- A place for a file that holds no key yet.
 use Rattle.std.specs.Prelude.{◌≡◌, ◌<◌, ◌≤◌, ℕ, Bool, true, false, List, length, Result, Ok, Err}
-use Rattle.std.proofs.Props.{props}
 use Rattle.state_file.specs.Disk.{DiskState, IsSynced, settled}
 use Rattle.state_file.specs.File.{HasNoKey, IsClosed, MayHaveKey}
 use Rattle.state_file.specs.declared.migration.MigrateFault.{MigrateFault}
@@ -12,9 +11,6 @@ pub record IsFreePlace (short : Bool) (state : DiskState) : Type 0 where
   pub shorter : short ≡ true → length state.content < 257
   pub longer : short ≡ false → 257 ≤ length state.content
   pub closed : short ≡ false → IsClosed state.content 0
-
-pub IsFreePlace-prop : (short : Bool) (state : DiskState) → IsProp (IsFreePlace short state)
-IsFreePlace-prop short state = hlevel props
 
 -- What looking at a place answers, and leaves: no key, perhaps a key (50), or a device that failed (45).
 abbrev pub FindsPlace : {A : Type 0} (content : List ℕ) (new : DiskState) → Result A MigrateFault → Type 0

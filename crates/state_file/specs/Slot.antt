@@ -212,18 +212,6 @@ fields_of version kind =
 unfoldable pub slot_record : Version → Layout Record
 slot_record version = byte >>= fields_of version
 
-abbrev pub scheme_of : Secret → ℕ
-scheme_of (Lms secret) = 1
-scheme_of (Hss levels identifier seed) = 2
-scheme_of (Xmss secret) = 3
-
-abbrev pub kind_of : Record → ℕ
-kind_of (KeyRecord key) = 1
-kind_of (ExtendRecord extend) = 2
-kind_of (BoundRecord bound) = 3
-kind_of (Retire upto) = 4
-kind_of Moved = 5
-
 -- ---- the version of a file
 
 -- the version of a file that begins with this record; 1 if it is no Key

@@ -4,7 +4,8 @@ use Rattle.std.specs.Prelude.{◌≢◌, ◌⊎◌, IsOk}
 use Rattle.typecodes.specs.declared.refusal.Refusal.{Refusal}
 use Rattle.typecodes.specs.declared.refusal.Refusal.TheVariants.{Unreadable, TypeMismatch, LevelMismatch, RootMismatch, MessageRead}
 use Rattle.typecodes.specs.Layout.{HasFault, Layout, Spells}
-use Rattle.typecodes.specs.Verdict.{DigestVerdict, VerdictLaws, Verdicts}
+use Rattle.typecodes.specs.Verdict.{VerdictLaws, Verdicts}
+use Rattle.typecodes.specs.inner.Verdict.{DigestVerdict}
 use Rattle.typecodes.proofs.Spelling.{no_value, one_fault, one_value}
 
 -- ---- by the digest of the message

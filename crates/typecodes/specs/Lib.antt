@@ -12,3 +12,4 @@ pub mod Message
 pub mod Reading
 pub mod Sink
 pub mod Verdict
+pub mod inner

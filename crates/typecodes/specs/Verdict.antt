@@ -17,12 +17,6 @@ LeavesMessage transition remaining text old new (Err LevelMismatch) = ⊥
 LeavesMessage transition remaining text old new (Err MessageRead) = CantBeRead transition old new
 LeavesMessage transition remaining text old new (Err (RootMismatch level)) = ReadWhole transition remaining text old new
 
--- The answer for a decoded signature of level i, by the digest of what it signs: it is valid, or leads to another root.
-abbrev pub DigestVerdict : {A : Type 0} → Type 0 → ℕ → Result A Refusal → Type 0
-DigestVerdict valid i (Ok _) = valid
-DigestVerdict valid i (Err (RootMismatch level)) = (level ≡ i) × (valid → ⊥)
-DigestVerdict valid i (Err other) = ⊥
-
 -- The answer of a verification that takes a reader. For some text the verdict is this answer, and the reader is left as
 -- the answer says. A reader's known content is this text.
 abbrev pub Verifies : {M A : Type 0} → (M → Option (List ℕ)) → (List ℕ → Result A Refusal → Type 0)

@@ -2,8 +2,9 @@
 use Rattle.std.proofs.Common.{◌≡◌, ◌∙◌, ℕ, ◌<◌, ◌≤◌, List, [], length, set, take, slice_index, slice_index_or, arith, ap, sym, inl, inr}
 use Rattle.std.proofs.lemmas.Bool.{cases_eq}
 use Rattle.std.proofs.lemmas.List.{get_or-set_other, get_or-set_same, get_or-take}
-use Rattle.winternitz.specs.Chain.{Steps, walk, walk_at}
-use Rattle.winternitz.specs.Groups.{IsOnItsWay}
+use Rattle.winternitz.specs.Chain.{Steps, walk}
+use Rattle.winternitz.specs.inner.Chain.{walk_at}
+use Rattle.winternitz.specs.inner.Groups.{IsOnItsWay}
 use Rattle.winternitz.proofs.Walks.{walk-walk, walk_none}
 
 -- where a chain begins it is on its way

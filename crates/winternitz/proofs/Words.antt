@@ -6,7 +6,8 @@ use Rattle.std.proofs.lemmas.Bool.{cases_lt}
 use Rattle.std.proofs.lemmas.List.{append_assoc, get_or-append-add, length-append, take_all, take_more}
 use Rattle.std.specs.Int.{w32, w64, from_be_bytes, to_be_bytes}
 use Rattle.sha2.specs.Sha256.{add32, digest_bytes, word_at}
-use Rattle.winternitz.specs.Lanes.{four_bytes, joined_word, lane, lane_at, step_bytes}
+use Rattle.winternitz.specs.Lanes.{lane, lane_at, step_bytes}
+use Rattle.winternitz.specs.inner.Lanes.{four_bytes, joined_word}
 
 -- hash values of the same words have the same bytes
 pub digest_same : (h g : List ℕ) (n : ℕ) → ((k : ℕ) → k < n → slice_index h k ≡ slice_index g k) → digest_bytes h n ≡ digest_bytes g n

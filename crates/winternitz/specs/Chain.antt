@@ -15,10 +15,6 @@ walk_steps step c a (suc n) v = step c (a + n) (walk_steps step c a n v)
 abbrev pub walk : Steps → ℕ → ℕ → ℕ → List ℕ → List ℕ
 walk step c a b v = walk_steps step c a (b - a) v
 
--- chain i's value, walked by the chain's own steps
-abbrev pub walk_at : Steps → List ℕ → List ℕ → List (List ℕ) → ℕ → List ℕ
-walk_at step from to values i = walk step i (slice_index from i) (slice_index to i) (slice_index_or values i [])
-
 -- chain i's value, walked from the chain's digit to its end
 abbrev pub end_at : Steps → ℕ → List ℕ → List (List ℕ) → ℕ → List ℕ
 end_at step w digits values i = walk step i (slice_index digits i) (2 ^ w - 1) (slice_index_or values i [])

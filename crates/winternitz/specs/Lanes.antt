@@ -1,7 +1,6 @@
 -- Blocks side by side: each word is a vector, with one lane for each block.
-use Rattle.std.specs.Prelude.{◌≡◌, ℕ, ◌+◌, List, [], ◌∷◌, ◌++◌, drop, map, slice_index, slice_index_or, take}
-use Rattle.std.specs.Coded.{Coded-set, coded_list, coded_ℕ}
-use Rattle.std.specs.Int.{w16, w32, from_be_bytes, to_be_bytes}
+use Rattle.std.specs.Prelude.{ℕ, List, [], ◌∷◌, ◌++◌, map, slice_index, slice_index_or}
+use Rattle.std.specs.Int.{w16, to_be_bytes}
 use Rattle.sha2.specs.Sha256.{digest_bytes}
 
 -- The number of lanes. docs/CONTRIBUTING.md lists what else another number changes.
@@ -26,20 +25,7 @@ lane_state x j =
 abbrev pub value_at : List (List ℕ) → ℕ → List ℕ
 value_at x j = digest_bytes (lane_state x j) 8
 
--- the four bytes of a list at byte i
-abbrev pub four_bytes : List ℕ → ℕ → List ℕ
-four_bytes bytes i =
-    slice_index bytes i ∷ slice_index bytes (i + 1) ∷ slice_index bytes (i + 2) ∷ slice_index bytes (i + 3) ∷ []
-
--- the word of the last three bytes of one word and the first byte of another
-abbrev pub joined_word : ℕ → ℕ → ℕ
-joined_word x y = from_be_bytes w32 (drop 1 (to_be_bytes w32 x) ++ take 1 (to_be_bytes w32 y))
-
 -- what a step hashes after the beginning that all steps of a key share: the chain's number, the step's, and the value
 -- (RFC 8554 4.3)
 abbrev pub step_bytes : ℕ → ℕ → List ℕ → List ℕ
 step_bytes chain at value = to_be_bytes w16 chain ++ at ∷ value
-
--- Two proofs that two lists are equal are one.
-pub words-prop : (words other : List ℕ) → IsProp (words ≡ other)
-words-prop words other = Coded-set (coded_list coded_ℕ) words other

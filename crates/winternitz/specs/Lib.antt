@@ -1,6 +1,6 @@
 pub mod Chain
 pub mod Digest
-pub mod Groups
 pub mod Lanes
 pub mod Beginning
 pub mod Feeding
+pub mod inner

@@ -1,8 +1,9 @@
 //! All chains of a key, climbed side by side.
 
 ghost use Rattle.std.specs.Prelude.{◌≡◌, ◌≤◌, ◌<◌, ◌+◌, ℕ, List, [], length, slice_index, slice_index_or};
-ghost use Rattle.winternitz.specs.Chain.{walk, walk_at};
-ghost use Rattle.winternitz.specs.Groups.{IsOnItsWay, IsWithin};
+ghost use Rattle.winternitz.specs.Chain.{walk};
+ghost use Rattle.winternitz.specs.inner.Chain.{walk_at};
+ghost use Rattle.winternitz.specs.inner.Groups.{IsOnItsWay, IsWithin};
 ghost use Rattle.winternitz.specs.Lanes.{lanes};
 
 use crate::chain::{Step, added, climb};

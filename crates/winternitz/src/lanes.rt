@@ -5,7 +5,8 @@ ghost use Rattle.std.specs.Prelude.{slice_index, slice_index_or};
 ghost use Rattle.std.specs.Int.{w32, to_be_bytes};
 ghost use Rattle.sha2.specs.Sha256 as spec;
 ghost use Rattle.sha2.specs.Sha256.{digest_bytes, initial_hash_256, padding, sha256, word_at};
-ghost use Rattle.winternitz.specs.Lanes.{four_bytes, lanes, lane_state, value_at};
+ghost use Rattle.winternitz.specs.Lanes.{lanes, lane_state, value_at};
+ghost use Rattle.winternitz.specs.inner.Lanes.{four_bytes};
 
 use crate::lanes::constants::INITIAL;
 use crate::lanes::rounds::compress_words;

@@ -5,7 +5,7 @@
 //! lane takes the rest last.
 
 ghost use Rattle.std.specs.Prelude.{◌≡◌, ◌≤◌, ◌<◌, ◌+◌, ◌*◌, ℕ, true, IfSome, length, slice_index};
-ghost use Rattle.winternitz.specs.Groups.{IsWithin};
+ghost use Rattle.winternitz.specs.inner.Groups.{IsWithin};
 ghost use Rattle.winternitz.specs.Lanes.{lanes};
 
 use crate::lanes::LANES;

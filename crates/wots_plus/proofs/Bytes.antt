@@ -10,7 +10,8 @@ use Rattle.std.proofs.lemmas.Slice.Zip.{get_or-zip, length-zip}
 use borrow.Rule.Slice.PartMut.{put_mid}
 use Rattle.wots_plus.specs.declared.address.Address.{Address}
 use Rattle.wots_plus.specs.declared.address.Address.TheVariants.{OneTime, LTree, HashTree}
-use Rattle.wots_plus.specs.Address.{address, address_of, words_of}
+use Rattle.wots_plus.specs.Address.{address, address_of}
+use Rattle.wots_plus.specs.inner.Address.{words_of}
 use Rattle.wots_plus.specs.Hashes.{to_byte, xor}
 
 abbrev pub bytes_of_words : List ℕ → List ℕ

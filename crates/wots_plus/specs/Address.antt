@@ -30,8 +30,3 @@ abbrev pub address_of : Address → Adrs
 address_of (OneTime leaf chain hash) mask = one_time leaf chain hash mask
 address_of (LTree leaf height index) mask = l_tree leaf height index mask
 address_of (HashTree height index) mask = hash_tree height index mask
-
-abbrev pub words_of : Address → ℕ → List ℕ
-words_of (OneTime leaf chain hash) mask = words 0 leaf chain hash mask
-words_of (LTree leaf height index) mask = words 1 leaf height index mask
-words_of (HashTree height index) mask = words 2 0 height index mask

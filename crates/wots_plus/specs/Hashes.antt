@@ -1,11 +1,8 @@
 -- The hashes of WOTS+ and of hash trees (RFC 8391, sections 3.1, 4.1 and 5.1), for SHA-256 with n = 32.
-use Rattle.std.specs.Prelude.{◌≡◌, ℕ, List, ◌++◌, map, bit_xor}
+use Rattle.std.specs.Prelude.{ℕ, List, ◌++◌, map, bit_xor}
 use Rattle.std.specs.List.{zip}
-use Rattle.std.specs.Coded.{Coded-set, coded_list, coded_ℕ, ×_prop}
 use Rattle.byteorder.specs.Endian.{big_bytes}
-use Rattle.sha2.specs.Hashers.{Holds256}
-use Rattle.sha2.specs.Sha256.{Holds, sha256}
-use Rattle.sha2.specs.declared.Sha256.{Sha256}
+use Rattle.sha2.specs.Sha256.{sha256}
 
 -- toByte(x, y): x as y bytes, big-endian (2.4)
 abbrev pub to_byte : ℕ → ℕ → List ℕ
@@ -47,13 +44,3 @@ rand_hash seed adrs left right =
 -- choice open (3.1.7).
 abbrev pub private_value_at : List ℕ → List ℕ → Adrs → List ℕ
 private_value_at secret seed adrs = sha256 (to_byte 4 32 ++ secret ++ seed ++ adrs 0)
-
--- Two proofs that a hasher holds a message are equal, as a ghost field wants it.
-pub Holds256-prop : (hasher : Sha256) (message : List ℕ) → IsProp (Holds256 hasher message)
-unfolding Holds
-Holds256-prop hasher message =
-    ×_prop (Coded-set coded_ℕ _ _) (×_prop (Coded-set (coded_list coded_ℕ) _ _) (Coded-set (coded_list coded_ℕ) _ _))
-
--- So are two proofs of an equation of numbers.
-pub length-prop : (n m : ℕ) → IsProp (n ≡ m)
-length-prop n m = Coded-set coded_ℕ n m

@@ -1,2 +1,4 @@
--- What private functions alone cite: a reader of the contracts of public functions doesn't need it.
+-- What private functions alone cite, and proofs that contracts need: a reader of public contracts doesn't need it.
+pub mod Address
+pub mod Hashes
 pub mod LaneKeys

@@ -14,7 +14,8 @@ pub enum Address {
 }
 
 impl Address {
-    ghost use Rattle.wots_plus.specs.Address.{address_of, words_of};
+    ghost use Rattle.wots_plus.specs.Address.{address_of};
+    ghost use Rattle.wots_plus.specs.inner.Address.{words_of};
 
     /// The address's 32 bytes, with this keyAndMask.
     pub fn bytes(&self, key_and_mask: u32) -> [u8; 32]

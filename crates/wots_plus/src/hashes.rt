@@ -4,7 +4,8 @@ ghost use Rattle.std.specs.Prelude.{◌≡◌, ◌≤◌, ◌<◌, ◌++◌, ℕ
 ghost use Rattle.std.proofs.Props.{props};
 ghost use Rattle.sha2.specs.Hashers.{Holds256};
 ghost use Rattle.wots_plus.specs.Address.{address_of};
-ghost use Rattle.wots_plus.specs.Hashes.{Holds256-prop, prf, to_byte};
+ghost use Rattle.wots_plus.specs.Hashes.{prf, to_byte};
+ghost use Rattle.wots_plus.specs.inner.Hashes.{Holds256-prop};
 ghost use Rattle.wots_plus.specs.Hashes as spec;
 ghost use Rattle.sha2.specs.Sha256.{compress, initial_hash_256};
 ghost use Rattle.typecodes.specs.Message.{Digests};

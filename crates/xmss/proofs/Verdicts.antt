@@ -3,7 +3,8 @@ use Rattle.std.proofs.Common.{◌≡◌, ℕ, List, Option, Result, Err, sym, su
 use Rattle.std.specs.Prelude.{◌≢◌, IsOk}
 use Rattle.typecodes.specs.Message.{ReadWhole, Transition}
 use Rattle.typecodes.specs.Layout.{Spells}
-use Rattle.typecodes.specs.Verdict.{DigestVerdict, VerdictLaws}
+use Rattle.typecodes.specs.Verdict.{VerdictLaws}
+use Rattle.typecodes.specs.inner.Verdict.{DigestVerdict}
 use Rattle.typecodes.specs.declared.refusal.Refusal.{Refusal}
 use Rattle.typecodes.specs.declared.refusal.Refusal.TheVariants.{Unreadable, TypeMismatch, LevelMismatch, RootMismatch, MessageRead}
 use Rattle.typecodes.proofs.Verdicts.{Refused, of_digest, tree_laws}

@@ -3,7 +3,8 @@
 ghost use Rattle.std.specs.Prelude.{◌≡◌, ◌≢◌, Err, IfErr, IfOk, List, ℕ};
 ghost use Rattle.xmss.specs.View.{signature_of};
 ghost use Rattle.xmss.specs.Verification.{HasPrefix, IsDigest, IsValidFor, LeadsTo, LeavesMessage, Verdict};
-ghost use Rattle.typecodes.specs.Verdict.{DigestVerdict, Verifies};
+ghost use Rattle.typecodes.specs.Verdict.{Verifies};
+ghost use Rattle.typecodes.specs.inner.Verdict.{DigestVerdict};
 
 use crate::digest::{before_message, message_digest, message_digest_from};
 use crate::key::XmssPublic;

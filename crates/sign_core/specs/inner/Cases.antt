@@ -1,103 +1,13 @@
--- The model of World from a step on, by what this step finds: what private functions do is one case of it or another.
-use Rattle.std.specs.Prelude.{ℕ, ◌+◌, ◌-◌, List, length, drop, not, Option, nat_le, nat_lt}
-use Rattle.std.specs.Prelude.{option_map, slice_index_or}
-use Rattle.typecodes.specs.declared.spec.Spec.{Spec}
-use Rattle.state_file.specs.Laws.{bottom_of}
+-- Steps of World by what they find: a new tree of these trees, this many new trees, a name that is bound or not.
+use Rattle.std.specs.Prelude.{ℕ, ◌-◌, List, drop, Option, slice_index_or}
 use Rattle.state_file.specs.declared.record.Bound.{Bound}
 use Rattle.state_file.specs.declared.record.Key.{Key}
 use Rattle.state_file.specs.declared.record.Record.{Record}
-use Rattle.state_file.specs.declared.record.Record.TheVariants.{Key as KeyRecord, Bound as BoundRecord, Retire}
-use Rattle.state_file.specs.declared.record.Secret.{Secret}
-use Rattle.sign_core.specs.declared.key.AnyPublic.{AnyPublic}
-use Rattle.sign_core.specs.declared.fault.SignFault.{SignFault}
-use Rattle.sign_core.specs.declared.fault.SignFault.TheVariants.{Changed, Exhausted, RandomFailed, RandomRepeated}
-use Rattle.sign_core.specs.declared.fault.SignFault.TheVariants.{Stopped, OutOfMemory, LedgerFull}
-use Rattle.sign_core.specs.declared.fault.SignFault.TheVariants.{Damaged, Moved, RetireRange, KeyThere}
-use Rattle.sign_core.specs.Records.{are_same, binding_at, has_identifier, has_moved, the_key}
-use Rattle.sign_core.specs.Records.{leaves_of_current, next_at, wanted_count}
-use Rattle.sign_core.specs.Textbook.{Trees, damaged_at, digest_at, lms_secret, any_public_of, public_of_key}
-use Rattle.sign_core.specs.Textbook.{textbook_signature, current_at}
-use Rattle.sign_core.specs.World.{◌>>=◌, ◌>>◌, Chance, Creation, Draw, Fate, Opening, Outcome, State, answer_if}
-use Rattle.sign_core.specs.World.{append, begin_trees, bind, draw, draw_identifier, draw_seed, event}
-use Rattle.sign_core.specs.World.{extend_record, first_refusal, give, new_key, open_state}
-use Rattle.sign_core.specs.World.{open_signer, publish, read, refuse_if}
-use Rattle.sign_core.specs.World.{refuse_some, secret_of_fields, repeat_or_bind, some_or, the_records}
-
--- ---- create and open
-
--- record 0 was read as this key
-abbrev pub published : List Record → Option AnyPublic → Outcome AnyPublic
-published records public = event (publish public) (open_state records)
-
--- these fields made this secret
-abbrev pub begun : State → Creation → Option Secret → Outcome AnyPublic
-begun state chance made = event (do
-  secret ← some_or RandomFailed made
-  refuse_if OutOfMemory (not chance.has_room)
-  key ← give (new_key chance.version secret)
-  append (KeyRecord key) chance.fate
-  publish (any_public_of key)) state
-
--- record 0 could be loaded, or couldn't
-abbrev pub created_load : Option SignFault → State → Spec → Creation → Outcome AnyPublic
-created_load failed state spec chance = event (do
-  refuse_some failed
-  records ← the_records
-  refuse_if KeyThere (nat_le 1 (length records))
-  secret ← draw (secret_of_fields spec chance.fields) chance.fields
-  refuse_if OutOfMemory (not chance.has_room)
-  key ← give (new_key chance.version secret)
-  append (KeyRecord key) chance.fate
-  publish (any_public_of key)) state
-
--- the legal records have this key
-abbrev pub opened_key : List Record → Option Key → Outcome AnyPublic
-opened_key records found = event (publish (public_of_key found)) (open_state records)
-
--- of the records this one isn't legal
-abbrev pub opened_illegal : State → Opening → (illegal : Option ℕ) → Outcome AnyPublic
-opened_illegal state chance illegal = event (do
-  records ← the_records
-  refuse_some (first_refusal chance illegal)
-  publish (public_of_key (the_key records))) state
-
--- ---- a repeat
-
--- this slot is damaged
-abbrev pub repeated_sound : State → Key → (k : ℕ) → Bound → (damaged : Option ℕ) → Outcome (List ℕ)
-repeated_sound state key k bound damaged = event (do
-  refuse_some (option_map Damaged damaged)
-  give (textbook_signature key state.records k bound)) state
-
--- the message's reader gave this
-abbrev pub repeated : State → Key → (k : ℕ) → Bound → Chance → (given : Option (List ℕ)) → Outcome (List ℕ)
-repeated state key k bound chance given = event (do
-  message ← read given
-  refuse_if Changed (not (are_same (digest_at key state.records k bound.leaf bound.randomizer message) bound.digest))
-  refuse_if OutOfMemory (not chance.has_room)
-  bottom ← give (bottom_of key.secret)
-  refuse_some (option_map Damaged (damaged_at key bottom state.records (current_at bottom state.records k)))
-  give (textbook_signature key state.records k bound)) state
-
--- ---- new trees
-
--- SEED and C are among these fields
-abbrev pub extended_seed : State → Trees → (level leaf : ℕ) → (identifier : List ℕ) → (fields : List (List ℕ)) → Fate
-    → (List Record → Outcome (List ℕ)) → Outcome (List ℕ)
-extended_seed state trees level leaf identifier fields fate next = (do
-  drawn ← draw_seed fields
-  secret ← give (lms_secret (slice_index_or trees.pairs level trees.top.pair) identifier drawn.0)
-  append (extend_record trees state.records level secret drawn.1 leaf) fate) state (λ a later. next later.records)
-
--- I, too
-abbrev pub extended_identifier : State → Trees → (level leaf : ℕ) → (fields : List (List ℕ)) → Fate
-    → (List Record → Outcome (List ℕ)) → Outcome (List ℕ)
-extended_identifier state trees level leaf fields fate next = (do
-  identifier ← draw_identifier fields
-  refuse_if RandomRepeated (has_identifier state.records identifier)
-  drawn ← draw_seed (drop 1 fields)
-  secret ← give (lms_secret (slice_index_or trees.pairs level trees.top.pair) identifier drawn.0)
-  append (extend_record trees state.records level secret drawn.1 leaf) fate) state (λ a later. next later.records)
+use Rattle.sign_core.specs.declared.fault.SignFault.TheVariants.{RandomFailed, RandomRepeated}
+use Rattle.sign_core.specs.Records.{has_identifier, next_at}
+use Rattle.sign_core.specs.Textbook.{Trees, lms_secret}
+use Rattle.sign_core.specs.World.{◌>>=◌, ◌>>◌, Chance, Draw, Outcome, State, append, begin_trees, bind, draw_identifier}
+use Rattle.sign_core.specs.World.{draw_seed, event, extend_record, give, open_state, refuse_if, repeat_or_bind, some_or}
 
 -- the key has these trees
 abbrev pub extended : State → Key → (level : ℕ) → Option Trees → Draw → (List Record → Outcome (List ℕ))
@@ -112,74 +22,13 @@ extended state key level found chance next = (do
   append (extend_record trees state.records level secret drawn.1 leaf) chance.fate) state
     (λ a later. next later.records)
 
--- ---- a binding
-
--- C is this, and the message's reader gave this
-abbrev pub bound_message : State → Key → (name : List ℕ) → (randomizer given : Option (List ℕ)) → Fate
-    → Outcome (List ℕ)
-bound_message state key name made given fate = event (do
-  randomizer ← some_or RandomFailed made
-  message ← read given
-  leaf ← give (next_at key.secret state.records (bottom_of key.secret))
-  digest ← give (digest_at key state.records (length state.records) leaf randomizer message)
-  bound ← give {A = Bound} (record { name = name; leaf = leaf; randomizer = randomizer; digest = digest })
-  append (BoundRecord bound) fate
-  records ← the_records
-  give (textbook_signature key records (length state.records) bound)) state
-
 -- this many new trees, and then the binding
 abbrev pub bound_trees : Key → (name : List ℕ) → Chance → (below : ℕ) → List Draw → List Record → Outcome (List ℕ)
 bound_trees key name chance below draws records = event (do
   begin_trees key below draws
   bind key name chance) (open_state records)
 
--- this slot is damaged
-abbrev pub bound_sound : State → Key → (name : List ℕ) → Chance → (level : ℕ) → (damaged : Option ℕ) → Outcome (List ℕ)
-bound_sound state key name chance level damaged = event (do
-  refuse_some (option_map Damaged damaged)
-  open_signer
-  begin_trees key (bottom_of key.secret - level) chance.trees
-  bind key name chance) state
-
--- this level is the deepest with a free leaf
-abbrev pub bound_level : (limit : ℕ) → State → Key → (name : List ℕ) → Chance → (level : Option ℕ) → Outcome (List ℕ)
-bound_level limit state key name chance deepest = event (do
-  records ← the_records
-  level ← some_or Exhausted deepest
-  refuse_if LedgerFull (nat_lt limit (length records + wanted_count key.secret level))
-  refuse_if OutOfMemory (not chance.has_room)
-  refuse_some (option_map Damaged (damaged_at key level records (current_at level records (length records))))
-  open_signer
-  begin_trees key (bottom_of key.secret - level) chance.trees
-  bind key name chance) state
-
--- ---- a request
-
 -- the name is bound so, or isn't
 abbrev pub requested_binding : (limit : ℕ) → State → Key → (name : List ℕ) → Chance → Option (ℕ × Bound)
     → Outcome (List ℕ)
 requested_binding limit state key name chance found = event (repeat_or_bind limit key name chance found) state
-
--- record 0 is this key, or none
-abbrev pub requested_key : (limit : ℕ) → State → (name : List ℕ) → Chance → Option Key → Outcome (List ℕ)
-requested_key limit state name chance found = event (do
-  key ← some_or Stopped found
-  refuse_if Stopped (not state.is_open)
-  refuse_if Moved (has_moved state.records)
-  records ← the_records
-  repeat_or_bind limit key name chance (binding_at records name)) state
-
--- ---- retire
-
--- record 0 is this key, or none
-abbrev pub retired_key : (limit : ℕ) → State → (upto : ℕ) → Fate → Option Key → Outcome (Unit {0})
-retired_key limit state upto fate found = event (do
-  key ← some_or Stopped found
-  refuse_if Stopped (not state.is_open)
-  refuse_if Moved (has_moved state.records)
-  records ← the_records
-  bottom ← give (bottom_of key.secret)
-  refuse_if RetireRange (nat_lt (leaves_of_current key.secret records bottom) upto)
-  answer_if tt (nat_le upto (next_at key.secret records bottom))
-  refuse_if LedgerFull (nat_lt limit (length records + 1))
-  append (Retire upto) fate) state

@@ -1,10 +1,7 @@
 -- The chains of LMS trees that a signer makes in memory, and what they sign.
-use Rattle.std.specs.Prelude.{◌≡◌, ℕ, zero, suc, List, map, slice_get, Some, ◌&&◌, Bool}
-use Rattle.lmots.specs.Key.{message_digest_of}
-use Rattle.lms.specs.declared.key.LmsPublic.{LmsPublic}
+use Rattle.std.specs.Prelude.{◌≡◌, ℕ, zero, suc, List, map, slice_get, Some}
 use Rattle.typecodes.specs.declared.secret.LmsSecret.{LmsSecret}
 use Rattle.lms.specs.Secret.{leaf_path, root_of_secret}
-use Rattle.lms.specs.Writing.{public_bytes}
 use Rattle.lms.specs.declared.signing_tree.SigningTree.{SigningTree}
 use Rattle.lms.specs.SigningTree.{path_of_tree}
 use Rattle.hss.specs.declared.secret.Level.{Level}
@@ -19,7 +16,6 @@ use Rattle.state_file.specs.declared.record.Secret.TheVariants.{Xmss}
 use Rattle.sign_core.specs.declared.key_trees.KeyTrees.{KeyTrees}
 use Rattle.sign_core.specs.declared.key_trees.SecretTrees.{SecretTrees}
 use Rattle.sign_core.specs.declared.key_trees.SecretTrees.TheVariants.{Chain, Xmss as XmssTree}
-use Rattle.sign_core.specs.Records.{are_same}
 use Rattle.sign_core.specs.Textbook.{Trees, secret_at, leaf_signing, trees_of}
 
 abbrev pub chain_trees : KeyTrees → Trees
@@ -62,8 +58,3 @@ pub record IsTreeBy (secret : LmsSecret) (leaf : ℕ) (tree : SigningTree) : Typ
   pub secret_is : tree.secret ≡ secret
   pub leaf_is : tree.leaf ≡ leaf
   pub made : IsMade tree
-
--- whether an Extend has the root of a public key, and the key's digest under the parent's I and leaf
-abbrev pub says_key : Extend → (parent : List ℕ) → LmsPublic → Bool
-says_key extend parent public = are_same extend.root public.root
-    && are_same extend.digest (message_digest_of parent extend.parent_leaf extend.randomizer (public_bytes public))

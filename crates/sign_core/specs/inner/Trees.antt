@@ -1,14 +1,11 @@
 -- What private functions alone cite of `Trees.antt`'s subject.
 use Rattle.std.specs.Prelude.{◌≡◌, ℕ, ◌-◌, List, [], ◌∷◌, ◌++◌, length, slice_get, Option, Some, None, max, nat_eq}
 use Rattle.std.specs.Prelude.{nat_lt, if◌then◌else◌}
-use Rattle.state_file.specs.declared.record.Bound.{Bound}
 use Rattle.state_file.specs.declared.record.Extend.{Extend}
 use Rattle.state_file.specs.declared.record.Key.{Key}
 use Rattle.state_file.specs.declared.record.Record.{Record}
 use Rattle.state_file.specs.declared.record.Record.TheVariants.{Key as KeyRecord, Extend as ExtendRecord}
-use Rattle.state_file.specs.declared.record.Record.TheVariants.{Bound as BoundRecord, Retire}
 use Rattle.state_file.specs.declared.record.Secret.{Secret}
-use Rattle.state_file.specs.Laws.{bottom_of}
 use Rattle.sign_core.specs.Records.{current}
 use Rattle.sign_core.specs.declared.trees.Tree.{Tree}
 use Rattle.sign_core.specs.Trees.{HasTrees, kept_at}
@@ -17,10 +14,6 @@ use Rattle.sign_core.specs.Trees.{HasTrees, kept_at}
 abbrev pub place_of : Option Tree → ℕ
 place_of None = 0
 place_of (Some tree) = tree.place
-
--- The levels above one keep their trees, and no other has one.
-abbrev pub AreAbove : (old : List (Option Tree)) (level : ℕ) (new : List (Option Tree)) → Type 0
-AreAbove old level new = (k : ℕ) → kept_at new k ≡ (if nat_lt k level then kept_at old k else None)
 
 -- A level has a new tree, the levels above it keep theirs, and those below it have none.
 abbrev pub IsBegun : (old : List (Option Tree)) (level place : ℕ) (new : List (Option Tree)) → Type 0
@@ -45,18 +38,3 @@ FollowsExtend old level parent_leaf place new =
     → slice_get records 0 ≡ Some (KeyRecord key) → length records ≡ place → extend.level ≡ level
     → extend.parent_leaf ≡ parent_leaf → current (level - 1) records ≡ Some above
     → HasTrees secret records old → HasTrees secret (records ++ ExtendRecord extend ∷ []) new
-
--- The same after a Bound, in the current bottom tree.
-abbrev pub FollowsBound : (old : List (Option Tree)) (bottom leaf : ℕ) (new : List (Option Tree)) → Type 0
-FollowsBound old bottom leaf new =
-    (secret : Secret) (records : List Record) (key : Key) (bound : Bound) (tree : ℕ)
-    → slice_get records 0 ≡ Some (KeyRecord key) → bottom_of secret ≡ bottom → bound.leaf ≡ leaf
-    → current bottom records ≡ Some tree
-    → HasTrees secret records old → HasTrees secret (records ++ BoundRecord bound ∷ []) new
-
--- The same after a Retire.
-abbrev pub FollowsRetire : (old : List (Option Tree)) (bottom upto : ℕ) (new : List (Option Tree)) → Type 0
-FollowsRetire old bottom upto new =
-    (secret : Secret) (records : List Record) (key : Key) (tree : ℕ)
-    → slice_get records 0 ≡ Some (KeyRecord key) → bottom_of secret ≡ bottom → current bottom records ≡ Some tree
-    → HasTrees secret records old → HasTrees secret (records ++ Retire upto ∷ []) new

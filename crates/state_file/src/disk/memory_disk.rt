@@ -6,7 +6,8 @@ ghost use Rattle.std.proofs.Props.{props};
 ghost use Rattle.typecodes.specs.Layout.{AreBytes};
 ghost use Rattle.state_file.specs.Disk.{MayLeave, settled, WritesBytes, Syncs, Counts};
 ghost use Rattle.state_file.specs.Disk.{is_failure, is_past_end};
-ghost use Rattle.state_file.specs.Log.{LeftBy, left_now, left_only_now};
+ghost use Rattle.state_file.specs.Log.{LeftBy};
+ghost use Rattle.state_file.specs.inner.Log.{left_now, left_only_now};
 
 use crate::disk::log::{Entry, base, keep, longest_left, part, write};
 use crate::disk::{Disk, DiskFault};

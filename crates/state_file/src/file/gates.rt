@@ -5,7 +5,7 @@ ghost use Rattle.std.specs.Prelude.{length, slice_range, IfOk, OnOk};
 ghost use Rattle.state_file.specs.File.{open_value};
 ghost use Rattle.state_file.specs.Disk.{settled, range_of, ChangesOnly, IsSynced, LeavesOnly, MayLeave};
 ghost use Rattle.state_file.specs.Disk.{is_failure};
-ghost use Rattle.state_file.specs.DiskCalls.{CountsFailuresWithoutReads, ReadsDisk};
+ghost use Rattle.state_file.specs.inner.DiskCalls.{CountsFailuresWithoutReads, ReadsDisk};
 ghost use Rattle.state_file.specs.Gates.{AddsSlot, IsClosedAfter, IsAtRest, slot_and_gate};
 
 use crate::disk::{Disk, DiskFault};

@@ -9,9 +9,12 @@ ghost use Rattle.state_file.specs.Laws.{has_moved, is_moved};
 ghost use Rattle.state_file.specs.Slot.{slot_record};
 ghost use Rattle.state_file.specs.declared.record.Record.{Record as Entry};
 ghost use Rattle.state_file.specs.Disk.{settled, MayLeave, LeavesOnly, is_failure};
-ghost use Rattle.state_file.specs.DiskCalls.{CountsFailures, ReadsDisk};
-ghost use Rattle.state_file.specs.Opening.{is_failed_opening, HasBytes, HasEntry, HasSlot, IsFound, IsLengthOf};
-ghost use Rattle.state_file.specs.Opening.{KeepsContent, StartsWithKey, ReportsDisk, ReportsSlot};
+ghost use Rattle.state_file.specs.DiskCalls.{CountsFailures};
+ghost use Rattle.state_file.specs.inner.DiskCalls.{ReadsDisk};
+ghost use Rattle.state_file.specs.Opening.{is_failed_opening};
+ghost use Rattle.state_file.specs.inner.Opening.{HasBytes, HasEntry, HasSlot, IsFound, IsLengthOf};
+ghost use Rattle.state_file.specs.Opening.{KeepsContent};
+ghost use Rattle.state_file.specs.inner.Opening.{StartsWithKey, ReportsDisk, ReportsSlot};
 
 use crate::disk::{Disk, DiskFault};
 use crate::file::gates::{SLOT, read_within, sync_and_len};

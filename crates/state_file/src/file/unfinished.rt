@@ -3,9 +3,10 @@
 ghost use Rattle.std.specs.Prelude.{◌≡◌, ◌⊎◌, ◌+◌, ◌*◌, ◌<◌, ◌≤◌, ◌∷◌, [], ◌++◌, ℕ, List, IsTrue, length};
 ghost use Rattle.std.specs.Prelude.{slice_range, OnOk};
 ghost use Rattle.state_file.specs.Disk.{range_of, ChangesOnly, IsSynced, LeavesOnly, is_failure};
-ghost use Rattle.state_file.specs.DiskCalls.{CountsFailuresWithoutReads};
+ghost use Rattle.state_file.specs.inner.DiskCalls.{CountsFailuresWithoutReads};
 ghost use Rattle.state_file.specs.File.{HasNoKey, IsClosed, open_value};
-ghost use Rattle.state_file.specs.Filling.{IsUnfinished, after_first_gate, gate_opened, first_offsets};
+ghost use Rattle.state_file.specs.Filling.{first_offsets};
+ghost use Rattle.state_file.specs.inner.Filling.{IsUnfinished, after_first_gate, gate_opened};
 ghost use Rattle.state_file.specs.Gates.{IsClosedAfter};
 ghost use Rattle.state_file.specs.Place.{IsFreePlace};
 

@@ -6,13 +6,14 @@ ghost use Rattle.state_file.specs.Carried.{carried};
 ghost use Rattle.state_file.specs.Disk.{ChangesOnly, IsSynced, LeavesOnly};
 ghost use Rattle.state_file.specs.File.{IsClosed, IsFileOf, SpellsRecords};
 ghost use Rattle.state_file.specs.FileStore.{disk_of, has_stopped, records_of};
-ghost use Rattle.state_file.specs.Filling.{CountsEither, IsCopied, IsUnfinished, LeftByFill, LoadsCarried};
-ghost use Rattle.state_file.specs.Filling.{after_first_gate, gate_opened};
+ghost use Rattle.state_file.specs.Filling.{CountsEither, LeftByFill};
+ghost use Rattle.state_file.specs.inner.Filling.{IsCopied, IsUnfinished, LoadsCarried};
+ghost use Rattle.state_file.specs.inner.Filling.{after_first_gate, gate_opened};
 ghost use Rattle.state_file.specs.Laws.{has_moved};
 ghost use Rattle.state_file.specs.Migration.{FillsPlace};
 ghost use Rattle.state_file.specs.Place.{IsFreePlace};
 ghost use Rattle.state_file.specs.Slot.{FitsVersion};
-ghost use Rattle.state_file.specs.StoreReads.{ReadsStore};
+ghost use Rattle.state_file.specs.inner.StoreReads.{ReadsStore};
 
 use crate::disk::{Disk, DiskFault};
 use crate::file::{finish, prepare, write_slot};

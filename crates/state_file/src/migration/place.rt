@@ -4,7 +4,8 @@ ghost use Rattle.std.specs.Prelude.{◌≡◌, IsTrue, IfErr, IfOk};
 ghost use Rattle.state_file.specs.Disk.{LeavesOnly, MayLeave};
 ghost use Rattle.state_file.specs.DiskCalls.{CountsFailures};
 ghost use Rattle.state_file.specs.MigrateFault.{is_failed_migration};
-ghost use Rattle.state_file.specs.Place.{FindsPlace, IsFreePlace, IsFreePlace-prop, RefusesPlace};
+ghost use Rattle.state_file.specs.Place.{FindsPlace, IsFreePlace, RefusesPlace};
+ghost use Rattle.state_file.specs.inner.Place.{IsFreePlace-prop};
 
 use crate::disk::Disk;
 use crate::file::{SLOT, read_within, sync_and_len};

@@ -3,7 +3,7 @@
 ghost use Rattle.std.specs.Prelude.{◌≡◌, ◌<◌, ◌≤◌, ◌+◌, ◌^◌, true, false, length, MatchOption};
 ghost use Rattle.arrayvec.specs.ArrayVec.{array_vec_len};
 ghost use Rattle.typecodes.specs.Cursor.{read, Gives};
-ghost use Rattle.state_file.specs.Fields.{Advances, Puts};
+ghost use Rattle.state_file.specs.inner.Fields.{Advances, Puts};
 ghost use Rattle.state_file.specs.Slot.{are_visible, bound_fields, name_field, name_most};
 
 use crate::record::{Bound, Record, Version};

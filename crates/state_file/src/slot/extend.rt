@@ -3,7 +3,7 @@
 ghost use Rattle.std.specs.Prelude.{◌<◌, ◌≤◌, ◌+◌, ◌^◌};
 ghost use Rattle.arrayvec.specs.ArrayVec.{array_vec_len};
 ghost use Rattle.typecodes.specs.Cursor.{read, Gives};
-ghost use Rattle.state_file.specs.Fields.{Advances, Puts};
+ghost use Rattle.state_file.specs.inner.Fields.{Advances, Puts};
 ghost use Rattle.state_file.specs.Slot.{extend_fields};
 
 use crate::record::{Extend, Record};

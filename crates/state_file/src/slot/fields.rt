@@ -5,7 +5,7 @@ ghost use Rattle.std.specs.List.{list_all};
 ghost use Rattle.arrayvec.specs.ArrayVec.{array_vec_len};
 ghost use Rattle.typecodes.specs.Fields.{block, number};
 ghost use Rattle.typecodes.specs.Cursor.{read, Gives};
-ghost use Rattle.state_file.specs.Fields.{Advances, Puts};
+ghost use Rattle.state_file.specs.inner.Fields.{Advances, Puts};
 ghost use Rattle.state_file.specs.Slot.{byte, bounded_byte, exactly, zeros};
 
 use arrayvec::ArrayVec;

@@ -5,8 +5,9 @@ ghost use Rattle.arrayvec.specs.ArrayVec.{array_vec_len};
 ghost use Rattle.typecodes.specs.Layout.{Spells};
 ghost use Rattle.typecodes.specs.Cursor.{read, Gives, Reads};
 ghost use Rattle.state_file.specs.declared.record.Record.{Record as Entry};
-ghost use Rattle.state_file.specs.Fields.{Advances, Puts};
-ghost use Rattle.state_file.specs.Slot.{FitsVersion, fields_of, kind_of, moved_fields, retire_fields, slot_record};
+ghost use Rattle.state_file.specs.inner.Fields.{Advances, Puts};
+ghost use Rattle.state_file.specs.Slot.{FitsVersion, fields_of, moved_fields, retire_fields, slot_record};
+ghost use Rattle.state_file.specs.inner.Slot.{kind_of};
 
 use crate::record::{Record, Version};
 use crate::slot::bound::{put_bound, read_bound};

@@ -3,8 +3,9 @@
 ghost use Rattle.std.specs.Prelude.{◌≡◌, ◌<◌, ◌≤◌, ◌+◌, ◌*◌, ◌^◌, length, take};
 ghost use Rattle.arrayvec.specs.ArrayVec.{array_vec_len};
 ghost use Rattle.typecodes.specs.Cursor.{read, Gives};
-ghost use Rattle.state_file.specs.Fields.{Advances, Puts};
-ghost use Rattle.state_file.specs.Slot.{hss_fields, levels_field, lms_fields, pair_field, pairs, scheme_of};
+ghost use Rattle.state_file.specs.inner.Fields.{Advances, Puts};
+ghost use Rattle.state_file.specs.Slot.{hss_fields, levels_field, lms_fields, pair_field, pairs};
+ghost use Rattle.state_file.specs.inner.Slot.{scheme_of};
 ghost use Rattle.state_file.specs.Slot.{secret_fields, xmss_fields};
 
 use crate::record::Secret;

@@ -4,7 +4,8 @@ ghost use Rattle.std.specs.Prelude.{◌≡◌, ◌≢◌, ◌⊎◌, ◌≤◌, 
 ghost use Rattle.std.specs.Prelude.{IfOk, IfErr, OnOk, length};
 ghost use Rattle.state_file.specs.Disk.{ChangesOnly, Counts, LeavesOnly};
 ghost use Rattle.state_file.specs.DiskCalls.{CountsFailures, OnlyReads};
-ghost use Rattle.state_file.specs.File.{IsSyncedFile, IsSyncedFile-prop, LeftLists, StandsFor, most_records, tag_at};
+ghost use Rattle.state_file.specs.File.{IsSyncedFile, LeftLists, StandsFor, most_records, tag_at};
+ghost use Rattle.state_file.specs.inner.File.{IsSyncedFile-prop};
 ghost use Rattle.state_file.specs.Gates.{AddsSlot, slot_and_gate};
 ghost use Rattle.std.proofs.Common.{inl};
 ghost use Rattle.state_file.specs.Store.{AddsGiven, AddsLoad, Appends, CanFollow, Collects, Loads, ReadsTag};
@@ -175,8 +176,9 @@ impl<D: Disk + Drop> FileStore<D> {
 }
 
 impl<D: Disk + Drop> Store for FileStore<D> {
-    ghost use Rattle.state_file.specs.FileStore.{LeavesLists, WhileStoreRuns, disk_of, has_stopped, kept_list};
-    ghost use Rattle.state_file.specs.FileStore.{kept_stands};
+    ghost use Rattle.state_file.specs.FileStore.{LeavesLists, WhileStoreRuns, disk_of, has_stopped};
+    ghost use Rattle.state_file.specs.inner.FileStore.{kept_list};
+    ghost use Rattle.state_file.specs.inner.FileStore.{kept_stands};
     ghost use Rattle.state_file.specs.FileStore.{given_of, loads_of, records_of, unreadable_of};
 
     ghost list = { λ store. records_of store };

@@ -101,8 +101,10 @@ impl MemoryStore {
 }
 
 impl Store for MemoryStore {
-    ghost use Rattle.state_file.specs.MemoryStore.{Cuts, HadBeen, HasRoom, KeepsRecords, LeavesInMemory, had_been_all};
-    ghost use Rattle.state_file.specs.MemoryStore.{cut_of, failures_of, given_of, had_been_only, is_stopped, limit_of};
+    ghost use Rattle.state_file.specs.MemoryStore.{Cuts, HadBeen, HasRoom, KeepsRecords, LeavesInMemory};
+    ghost use Rattle.state_file.specs.inner.MemoryStore.{had_been_all};
+    ghost use Rattle.state_file.specs.MemoryStore.{cut_of, failures_of, given_of, is_stopped, limit_of};
+    ghost use Rattle.state_file.specs.inner.MemoryStore.{had_been_only};
     ghost use Rattle.state_file.specs.MemoryStore.{loads_of, records_of, refusals_of};
 
     ghost list = { records_of };

@@ -5,7 +5,8 @@ ghost use Rattle.std.specs.Prelude.{slice_index, slice_index_or};
 ghost use Rattle.std.specs.Int.{w64, to_be_bytes};
 ghost use Rattle.std.proofs.Props.{props};
 ghost use Rattle.sha2.specs.Sha256.{digest_bytes, initial_hash_256, rounds, sha256, word_at};
-ghost use Rattle.winternitz.specs.Lanes.{joined_word, lane, lanes, lane_state, step_bytes, value_at};
+ghost use Rattle.winternitz.specs.Lanes.{lane, lanes, lane_state, step_bytes, value_at};
+ghost use Rattle.winternitz.specs.inner.Lanes.{joined_word};
 
 use crate::lanes::rounds::{add, compress_from_five, constant, five_rounds, shifted, shifted_left};
 use crate::lanes::{LANES, States, Words, initial, side_by_side, words_of};

@@ -1,6 +1,7 @@
 use Rattle.std.proofs.Common.{ap, ◌∙◌, map, sym, subst}
 use Rattle.clap.specs.Words.{HasKind, fault_of, is_simple, is_simple_and_free, subcommand_of}
-use Rattle.command.specs.Line.{hbsign_app, task_found, task_or_fault}
+use Rattle.command.specs.Line.{hbsign_app, task_found}
+use Rattle.command.specs.inner.Line.{task_or_fault}
 use Rattle.command.proofs.Finding.{handed_err, usage_kind_is, or_others}
 use Rattle.command.proofs.Walking.{simple, simple_and_free}
 use Rattle.command.proofs.line.read.Goals as goal

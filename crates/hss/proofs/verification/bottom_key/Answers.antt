@@ -2,7 +2,8 @@ use Rattle.std.proofs.Common.{◌≡◌, ◌∙◌, ◌+◌, ◌<◌, ◌≤◌,
 use Rattle.std.proofs.lemmas.Bool.{cases_lt}
 use Rattle.lms.specs.declared.key.LmsPublic.{LmsPublic}
 use Rattle.hss.specs.Signature.{key_at}
-use Rattle.hss.specs.Verification.{AboveVerdict, IsValidAt}
+use Rattle.hss.specs.Verification.{IsValidAt}
+use Rattle.hss.specs.inner.Verification.{AboveVerdict}
 use Rattle.hss.specs.View.{signature_of}
 use Rattle.hss.proofs.Verifying.{above-refused, level-at, level-refused, valid-at}
 use Rattle.hss.proofs.verification.bottom_key.Goals.{in-Some+in_ok-verify_by, in_default}

@@ -3,7 +3,8 @@ use Rattle.std.specs.Prelude.{sum_by}
 use Rattle.std.specs.List.{flat_map}
 use Rattle.typecodes.specs.Layout.{Spells}
 use Rattle.hss.specs.SignedKey.{signed_keys}
-use Rattle.hss.specs.Writing.{part_size, made_signature, signed_key_bytes}
+use Rattle.hss.specs.Writing.{made_signature, signed_key_bytes}
+use Rattle.hss.specs.inner.Writing.{part_size}
 use Rattle.hss.proofs.writing.write_above.Given as goal
 
 -- the signed keys so far were written, and spell themselves

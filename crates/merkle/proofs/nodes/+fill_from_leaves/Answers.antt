@@ -1,7 +1,7 @@
 use Rattle.std.proofs.Common.{rules, arith, refl, sym, ap, subst, ◌∙◌, ◌≡◌, length, ◌-◌, ◌+◌, ◌*◌, ◌<◌, ◌^◌, ◌/◌, ◌∷◌, []}
 use Rattle.std.specs.Prelude.{take, drop}
 use Rattle.std.proofs.lemmas.Grind.{pow_more}
-use Rattle.merkle.specs.Nodes.{AreUnder}
+use Rattle.merkle.specs.inner.Nodes.{AreUnder}
 use Rattle.merkle.proofs.Halves.{first_count, first_under, second_count, second_under}
 use Rattle.merkle.proofs.Listing.{halves_inside, nodes_over_halves, half_long, half_room, half_some}
 use Rattle.merkle.proofs.Listing.{nodes_one, one_written}

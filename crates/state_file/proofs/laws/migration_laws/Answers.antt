@@ -1,6 +1,6 @@
 use Rattle.state_file.proofs.Contents.{no_key_cannot}
 use Rattle.state_file.proofs.Moved.{free_leaves, moved_signs_nothing, moved_spelled}
-use Rattle.state_file.specs.FileStore.{kept_leaves}
+use Rattle.state_file.specs.inner.FileStore.{kept_leaves}
 use Rattle.state_file.proofs.laws.migration_laws.Goals as goal
 
 pub returns-clause-places : goal.returns-clause-places

@@ -1,6 +1,6 @@
 -- Each chain that was on its way is on it, by the lanes so far.
 use Rattle.std.proofs.Common.{◌≡◌, ℕ, List, length}
-use Rattle.winternitz.specs.Groups.{IsOnItsWay}
+use Rattle.winternitz.specs.inner.Groups.{IsOnItsWay}
 use Rattle.winternitz.proofs.groups.climb_batch.Given as goal
 
 abbrev pub invariant-loop-lane : goal.invariant-loop-lane

@@ -1,6 +1,6 @@
 -- Each chain that was on its way still is.
 use Rattle.std.proofs.Common.{ℕ, ◌<◌, List, length}
-use Rattle.winternitz.specs.Groups.{IsOnItsWay}
+use Rattle.winternitz.specs.inner.Groups.{IsOnItsWay}
 use Rattle.winternitz.proofs.groups.climb_together.Given as goal
 
 abbrev pub invariant-loop-batch : goal.invariant-loop-batch

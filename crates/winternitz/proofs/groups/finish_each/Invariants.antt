@@ -1,6 +1,6 @@
 -- The chains so far are at their ends, and the others where they were.
 use Rattle.std.proofs.Common.{◌≡◌, ℕ, ◌<◌, ◌≤◌, [], length, slice_index_or}
-use Rattle.winternitz.specs.Chain.{walk_at}
+use Rattle.winternitz.specs.inner.Chain.{walk_at}
 use Rattle.winternitz.proofs.groups.finish_each.Given as goal
 
 abbrev pub invariant-loop-i : goal.invariant-loop-i

@@ -1,7 +1,7 @@
 -- The words so far.
 use Rattle.std.proofs.Common.{◌≡◌, ℕ, ◌*◌, ◌<◌, ◌^◌, length, slice_index}
 use Rattle.std.specs.Int.{w32, to_be_bytes}
-use Rattle.winternitz.specs.Lanes.{four_bytes}
+use Rattle.winternitz.specs.inner.Lanes.{four_bytes}
 use Rattle.winternitz.proofs.lanes.words_of.Given as goal
 
 abbrev pub invariant-loop-k : goal.invariant-loop-k

@@ -1,6 +1,7 @@
 use Rattle.std.proofs.Common.{[], ◌∷◌, length, length-append, ◌∙◌, ap, subst, arith, rules}
 use Rattle.state_file.specs.Disk.{DiskState}
-use Rattle.state_file.specs.Opening.{HasSlot, ReportsContent, ReportsSlot}
+use Rattle.state_file.specs.Opening.{ReportsContent}
+use Rattle.state_file.specs.inner.Opening.{HasSlot, ReportsSlot}
 use Rattle.state_file.proofs.Finding.{fault_reported, found_all, found_damaged, found_more, gate_within, found_open, reads_on, found_closed}
 use Rattle.state_file.proofs.Lists.{pushed_moved}
 use Rattle.state_file.proofs.file.opening.read_slots.Goals as goal

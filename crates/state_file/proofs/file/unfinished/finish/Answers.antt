@@ -1,7 +1,8 @@
 use Rattle.std.proofs.Common.{◌≡◌, ◌⊎◌, ◌∷◌, [], refl, ◌∙◌}
 use Rattle.state_file.specs.Disk.{ChangesOnly, IsSynced}
 use Rattle.state_file.specs.File.{HasNoKey}
-use Rattle.state_file.specs.Filling.{first_offsets, gate_opened}
+use Rattle.state_file.specs.Filling.{first_offsets}
+use Rattle.state_file.specs.inner.Filling.{gate_opened}
 use Rattle.state_file.proofs.Filling.{at_gate, before_gate, gate_done}
 use Rattle.state_file.proofs.Moments.{combined, ok_along, weaker}
 use Rattle.state_file.proofs.file.unfinished.finish.Goals as goal

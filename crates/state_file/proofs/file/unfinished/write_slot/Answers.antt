@@ -3,7 +3,7 @@ use Rattle.state_file.proofs.Adding.{block_size}
 use Rattle.state_file.proofs.Filling.{put_first, put_next}
 use Rattle.state_file.proofs.Moments.{ok_along}
 use Rattle.state_file.specs.File.{open_value}
-use Rattle.state_file.specs.Filling.{gate_opened}
+use Rattle.state_file.specs.inner.Filling.{gate_opened}
 use Rattle.state_file.specs.Gates.{IsClosedAfter}
 use Rattle.state_file.proofs.file.unfinished.write_slot.Goals as goal
 

@@ -5,8 +5,8 @@ use Rattle.state_file.specs.Carried.{carried}
 use Rattle.state_file.specs.Disk.{ChangesOnly, IsSynced, LeavesOnly}
 use Rattle.state_file.specs.File.{IsClosed}
 use Rattle.state_file.specs.FileStore.{disk_of, has_stopped, records_of}
-use Rattle.state_file.specs.Filling.{IsCopied, IsUnfinished, after_first_gate}
-use Rattle.state_file.specs.StoreReads.{ReadsStore}
+use Rattle.state_file.specs.inner.Filling.{IsCopied, IsUnfinished, after_first_gate}
+use Rattle.state_file.specs.inner.StoreReads.{ReadsStore}
 use Rattle.state_file.proofs.migration.filling.copy_slots.Given as goal
 
 abbrev pub invariant-loop-copied : goal.invariant-loop-copied

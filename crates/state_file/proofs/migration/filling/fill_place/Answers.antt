@@ -3,7 +3,8 @@ use Rattle.std.specs.Prelude.{IsTrue}
 use Rattle.state_file.specs.Carried.{carried}
 use Rattle.state_file.specs.Disk.{LeavesOnly}
 use Rattle.state_file.specs.File.{SpellsRecords}
-use Rattle.state_file.specs.Filling.{LeftByFill, gate_opened}
+use Rattle.state_file.specs.Filling.{LeftByFill}
+use Rattle.state_file.specs.inner.Filling.{gate_opened}
 use Rattle.state_file.proofs.Carried.{carried_list}
 use Rattle.state_file.proofs.Filled.{carried_spelled, left_copied, left_finished, left_prepared}
 use Rattle.state_file.proofs.Moments.{combined, weaker}

@@ -1,6 +1,6 @@
 use Rattle.std.proofs.Common.{inl}
 use Rattle.state_file.proofs.Moments.{started}
-use Rattle.state_file.specs.FileStore.{kept_leaves}
+use Rattle.state_file.specs.inner.FileStore.{kept_leaves}
 use Rattle.state_file.proofs.migration.sealing.append_moved.Goals as goal
 
 pub returns-then-has_moved-clause-any_moment : goal.returns-then-has_moved-clause-any_moment

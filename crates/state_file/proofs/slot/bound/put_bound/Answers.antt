@@ -4,7 +4,7 @@ use Rattle.typecodes.specs.Fields.{block, number}
 use Rattle.state_file.specs.declared.record.Record.{Record}
 use Rattle.state_file.specs.declared.record.Record.TheVariants.{Bound}
 use Rattle.state_file.specs.Slot.{bound_fields, name_field, name_most, zeros}
-use Rattle.state_file.specs.Fields.{AppendsSpelling}
+use Rattle.state_file.specs.inner.Fields.{AppendsSpelling}
 use Rattle.state_file.proofs.Written.{writes-bind, writes-done}
 use Rattle.state_file.proofs.slot.bound.put_bound.Goals as goal
 

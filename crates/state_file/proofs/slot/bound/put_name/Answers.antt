@@ -1,6 +1,6 @@
 use Rattle.std.proofs.Common.{ℕ, ◌-◌, List, length, ap, subst, arith}
 use Rattle.state_file.specs.Slot.{name_field, zeros}
-use Rattle.state_file.specs.Fields.{AppendsSpelling}
+use Rattle.state_file.specs.inner.Fields.{AppendsSpelling}
 use Rattle.state_file.proofs.Written.{writes-name}
 use Rattle.state_file.proofs.slot.bound.put_name.Goals as goal
 

@@ -2,8 +2,9 @@ use Rattle.std.proofs.Common.{ℕ, subst, arith}
 use Rattle.typecodes.specs.Fields.{block}
 use Rattle.state_file.specs.declared.record.Record.{Record}
 use Rattle.state_file.specs.declared.record.Record.TheVariants.{Key}
-use Rattle.state_file.specs.Slot.{byte, exactly, key_fields, magic, secret_fields, version_field, zeros, scheme_of}
-use Rattle.state_file.specs.Fields.{AppendsSpelling}
+use Rattle.state_file.specs.Slot.{byte, exactly, key_fields, magic, secret_fields, version_field, zeros}
+use Rattle.state_file.specs.inner.Slot.{scheme_of}
+use Rattle.state_file.specs.inner.Fields.{AppendsSpelling}
 use Rattle.state_file.proofs.Written.{writes-bind, writes-done}
 use Rattle.state_file.proofs.slot.key.put_key.Goals as goal
 

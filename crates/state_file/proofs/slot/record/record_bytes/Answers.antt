@@ -1,7 +1,8 @@
 use Rattle.std.proofs.Common.{◌≡◌, ◌∙◌, ◌++◌, ℕ, subst, sym, ap}
 use Rattle.typecodes.specs.Layout.{Spells}
-use Rattle.state_file.specs.Slot.{byte, fields_of, slot_record, kind_of}
-use Rattle.state_file.specs.Fields.{AppendsSpelling}
+use Rattle.state_file.specs.Slot.{byte, fields_of, slot_record}
+use Rattle.state_file.specs.inner.Slot.{kind_of}
+use Rattle.state_file.specs.inner.Fields.{AppendsSpelling}
 use Rattle.state_file.proofs.Written.{writes-bind}
 use Rattle.state_file.proofs.slot.record.record_bytes.Goals as goal
 

@@ -1,7 +1,7 @@
 use Rattle.std.proofs.Common.{◌-◌, ◌*◌, List, length, subst, arith}
 use Rattle.typecodes.specs.declared.types.LmsPair.{LmsPair}
 use Rattle.state_file.specs.Slot.{bounded_byte, levels_field, pairs, zeros}
-use Rattle.state_file.specs.Fields.{AppendsSpelling}
+use Rattle.state_file.specs.inner.Fields.{AppendsSpelling}
 use Rattle.state_file.proofs.Written.{writes-bind, writes-done}
 use Rattle.state_file.proofs.slot.secret.put_levels.Goals as goal
 

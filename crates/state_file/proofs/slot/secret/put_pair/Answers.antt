@@ -1,7 +1,7 @@
 use Rattle.std.proofs.Common.{ℕ, List, subst, arith}
 use Rattle.typecodes.specs.Fields.{lms_type, number, ots_type}
 use Rattle.state_file.specs.Slot.{pair_field}
-use Rattle.state_file.specs.Fields.{AppendsSpelling}
+use Rattle.state_file.specs.inner.Fields.{AppendsSpelling}
 use Rattle.state_file.proofs.Written.{writes-bind, writes-done, writes-lms_type, writes-ots_type}
 use Rattle.state_file.proofs.slot.secret.put_pair.Goals as goal
 

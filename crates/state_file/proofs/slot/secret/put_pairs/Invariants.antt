@@ -1,6 +1,6 @@
 use Rattle.std.proofs.Common.{◌*◌, take}
 use Rattle.state_file.specs.Slot.{pairs}
-use Rattle.state_file.specs.Fields.{Puts}
+use Rattle.state_file.specs.inner.Fields.{Puts}
 use Rattle.state_file.proofs.slot.secret.put_pairs.Given as goal
 
 abbrev pub invariant-loop-pair : goal.invariant-loop-pair

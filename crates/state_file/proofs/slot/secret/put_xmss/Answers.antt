@@ -3,7 +3,7 @@ use Rattle.typecodes.specs.Fields.{block, number, xmss_type}
 use Rattle.state_file.specs.declared.record.Secret.{Secret}
 use Rattle.state_file.specs.declared.record.Secret.TheVariants.{Xmss}
 use Rattle.state_file.specs.Slot.{exactly, xmss_fields, zeros}
-use Rattle.state_file.specs.Fields.{AppendsSpelling}
+use Rattle.state_file.specs.inner.Fields.{AppendsSpelling}
 use Rattle.state_file.proofs.Written.{writes-bind, writes-done, writes-xmss_type}
 use Rattle.state_file.proofs.slot.secret.put_xmss.Goals as goal
 

@@ -1,5 +1,6 @@
 use Rattle.std.proofs.Common.{◌∙◌, ap, slice_index}
-use Rattle.winternitz.specs.Lanes.{joined_word, lane_at}
+use Rattle.winternitz.specs.Lanes.{lane_at}
+use Rattle.winternitz.specs.inner.Lanes.{joined_word}
 use Rattle.winternitz.proofs.Words.{tail_words}
 use Rattle.winternitz.proofs.lanes.beginning.block_words.Goals as goal
 

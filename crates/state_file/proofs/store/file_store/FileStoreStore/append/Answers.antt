@@ -2,7 +2,7 @@ use Rattle.std.proofs.Common.{inl, ◌*◌, [], ◌∷◌, ◌++◌, ℕ, length
 use Rattle.state_file.proofs.Lists.{kept_alone, lists_leave, lists_stay, pushed_moved}
 use Rattle.state_file.proofs.Moments.{started}
 use Rattle.state_file.specs.declared.store.file_store.FileStore.{FileStore}
-use Rattle.state_file.specs.FileStore.{kept_leaves}
+use Rattle.state_file.specs.inner.FileStore.{kept_leaves}
 use Rattle.state_file.specs.Disk.{ChangesOnly, LeavesOnly}
 use Rattle.state_file.specs.Gates.{AddsSlot, slot_and_gate}
 use Rattle.state_file.proofs.Kept.{appended_leaves, follows_key, kept_grows, kept_rests, kept_size}

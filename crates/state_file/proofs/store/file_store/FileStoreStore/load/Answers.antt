@@ -1,6 +1,6 @@
 use Rattle.std.proofs.Common.{◌≡◌, Some, refl, sym, ◌∙◌, ap, subst, arith, rules}
 use Rattle.typecodes.proofs.Spelling.{one_value}
-use Rattle.state_file.specs.FileStore.{kept_leaves}
+use Rattle.state_file.specs.inner.FileStore.{kept_leaves}
 use Rattle.typecodes.specs.Layout.{Spells}
 use Rattle.state_file.specs.File.{Holds, fields_at}
 use Rattle.state_file.specs.Slot.{slot_record, file_version}

@@ -1,6 +1,7 @@
 -- Chains that are partly climbed, and which of them climb together.
 use Rattle.std.specs.Prelude.{◌≡◌, ℕ, ◌+◌, ◌<◌, ◌≤◌, List, [], length, slice_index, slice_index_or}
-use Rattle.winternitz.specs.Chain.{Steps, walk_at}
+use Rattle.winternitz.specs.Chain.{Steps}
+use Rattle.winternitz.specs.inner.Chain.{walk_at}
 use Rattle.winternitz.specs.Lanes.{lanes}
 
 -- chain i stands between its two places, with the value that it has there

@@ -1,27 +1,24 @@
 -- What a slot's bytes show of its record: the kind, how a Key begins, and the version.
-use Rattle.std.proofs.Common.{◌≡◌, ℕ, Bool, true, false, cond, List, [], ◌∷◌, ◌++◌, take, Some}
-use Rattle.std.proofs.Common.{refl, sym, ap, ◌∙◌, subst, arith, eqb-true, append-nil}
-use Rattle.std.specs.Prelude.{◌-◌, ◌==◌, ◌&&◌, if◌then◌else◌, slice_get}
+use Rattle.std.proofs.Common.{◌≡◌, ℕ, Bool, true, false, cond, List, [], ◌∷◌, ◌++◌, Some, refl, sym, ap, ◌∙◌, subst}
+use Rattle.std.proofs.Common.{arith, eqb-true, append-nil}
+use Rattle.std.specs.Prelude.{◌-◌, ◌==◌, if◌then◌else◌}
 use Rattle.std.specs.Cmp.Lexicographic.{bytes_decides, pointwise}
-use Rattle.std.proofs.lemmas.Bool.{and_parts}
-use Rattle.std.proofs.lemmas.Option.{same_Some}
 use Rattle.byteorder.specs.Endian.{big_bytes, big_number}
 use Rattle.typecodes.specs.Layout.{Layout, done, field, ◌>>=◌, Spells, Shows}
-use Rattle.typecodes.specs.Fields.{xmss_type, block}
+use Rattle.typecodes.specs.Fields.{block}
 use Rattle.typecodes.specs.Types.{named}
 use Rattle.typecodes.proofs.OneWay.{shows-bind}
 use Rattle.typecodes.proofs.Spelling.{in_turn}
 use Rattle.state_file.specs.declared.record.Key.{Key}
 use Rattle.state_file.specs.declared.record.Record.{Record}
-use Rattle.state_file.specs.declared.record.Record.TheVariants.{Key as KeyRecord, Extend as ExtendRecord}
-use Rattle.state_file.specs.declared.record.Record.TheVariants.{Bound as BoundRecord, Retire, Moved}
+use Rattle.state_file.specs.declared.record.Record.TheVariants.{Key as KeyRecord}
 use Rattle.state_file.specs.declared.record.Version.{Version}
 use Rattle.state_file.specs.File.{SpellsRecords, begins_key, fields_at, version_of}
 use Rattle.state_file.specs.declared.record.Version.TheVariants.{One, Two}
-use Rattle.state_file.specs.Slot.{hss_fields, levels_field, lms_fields, pair_field, xmss_fields, bound_fields, byte}
-use Rattle.state_file.specs.Slot.{exactly, extend_fields, fields_of, key_fields, magic, moved_fields, name_field}
-use Rattle.state_file.specs.Slot.{name_most, only_if, retire_fields, secret_fields, slot_record, version_begun}
-use Rattle.state_file.specs.Slot.{version_code, version_field, file_version, versions, zeros, kind_of, scheme_of}
+use Rattle.state_file.specs.Slot.{bound_fields, byte, exactly, extend_fields, fields_of, key_fields, magic, name_field}
+use Rattle.state_file.specs.Slot.{moved_fields, name_most, only_if, retire_fields, secret_fields, slot_record, versions}
+use Rattle.state_file.specs.Slot.{version_begun, version_code, version_field, file_version, zeros}
+use Rattle.state_file.specs.inner.Slot.{kind_of}
 
 -- ---- kinds
 
@@ -29,15 +26,15 @@ use Rattle.state_file.specs.Slot.{version_code, version_field, file_version, ver
 pub record OfKind {V X : Type 0} (of : V → X) (layout : Layout V) (kind : X) : Type 0 where
   pub shows : Shows layout of kind
 
-kind-field : {V X : Type 0} {of : V → X} (n : ℕ) (kind : X) (next : List ℕ → Layout V)
+pub kind-field : {V X : Type 0} {of : V → X} (n : ℕ) (kind : X) (next : List ℕ → Layout V)
     → ((bytes : List ℕ) → OfKind of (next bytes) kind) → OfKind of (field n next) kind
 kind-field n kind next all = record { shows = λ v bytes (front, rest, _, _, spelled). (all front).shows v rest spelled }
 
-kind-bind : {V W X : Type 0} {of : W → X} (first : Layout V) (kind : X) (next : V → Layout W)
+pub kind-bind : {V W X : Type 0} {of : W → X} (first : Layout V) (kind : X) (next : V → Layout W)
     → ((v : V) → OfKind of (next v) kind) → OfKind of (first >>= next) kind
 kind-bind {of = of} first kind next all = record { shows = shows-bind first next of kind (λ v. (all v).shows) }
 
-kind-done : {V X : Type 0} {of : V → X} (kind : X) (v : V) → of v ≡ kind → OfKind of (done v) kind
+pub kind-done : {V X : Type 0} {of : V → X} (kind : X) (v : V) → of v ≡ kind → OfKind of (done v) kind
 kind-done {of = of} kind v is = record { shows = λ w bytes spelled. ap of (sym spelled.0) ∙ is }
 
 kind-key : (version : Version) → OfKind kind_of (key_fields version) 1
@@ -79,7 +76,7 @@ unfolding moved_fields
 kind-moved = kind-bind (exactly 2 (0 ∷ 2 ∷ [])) 5 _ (λ version. kind-bind (zeros 220) 5 _ (λ rest. kind-done 5 _ refl))
 
 -- one of two layouts, by a number
-shows-if : {V : Type 0} (of : V → ℕ) (kind n : ℕ) (chosen other : Layout V) → Shows chosen of n → Shows other of kind
+pub shows-if : {V : Type 0} (of : V → ℕ) (kind n : ℕ) (chosen other : Layout V) → Shows chosen of n → Shows other of kind
     → Shows (if kind == n then chosen else other) of kind
 shows-if of kind n chosen other chosen_shows other_shows =
     elim (kind == n) as (λ test. kind == n ≡ test → Shows (cond test chosen other) of kind) [
@@ -94,33 +91,6 @@ fields-show version kind =
     (shows-if kind_of kind 3 _ _ (kind-bound version).shows
     (shows-if kind_of kind 4 _ _ kind-retire.shows (shows-if kind_of kind 5 _ _ kind-moved.shows
     (λ v bytes spelled. absurd spelled)))))
-
-scheme-lms : OfKind scheme_of lms_fields 1
-unfolding lms_fields
-scheme-lms =
-    kind-bind (exactly 1 (1 ∷ [])) 1 _ (λ level. kind-bind pair_field 1 _ (λ pair. kind-bind (zeros 56) 1 _ (λ others.
-    kind-field 16 1 _ (λ identifier. kind-field 32 1 _
-    (λ seed. kind-bind (zeros 64) 1 _ (λ seeds. kind-done 1 _ refl))))))
-
-scheme-hss : OfKind scheme_of hss_fields 2
-unfolding hss_fields
-scheme-hss =
-    kind-bind levels_field 2 _ (λ levels. kind-field 16 2 _
-    (λ identifier. kind-field 32 2 _ (λ seed. kind-bind (zeros 64) 2 _ (λ seeds. kind-done 2 _ refl))))
-
-scheme-xmss : OfKind scheme_of xmss_fields 3
-unfolding xmss_fields
-scheme-xmss =
-    kind-bind (exactly 1 (1 ∷ [])) 3 _ (λ level. kind-bind xmss_type 3 _
-    (λ tree. kind-bind (zeros 60) 3 _ (λ others. kind-bind (zeros 16) 3 _ (λ identifier.
-    kind-field 32 3 _ (λ secret_seed. kind-field 32 3 _
-    (λ prf_key. kind-field 32 3 _ (λ public_seed. kind-done 3 _ refl)))))))
-
-pub schemes-show : (scheme : ℕ) → Shows (secret_fields scheme) scheme_of scheme
-schemes-show scheme =
-    shows-if scheme_of scheme 1 _ _ scheme-lms.shows
-    (shows-if scheme_of scheme 2 _ _ scheme-hss.shows
-    (shows-if scheme_of scheme 3 _ _ scheme-xmss.shows (λ v bytes spelled. absurd spelled)))
 
 -- ---- single fields
 
@@ -195,26 +165,6 @@ key-begins version key fields spelled =
     (rest_is ∙ ap (λ l. l ++ b) (exactly-is 8 magic a u magic_spelled) ∙ ap (λ l. magic ++ l) coded) in
     let own = (version-key version).shows (KeyRecord key) rest after in
     (ap begins_key bytes, ap version_of bytes ∙ version_known version others, own)
-
-pub key-first : (version : Version) (entry : Record) (fields : List ℕ) → Spells (slot_record version) entry fields
-    → begins_key fields ≡ true → (key : Key) × (entry ≡ KeyRecord key)
-key-first version entry fields spelled begins =
-    let (rest, is, _) = record-parts version entry fields spelled in
-    let test : (kind_of entry == 1) && pointwise (λ a b. a == b) (take 8 rest) magic ≡ true = ap begins_key (sym is)
-    ∙ begins in
-    of_kind entry (eqb-true (kind_of entry) 1 (and_parts _ _ test).0)
-  where
-    of_kind : (entry : Record) → kind_of entry ≡ 1 → (key : Key) × (entry ≡ KeyRecord key)
-    of_kind (KeyRecord key) same = (key, refl)
-    of_kind (ExtendRecord extend) same = absurd (omega (arith, same))
-    of_kind (BoundRecord bound) same = absurd (omega (arith, same))
-    of_kind (Retire upto) same = absurd (omega (arith, same))
-    of_kind Moved same = absurd (omega (arith, same))
-
-pub version_first : (records : List Record) (key : Key) → slice_get records 0 ≡ Some (KeyRecord key)
-    → file_version records ≡ key.version
-version_first [] key is = absurd cc
-version_first (entry ∷ rest) key is = ap version_begun (same_Some entry (KeyRecord key) is)
 
 pub spelled_version : (records : List Record) (content : List ℕ) → SpellsRecords content records
     → version_of (fields_at content 0) ≡ Some (file_version records)

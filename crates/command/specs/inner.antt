@@ -1,0 +1,8 @@
+-- What private functions alone cite, and proofs that contracts need: a reader of public contracts doesn't need it.
+pub mod Answer
+pub mod FileDisk
+pub mod Files
+pub mod Line
+pub mod ListingText
+pub mod RandomFile
+pub mod Sign

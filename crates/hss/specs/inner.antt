@@ -1,0 +1,3 @@
+-- What private functions alone cite: a reader of the contracts of public functions doesn't need it.
+pub mod Verification
+pub mod Writing
