@@ -1,4 +1,5 @@
 pub mod Accepting
+pub mod AnswerLaws
 pub mod AuditLines
 pub mod Contents
 pub mod Deciding

@@ -6,7 +6,8 @@ use Rattle.state_file.specs.declared.disk.DiskFault.TheVariants as fault
 use Rattle.typecodes.specs.Message.{ReadOutcome, Transitions}
 use Rattle.typecodes.specs.Reading.{AsksForRest, RequestsFull}
 use Rattle.typecodes.specs.Sink.{OffersRest, WritesAll}
-use Rattle.command.specs.FileDisk.{ReadsAt, ReadsNext, ReadsRest, WritesAt, WritesNext, WritesRest}
+use Rattle.command.specs.FileDisk.{ReadsAt, ReadsRest, WritesAt, WritesRest}
+use Rattle.command.specs.inner.FileDisk.{ReadsNext, WritesNext}
 use Rattle.command.specs.Trace.{Happening, read_at, written_at}
 use Rattle.command.specs.declared.file_disk.AtOffset.{AtOffset}
 

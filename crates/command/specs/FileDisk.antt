@@ -1,14 +1,11 @@
 -- How a disk reads and writes a file of the machine: each call may do only a part of what is requested.
-use Rattle.std.specs.Prelude.{ℕ, List, ◌≡◌, ◌+◌, ◌-◌, [], ◌∷◌, ◌++◌, ◌≤◌, ◌<◌, ◌^◌, ◌⊎◌, length, drop, Result, Ok, Err}
+use Rattle.std.specs.Prelude.{ℕ, List, ◌≡◌, ◌+◌, ◌-◌, [], ◌∷◌, ◌++◌, ◌≤◌, ◌^◌, ◌⊎◌, length, drop, Result, Ok, Err}
 use Rattle.std.specs.IoError.{error_kind}
 use Rattle.std.specs.declared.io.Error.{Error}
 use Rattle.std.specs.declared.io.ErrorKind.{ErrorKind}
 use Rattle.state_file.specs.declared.disk.DiskFault.{DiskFault}
 use Rattle.state_file.specs.declared.disk.DiskFault.TheVariants.{Failed, PastEnd, OutOfMemory}
 use Rattle.typecodes.specs.Message.{GivesAll, GivesText, ReadFails, Transition, size_of}
-use Rattle.typecodes.specs.Reading.{Request}
-use Rattle.typecodes.specs.Sink.{Write}
-use Rattle.command.specs.declared.file_disk.AtOffset.{AtOffset}
 use Rattle.command.specs.declared.file_disk.FileDisk.{FileDisk}
 use Rattle.command.specs.declared.refusal.Refusal.{Refusal}
 use Rattle.command.specs.declared.refusal.Refusal.TheVariants.{FileFailed, Locked}
@@ -67,18 +64,6 @@ ReadsRest at room (done, old) outcome (after, new) =
 abbrev pub WritesRest : (at : ℕ) (bytes : List ℕ) → Transition Stage
 WritesRest at bytes (done, old) outcome (after, new) =
     (after ≡ done + size_of outcome) × (new ≡ old ++ written_at (at + done) (drop done bytes) outcome ∷ [])
-
--- A read is one of the file at the current offset, which then moves on past the bytes that it gave.
-abbrev pub ReadsNext : {F : Type 0} → (F → List Happening) → Request (AtOffset F)
-ReadsNext trace_of old room outcome new = old.at + room < 2 ^ 64 → (new.file.ghost_name ≡ old.file.ghost_name)
-    × (new.at ≡ old.at + size_of outcome)
-    × (trace_of new.file.now ≡ trace_of old.file.now ++ read_at old.at room outcome ∷ [])
-
--- As `ReadsNext`, for a write.
-abbrev pub WritesNext : {F : Type 0} → (F → List Happening) → Write (AtOffset F)
-WritesNext trace_of old bytes outcome new = old.at + length bytes < 2 ^ 64
-    → (new.file.ghost_name ≡ old.file.ghost_name) × (new.at ≡ old.at + size_of outcome)
-    × (trace_of new.file.now ≡ trace_of old.file.now ++ written_at old.at bytes outcome ∷ [])
 
 -- A call failed.
 abbrev pub Breaks : {M : Type 0} → Transition M → M → M → Type 0

@@ -1,6 +1,6 @@
 -- What is read of files, and how reading them fails.
 use Rattle.std.specs.Prelude.{length, ℕ, List, [], ◌∷◌, ◌++◌, Result, Ok, Err, ◌≡◌, Option, Some, IfSome, ◌≢◌, ◌⊎◌, ◌<◌}
-use Rattle.std.specs.Prelude.{◌≤◌, ◌^◌, take}
+use Rattle.std.specs.Prelude.{◌≤◌, take}
 use Rattle.sign_core.specs.declared.key.AnyPublic.{AnyPublic}
 use Rattle.sign_core.specs.declared.key.KeyFault.{KeyFault}
 use Rattle.sign_core.specs.Key.{KeyHasFault, SpellsKey}
@@ -117,13 +117,3 @@ abbrev pub files_seen : {K : Type 0} → (List ℕ → Option (List ℕ)) → (i
     → (is_closed : K → Type 0) → FilesSeen K
 files_seen content is_opened is_closed =
     record { content = content; IsOpenedDisk = is_opened; IsClosedDisk = is_closed }
-
--- ---- bytes that are counted
-
--- the count of these bytes, if they are fewer than 2^64
-abbrev pub IsCount : List ℕ → ℕ → Type 0
-IsCount bytes count = length bytes < 2 ^ 64 → count ≡ length bytes
-
--- After the bytes before them, these were counted too.
-abbrev pub CountsBytes : (before : ℕ) (bytes : List ℕ) (after : ℕ) → Type 0
-CountsBytes before bytes after = (seen : List ℕ) → IsCount seen before → IsCount (seen ++ bytes) after

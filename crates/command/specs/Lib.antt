@@ -1,4 +1,5 @@
 pub mod Answer
+pub mod AnswerLaws
 pub mod Argument
 pub mod Audit
 pub mod AuditGiven

@@ -1,5 +1,4 @@
 -- What private functions alone cite, and proofs that contracts need: a reader of public contracts doesn't need it.
-pub mod Answer
 pub mod FileDisk
 pub mod Files
 pub mod Line

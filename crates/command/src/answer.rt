@@ -3,6 +3,7 @@
 ghost use Rattle.std.specs.Prelude.{◌≡◌};
 ghost use Rattle.command.specs.Answer.{IsOfWord, ReportsRequest, ReportsServing, answer_line, done_lines};
 ghost use Rattle.command.specs.Answer.{listing_lines, report_lines, status_of};
+ghost use Rattle.command.specs.AnswerLaws.{AnswerLaws};
 ghost use Rattle.key_audit.specs.Listing.{shown_of_listing};
 ghost use Rattle.command.specs.Output.{Prints, WritesText};
 ghost use Rattle.command.specs.Streams.{taken};
@@ -10,11 +11,20 @@ ghost use Rattle.command.specs.Streams.{taken};
 use crate::output::{Output, Part};
 use crate::refusal::Refusal;
 use arrayvec::ArrayVec;
-use key_audit::{AuditFault, GivenFault, Listing, Report, count_names};
+use key_audit::{AuditFault, GivenFault, Listing, Report, count_names, listing_law};
 use sign_core::{ServeFault, SignFault};
 use state_file::{FormatFault, MigrateFault, OpenFault};
 use std::io;
 use typecodes::{Name, Refusal as SignatureRefusal};
+
+/// No line of an answer begins with a capital letter, so none can be taken for a line of help. Nothing secret is listed:
+/// records that differ only in secrets have the same lines. The function does nothing: its contract is proved for all
+/// answers.
+pub fn answer_laws()
+    ensures { AnswerLaws }
+{
+    listing_law();
+}
 
 /// What a command has done.
 #[derive(Debug, Drop, PartialEq)]

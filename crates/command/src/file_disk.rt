@@ -60,7 +60,7 @@ struct AtOffset<'a, F> {
 
 impl<F: OffsetFile> Message for AtOffset<'_, F> {
     ghost use Rattle.std.specs.Prelude.{None};
-    ghost use Rattle.command.specs.FileDisk.{ReadsNext};
+    ghost use Rattle.command.specs.inner.FileDisk.{ReadsNext};
 
     ghost remaining = { λ _. None };
 
@@ -75,7 +75,7 @@ impl<F: OffsetFile> Message for AtOffset<'_, F> {
 
 impl<F: OffsetFile> Sink for AtOffset<'_, F> {
     ghost use Rattle.std.specs.Prelude.{None};
-    ghost use Rattle.command.specs.FileDisk.{WritesNext};
+    ghost use Rattle.command.specs.inner.FileDisk.{WritesNext};
 
     ghost contents = { λ _. None };
 

@@ -357,7 +357,7 @@ struct Counted {
 }
 
 impl PieceTaker for Counted {
-    ghost use Rattle.command.specs.Files.{CountsBytes};
+    ghost use Rattle.command.specs.inner.Files.{CountsBytes};
     ghost use Rattle.command.specs.inner.Files.{counts_more, counts_nothing};
 
     type Error = Infallible;

@@ -10,7 +10,8 @@ use Rattle.lms.specs.declared.signature.LmsSigView.{LmsSigView}
 use Rattle.lms.specs.Key.{public_key as lms_public_key}
 use Rattle.lms.specs.View.{pair_of as lms_pair_of, signature_of as lms_signature_of}
 use Rattle.hss.specs.declared.signed_key.SignedKeyView.{SignedKeyView}
-use Rattle.hss.specs.SignedKey.{AreFirst, StandInTurn, BeginsAt, shown_keys, signed_key_of, slot, signed_keys_size}
+use Rattle.hss.specs.SignedKey.{StandInTurn, BeginsAt, shown_keys, signed_key_of, slot, signed_keys_size}
+use Rattle.hss.specs.inner.SignedKey.{AreFirst}
 use Rattle.hss.specs.Signature.{key_at, level_count, shown_signature, signature, signature_at, start_at}
 use Rattle.hss.proofs.Slots.{in-use, none-after, shown-count, signed-at, signed-cut}
 use Rattle.hss.proofs.Walking.{key_at-below, key_spelled, signature_at-above, start-more, starts}

@@ -5,7 +5,8 @@ use Rattle.std.proofs.lemmas.Bool.{cases_lt, cases_order}
 use Rattle.std.proofs.lemmas.List.{get_or-drop, get_or-set_other, get_or-set_same, take-append-drop, take-set-le, take_more_set}
 use Rattle.std.proofs.lemmas.List.Concat.{flat_map-append}
 use Rattle.hss.specs.declared.signed_key.SignedKeyView.{SignedKeyView}
-use Rattle.hss.specs.SignedKey.{AreFirst, StandInTurn, BeginsAt, shown, shown_keys, signed_key_of, slot, signed_keys_size}
+use Rattle.hss.specs.SignedKey.{StandInTurn, BeginsAt, shown, shown_keys, signed_key_of, slot, signed_keys_size}
+use Rattle.hss.specs.inner.SignedKey.{AreFirst}
 
 -- slots that show nothing are empty
 none-in : (slots : List (Option SignedKeyView)) (i : ℕ) (view : SignedKeyView) → shown_keys slots ≡ [] → slot slots i ≡ Some view → ⊥

@@ -1,6 +1,6 @@
 -- The signature of a level above the bottom with the key that it signs (RFC 8554 6.2).
-use Rattle.std.specs.Prelude.{◌≡◌, ◌≤◌, ℕ, zero, suc, ◌+◌, List, [], ◌∷◌, Option, Some, None}
-use Rattle.std.specs.Prelude.{drop, length, map, slice_index_or, sum_by, take}
+use Rattle.std.specs.Prelude.{◌≡◌, ℕ, zero, suc, ◌+◌, List, [], ◌∷◌, Option, Some, None}
+use Rattle.std.specs.Prelude.{drop, map, slice_index_or, sum_by, take}
 use Rattle.std.specs.List.{flat_map}
 use Rattle.typecodes.specs.Types.{lms_signature_len_of}
 use Rattle.typecodes.specs.Layout.{Layout, done, ◌>>=◌}
@@ -59,11 +59,6 @@ shown_keys slots = flat_map shown slots
 -- the view in slot i, if there is one
 abbrev pub slot : List (Option SignedKeyView) → ℕ → Option SignedKeyView
 slot slots i = slice_index_or slots i None
-
--- the first n slots are in use, and no others
-abbrev pub AreFirst : ℕ → List (Option SignedKeyView) → Type 0
-AreFirst n slots =
-    ((i : ℕ) → i ≤ n → length (shown_keys (take i slots)) ≡ i) × (shown_keys (drop n slots) ≡ [])
 
 -- the views stand one after the other, the first one at a place
 abbrev pub StandInTurn : ℕ → List ℕ → List (Option SignedKeyView) → Type 0

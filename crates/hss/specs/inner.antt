@@ -1,3 +1,4 @@
 -- What private functions alone cite: a reader of the contracts of public functions doesn't need it.
+pub mod SignedKey
 pub mod Verification
 pub mod Writing

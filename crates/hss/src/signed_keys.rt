@@ -2,7 +2,8 @@
 
 ghost use Rattle.std.specs.Prelude.{◌≡◌, ◌+◌, ◌*◌, ◌<◌, ◌≤◌, ◌^◌, IfOk, OnOk};
 ghost use Rattle.typecodes.specs.Cursor.{Gives, Keeps, read};
-ghost use Rattle.hss.specs.SignedKey.{AreFirst, StandInTurn, shown_keys, signed_keys, slot};
+ghost use Rattle.hss.specs.SignedKey.{StandInTurn, shown_keys, signed_keys, slot};
+ghost use Rattle.hss.specs.inner.SignedKey.{AreFirst};
 
 use crate::signed_key::SignedKeyView;
 use typecodes::{Cursor, ReadFault};

@@ -16,7 +16,7 @@ use Rattle.sign_core.proofs.Valid.{accepted}
 use Rattle.key_audit.specs.declared.given.Given.{Given}
 use Rattle.key_audit.specs.declared.in_memory.InMemory.{InMemory}
 use Rattle.key_audit.specs.Given.{IsValidGiven}
-use Rattle.key_audit.specs.InMemory.{GivesNext}
+use Rattle.key_audit.specs.inner.InMemory.{GivesNext}
 
 -- what is left to read
 abbrev pub rest_of : InMemory → Option (List ℕ)

@@ -1,6 +1,5 @@
 pub mod Audit
 pub mod Given
-pub mod InMemory
 pub mod Listing
 pub mod Tags
 pub mod inner

@@ -1,5 +1,6 @@
 -- What private functions alone cite: a reader of the contracts of public functions doesn't need it.
 pub mod Audit
+pub mod InMemory
 pub mod LeafIndex
 pub mod Listing
 pub mod Loading

@@ -1,7 +1,7 @@
 //! Messages in memory, as readers that are known to give nothing else.
 
 ghost use Rattle.std.specs.Prelude.{Some};
-ghost use Rattle.key_audit.specs.InMemory.{GivesNext};
+ghost use Rattle.key_audit.specs.inner.InMemory.{GivesNext};
 
 use std::io;
 use typecodes::Message;

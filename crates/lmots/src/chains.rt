@@ -5,7 +5,7 @@ ghost use Rattle.std.proofs.Props.{props};
 ghost use Rattle.lmots.specs.Hashes.{u32str};
 ghost use Rattle.lmots.specs.Key as spec;
 ghost use Rattle.lmots.specs.Key.{step_of};
-ghost use Rattle.winternitz.specs.Beginning.{BeginsWith};
+ghost use Rattle.winternitz.specs.inner.Beginning.{BeginsWith};
 ghost use Rattle.winternitz.specs.Lanes.{lanes};
 
 use crate::key::LmOts;

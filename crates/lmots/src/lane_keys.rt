@@ -7,7 +7,7 @@ ghost use Rattle.lmots.specs.Hashes.{public_separator, u16str, u32str};
 ghost use Rattle.lmots.specs.Key as spec;
 ghost use Rattle.lmots.specs.Key.{chain_value, ends_of_seed};
 ghost use Rattle.typecodes.specs.Types.{chains_of};
-ghost use Rattle.winternitz.specs.Beginning.{BeginsWith};
+ghost use Rattle.winternitz.specs.inner.Beginning.{BeginsWith};
 ghost use Rattle.winternitz.specs.Lanes.{lanes, value_at};
 
 use crate::chains::key_prefix;

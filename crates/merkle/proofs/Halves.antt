@@ -7,7 +7,7 @@ use Rattle.merkle.specs.Lanes.{lanes}
 use Rattle.merkle.specs.inner.Nodes.{AreUnder}
 use Rattle.merkle.proofs.Building.{leaves_twice}
 
--- the height of a node over this many leaves
+-- the height of a node over `lanes` leaves
 abbrev pub lanes_height : ℕ
 lanes_height = 3
 

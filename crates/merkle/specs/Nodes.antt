@@ -1,4 +1,4 @@
--- The nodes of a part of a tree, listed as they are made (RFC 8391 4.1.6), and an authentication path in this list.
+-- The nodes of a part of a tree, listed as they are made (RFC 8391 4.1.6).
 use Rattle.std.specs.Prelude.{ℕ, zero, suc, ◌+◌, ◌*◌, List, [], ◌∷◌, ◌++◌}
 use Rattle.merkle.specs.Tree.{Leaves, Joins, node}
 

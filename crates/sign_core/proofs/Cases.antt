@@ -16,6 +16,7 @@ use Rattle.sign_core.specs.Records.{are_same, binding_at, has_identifier, has_mo
 use Rattle.sign_core.specs.Records.{next_at, wanted_count}
 use Rattle.sign_core.specs.Textbook.{Trees, damaged_at, digest_at, lms_secret, any_public_of, public_of_key, current_at}
 use Rattle.sign_core.specs.Textbook.{textbook_signature}
+use Rattle.sign_core.specs.World.{◌>>=◌, ◌>>◌}
 use Rattle.sign_core.specs.World.{Chance, Creation, Fate, Opening, Outcome, State, answer_if, append, begin_trees, bind}
 use Rattle.sign_core.specs.World.{draw, draw_identifier, draw_seed, event, extend_record, first_refusal, give, new_key}
 use Rattle.sign_core.specs.World.{open_state, open_signer, publish, read, refuse_if, refuse_some, secret_of_fields}

@@ -24,7 +24,7 @@ use Rattle.state_file.specs.declared.record.Bound.{Bound}
 abbrev pub AreAbove : (old : List (Option Tree)) (level : ℕ) (new : List (Option Tree)) → Type 0
 AreAbove old level new = (k : ℕ) → kept_at new k ≡ (if nat_lt k level then kept_at old k else None)
 
--- The same after a Bound, in the current bottom tree.
+-- Trees that follow the records before a Bound become these, which follow the records with it.
 abbrev pub FollowsBound : (old : List (Option Tree)) (bottom leaf : ℕ) (new : List (Option Tree)) → Type 0
 FollowsBound old bottom leaf new =
     (secret : Secret) (records : List Record) (key : Key) (bound : Bound) (tree : ℕ)
@@ -32,7 +32,7 @@ FollowsBound old bottom leaf new =
     → current bottom records ≡ Some tree
     → HasTrees secret records old → HasTrees secret (records ++ BoundRecord bound ∷ []) new
 
--- The same after a Retire.
+-- Trees that follow the records before a Retire become these, which follow the records with it.
 abbrev pub FollowsRetire : (old : List (Option Tree)) (bottom upto : ℕ) (new : List (Option Tree)) → Type 0
 FollowsRetire old bottom upto new =
     (secret : Secret) (records : List Record) (key : Key) (tree : ℕ)

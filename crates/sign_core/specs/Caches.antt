@@ -1,6 +1,5 @@
 -- The caches of current trees, and which one is missing for a signature.
 use Rattle.std.specs.Prelude.{◌≡◌, ◌≢◌, ◌⊎◌, ℕ, ◌<◌, ◌≤◌, List, slice_index_or, Option, Some, None}
-use Rattle.merkle.specs.Tree.{Joins, Leaves}
 use Rattle.typecodes.specs.declared.secret.LmsSecret.{LmsSecret}
 use Rattle.typecodes.specs.declared.secret.XmssSecret.{XmssSecret}
 use Rattle.state_file.specs.declared.record.Key.{Key}
@@ -8,13 +7,6 @@ use Rattle.state_file.specs.declared.record.Record.{Record}
 use Rattle.state_file.specs.declared.record.Secret.TheVariants.{Xmss}
 use Rattle.sign_core.specs.Records.{current}
 use Rattle.sign_core.specs.Textbook.{Trees, secret_at, trees_of}
-
--- A cache of a secret's tree has the tree's height, leaves and joins.
-pub record IsTreeCache (height : ℕ) (leaves : Leaves) (joins : Joins) (kept_height : ℕ) (kept_leaves : Leaves)
-    (kept_joins : Joins) : Type 0 where
-  pub same_height : kept_height ≡ height
-  pub same_leaves : kept_leaves ≡ leaves
-  pub same_joins : kept_joins ≡ joins
 
 -- A signer's caches as callers see them: for each level the secret of its cached LMS tree, and the secret of a cached
 -- XMSS tree.

@@ -111,7 +111,7 @@ pub record SignsOnce (world : World) : Type 0 where
       → (public : AnyPublic) × (public_of_world world ≡ Some public) × IsValidUnder public x.message x.signature
 
 -- So it is after every run that begins without records: creates, openings, requests, retirings, migrations and crashes
--- in any order, whatever fails in them. The world's key is record 0. That it is the one that `create` answered, and
--- that signatures are given at all, stands in `Openings.antt` and `Requests.antt`.
+-- in any order, whatever fails in them. The key is the one in record 0. That a create answers it stands in
+-- `Openings.antt`, that it stays in `Lasting.antt`, and that signatures are given at all in `Requests.antt`.
 abbrev pub HeadlineLaw : Type 0
 HeadlineLaw = (limit : ℕ) (events : List Event) → AllEvents events → SignsOnce (run limit beginning events)

@@ -6,7 +6,7 @@ use Rattle.std.specs.Prelude.{Option, Some, None, option_map, unwrap_or, if◌th
 use Rattle.std.specs.Cmp.Lexicographic.{pointwise}
 use Rattle.std.specs.List.{range_with_len}
 use Rattle.std.specs.Option.{option_map_or}
-use Rattle.state_file.specs.Laws.{bottom_of, has_moved, identifier_of, leaves_at, levels_of}
+use Rattle.state_file.specs.Laws.{bottom_of, identifier_of, leaves_at, levels_of}
 pub use Rattle.state_file.specs.Laws.{has_moved, is_moved}
 use Rattle.state_file.specs.Slot.{name_most}
 use Rattle.state_file.specs.declared.record.Bound.{Bound}
@@ -59,7 +59,7 @@ current (suc level) = λ records. under (current level) records (last_extend (su
 abbrev pub in_tree : Option ℕ → ℕ → Option (ℕ × ℕ)
 in_tree found n = option_map (λ tree. (tree, n)) found
 
--- what a record reaches: the tree, and the number above the leaves
+-- the tree in which a record names or retires leaves, and the number above these leaves
 abbrev pub reaches : Secret → (before : List Record) → Record → Option (ℕ × ℕ)
 reaches secret before (ExtendRecord extend) = in_tree (current (extend.level - 1) before) (extend.parent_leaf + 1)
 reaches secret before (BoundRecord bound) = in_tree (current (bottom_of secret) before) (bound.leaf + 1)

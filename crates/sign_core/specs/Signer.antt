@@ -1,7 +1,7 @@
 -- What a signer over a store is to its callers, and what its calls are: steps of the world.
 --
 -- The step speaks of the signer's own list of records, for every store; the store enters by `IsTied` and `GrowsAlike`.
--- What may go wrong stands in fields of the chance. What callers see is tied to it by one field of one record
+-- What may go wrong stands in fields of a chance. What callers see is tied to the chance by one field of one record
 -- (`Signs`, `Creates`, `Opens`, `Retires`), never by separate clauses.
 use Rattle.std.specs.Prelude.{◌≡◌, ◌⊎◌, ℕ, ◌+◌, ◌<◌, ◌≤◌, Bool, true, false, ◌||◌, IsTrue, List, [], ◌∷◌, ◌++◌, length}
 use Rattle.std.specs.Prelude.{take, zero, suc, Option, Some, None, Result, Ok, Err}

@@ -1,4 +1,5 @@
 -- What private functions alone cite: a reader of the contracts of public functions doesn't need it.
+pub mod Caches
 pub mod Cases
 pub mod Frames
 pub mod Ledger

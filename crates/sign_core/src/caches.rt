@@ -56,7 +56,7 @@ pub(crate) struct TreeCache<X: TreeSecret> {
 }
 
 impl<X: TreeSecret> Model for TreeCache<X> {
-    ghost use Rattle.sign_core.specs.Caches.{IsTreeCache};
+    ghost use Rattle.sign_core.specs.inner.Caches.{IsTreeCache};
 
     ghost Value = { X };
 

@@ -1,5 +1,5 @@
-//! The trees of a key, and the caches of the current ones. Under LMS and HSS they are a chain from the top down to the
-//! tree that signs, and under XMSS there is one.
+//! The trees of a key: under LMS and HSS a chain from the top down to the tree that signs, under XMSS one tree. And the
+//! caches of the current ones.
 
 ghost use Rattle.std.specs.Prelude.{◌≡◌, ◌<◌, ◌+◌, ◌^◌, ◌++◌, Some, None, length, slice_index_or};
 ghost use Rattle.std.specs.Prelude.{IfErr, OnOk, IfOk, OnErr};

@@ -102,7 +102,7 @@ pub fn textbook_laws()
 /// - An open signer refuses a bound name with another digest as changed. For the bound digest it gives the recorded
 ///   signature, unless memory is refused or the message can't be read. Neither changes anything.
 /// - A request for a new name gets the next leaf if one is left, the name fits the key's version, the store isn't full
-///   and nothing fails.
+///   and nothing fails. Then only an I that is drawn again refuses it (24).
 /// - No refusal of a request binds a name, unless the store's device failed (25).
 /// - A retiring beyond the next leaf is recorded, if the tree has these leaves, the store isn't full and nothing fails.
 ///   Any other changes nothing, unless the device failed, and the law says what it answers.

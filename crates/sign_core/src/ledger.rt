@@ -82,7 +82,7 @@ impl Binding {
     }
 }
 
-/// A legal list of a key's records. Its `HashMap`s hash with a fixed seed: a lookup takes constant time on the mean,
+/// A legal list of a key's records. Its `HashMap`s hash with a fixed seed: a lookup takes constant time on average,
 /// and longer among names that were chosen against the seed.
 #[derive(Drop)]
 pub struct Ledger {

@@ -1,4 +1,4 @@
--- A store over a disk: what callers see of it, and what its promise rests on.
+-- A store over a disk: what callers see of it, and what an opening and a new file give.
 use Rattle.std.specs.Prelude.{Bool, List, Result, Ok, Err, ◌≡◌, ℕ, false, [], IfErr, IfOk, IsTrue, OnOk, length, max}
 use Rattle.state_file.specs.declared.disk.Disk as disk
 use Rattle.state_file.specs.declared.store.file_store.FileStore.{FileStore}

@@ -1,4 +1,4 @@
--- What opening a place reports, and what its parts do.
+-- What opening a place reports, and leaves.
 use Rattle.std.specs.Prelude.{◌≡◌, ℕ, Bool, true, false, List, Result, Ok, Err, codes}
 use Rattle.state_file.specs.File.{SpellsRecords, HasNoKey, HasUnknownVersion, IsDamagedAt, IsNoKeyFile}
 use Rattle.state_file.specs.Disk.{DiskState, settled}
@@ -41,7 +41,7 @@ OpensAs content no_key_file = IsNoKeyFile content
 OpensAs content unknown_version = HasUnknownVersion content
 OpensAs content (damaged k) = IsDamagedAt content k
 
--- ---- its parts
+-- ---- what an opening reports, and leaves
 
 -- what each refusal says of the content
 abbrev pub ReportsContent : List ℕ → OpenFault → Type 0

@@ -17,7 +17,7 @@ struct Hashing<'a> {
 impl PieceTaker for Hashing<'_> {
     ghost use Rattle.std.specs.Prelude.{◌≡◌};
     ghost use Rattle.std.proofs.Common.{refl, ◌∙◌};
-    ghost use Rattle.winternitz.specs.Feeding.{HasherTakes};
+    ghost use Rattle.winternitz.specs.inner.Feeding.{HasherTakes};
     ghost use Rattle.winternitz.specs.inner.Feeding.{takes_more_bytes, takes_no_bytes};
 
     type Error = Infallible;

@@ -1,10 +1,9 @@
--- A file that is read once, and how its bytes are counted.
-use Rattle.std.specs.Prelude.{ℕ, List, [], ◌++◌, Option}
+-- One read of a file, and how the bytes that are read are counted.
+use Rattle.std.specs.Prelude.{ℕ, List, [], ◌++◌, Option, length, ◌≡◌, ◌<◌, ◌^◌}
 use Rattle.std.proofs.Common.{append_assoc, append-nil, subst, sym}
 use Rattle.command.specs.declared.trace.Role.{Role}
 use Rattle.typecodes.specs.Message.{Transition}
 use Rattle.command.specs.Trace.{Happening, ReadsOnce}
-use Rattle.command.specs.Files.{CountsBytes, IsCount}
 
 -- what is known to be left of a file, and what happened
 abbrev pub FileState : Type 0
@@ -16,6 +15,14 @@ left_of file = file.0
 -- One read of this file happened, and nothing else.
 abbrev pub ReadsFileOnce : Role → Transition FileState
 ReadsFileOnce role old outcome new = ReadsOnce role old.1 outcome new.1
+
+-- the count of these bytes, if they are fewer than 2^64
+abbrev pub IsCount : List ℕ → ℕ → Type 0
+IsCount bytes count = length bytes < 2 ^ 64 → count ≡ length bytes
+
+-- After the bytes before them, these were counted too.
+abbrev pub CountsBytes : (before : ℕ) (bytes : List ℕ) (after : ℕ) → Type 0
+CountsBytes before bytes after = (seen : List ℕ) → IsCount seen before → IsCount (seen ++ bytes) after
 
 pub counts_nothing : (count : ℕ) → CountsBytes count [] count
 counts_nothing count seen is = subst (λ l. IsCount l count) (sym (append-nil seen)) is

@@ -1,4 +1,4 @@
--- How numbers come from a file of random bytes.
+-- What is drawn from a file of random bytes.
 use Rattle.std.specs.Prelude.{ℕ, List, ◌⊎◌, ◌<◌, length, Result, Ok, Err}
 use Rattle.typecodes.specs.Message.{GivesAll, GivesText, Transition}
 use Rattle.command.specs.FileDisk.{Breaks}

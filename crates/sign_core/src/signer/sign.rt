@@ -149,8 +149,8 @@ impl<S: Store, R: Source> Signer<S, R> {
 
     // As `sign_telling`, without clearing `out` on error.
     //
-    // This isn't inlined, nor are the steps that make trees or hold a chain: they run one after the other, and in one
-    // function their frames would add up. Nor are `bind` and `extend`, since `bind_below` calls itself.
+    // Not inlined into its two callers. Nor are the steps that make trees or hold a chain: these run one after the
+    // other, and in one function their frames would add up. Nor `bind` and `extend`, since `bind_below` calls itself.
     #[inline(never)]
     fn sign_into<M: Message, P: TreeProgress>(
         &mut self,

@@ -1,4 +1,4 @@
--- What private functions do to a disk that they read.
+-- Calls that only read a disk, or read no bytes of it.
 use Rattle.std.specs.Prelude.{◌≡◌, Bool, IsTrue, Result}
 use Rattle.state_file.specs.Disk.{Counts}
 use Rattle.state_file.specs.declared.disk.Disk as disk

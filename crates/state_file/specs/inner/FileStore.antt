@@ -1,4 +1,4 @@
--- A content stands for one list of records, and a synced one leaves it at every crash.
+-- A content stands for one list of records alone, and a crash leaves a synced content as it is.
 use Rattle.std.specs.Prelude.{List, ◌≡◌, ◌⊎◌, ℕ, ◌+◌, ◌*◌, ◌<◌, ◌≤◌, true, [], ◌∷◌, length, drop, slice_index, Some}
 use Rattle.state_file.specs.declared.record.Record.{Record}
 use Rattle.std.proofs.Common.{inl, inr, ⊎_elim, refl, sym, ◌∙◌, subst, arith, get_or, length-take-le, length-drop}

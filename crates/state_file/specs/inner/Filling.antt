@@ -1,4 +1,4 @@
--- A new file that a migration is filling.
+-- A new file that a migration is filling, and the old one that it reads.
 use Rattle.std.specs.Prelude.{◌≡◌, ℕ, ◌+◌, ◌<◌, ◌≤◌, Bool, false, List, [], ◌∷◌, drop, take, Result, Ok, Err}
 use Rattle.state_file.specs.Carried.{carried}
 use Rattle.state_file.specs.Disk.{DiskState, Range}

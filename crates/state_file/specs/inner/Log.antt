@@ -1,4 +1,4 @@
--- What a crash leaves right after a log, as a moment of it.
+-- What a crash leaves right after a log is what it leaves since the log ended.
 use Rattle.std.specs.Prelude.{◌≡◌, ℕ, ◌≤◌, List, length, take}
 use Rattle.state_file.specs.declared.disk.log.Entry.{Entry}
 use Rattle.std.proofs.Common.{sym, subst, arith}

@@ -1,4 +1,4 @@
--- What a crash leaves of a list right now, as a moment of it.
+-- A list is what it had been since it was complete.
 use Rattle.std.specs.Prelude.{ℕ, List, ◌≡◌, ◌≤◌, length}
 use Rattle.state_file.specs.declared.record.Record.{Record}
 use Rattle.std.proofs.Common.{sym, ◌∙◌, arith}

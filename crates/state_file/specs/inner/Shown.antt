@@ -76,8 +76,8 @@ unfolding moved_fields
 kind-moved = kind-bind (exactly 2 (0 ∷ 2 ∷ [])) 5 _ (λ version. kind-bind (zeros 220) 5 _ (λ rest. kind-done 5 _ refl))
 
 -- one of two layouts, by a number
-pub shows-if : {V : Type 0} (of : V → ℕ) (kind n : ℕ) (chosen other : Layout V) → Shows chosen of n → Shows other of kind
-    → Shows (if kind == n then chosen else other) of kind
+pub shows-if : {V : Type 0} (of : V → ℕ) (kind n : ℕ) (chosen other : Layout V) → Shows chosen of n
+    → Shows other of kind → Shows (if kind == n then chosen else other) of kind
 shows-if of kind n chosen other chosen_shows other_shows =
     elim (kind == n) as (λ test. kind == n ≡ test → Shows (cond test chosen other) of kind) [
       | true ↦ λ same. subst (Shows chosen of) (sym (eqb-true kind n same)) chosen_shows

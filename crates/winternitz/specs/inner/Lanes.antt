@@ -1,4 +1,4 @@
--- Words and their bytes.
+-- Four bytes of a list, and a word that is joined of two.
 use Rattle.std.specs.Prelude.{ℕ, ◌+◌, List, [], ◌∷◌, ◌++◌, drop, slice_index, take}
 use Rattle.std.specs.Int.{w32, from_be_bytes, to_be_bytes}
 

@@ -1,7 +1,8 @@
 use Rattle.std.proofs.Common.{◌≡◌, ◌+◌, ◌<◌, ◌∙◌, refl, sym, ap, [], Some, Ok, Err, arith, rules, length, subst, length-set, ◌++◌, ◌∷◌}
 use Rattle.std.specs.Prelude.{set, take}
 use Rattle.typecodes.specs.Cursor.{read}
-use Rattle.hss.specs.SignedKey.{AreFirst, StandInTurn, BeginsAt, shown_keys, signed_key, signed_key_of, signed_keys_size}
+use Rattle.hss.specs.SignedKey.{StandInTurn, BeginsAt, shown_keys, signed_key, signed_key_of, signed_keys_size}
+use Rattle.hss.specs.inner.SignedKey.{AreFirst}
 use Rattle.hss.proofs.Passing.{keys-faulty, keys-next, keys-none}
 use Rattle.hss.proofs.Slots.{set-first, set-shows, set-stand, shown-front, unused-first, unused-stand}
 use Rattle.hss.proofs.Walking.{keys-end}

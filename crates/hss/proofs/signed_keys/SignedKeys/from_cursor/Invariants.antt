@@ -1,6 +1,7 @@
 use Rattle.std.proofs.Common.{◌≡◌, ◌+◌, ◌*◌, ◌≤◌, Ok, length}
 use Rattle.typecodes.specs.Cursor.{read}
-use Rattle.hss.specs.SignedKey.{AreFirst, StandInTurn, shown_keys, signed_keys}
+use Rattle.hss.specs.SignedKey.{StandInTurn, shown_keys, signed_keys}
+use Rattle.hss.specs.inner.SignedKey.{AreFirst}
 use Rattle.hss.proofs.signed_keys.SignedKeys.from_cursor.Given as goal
 
 -- the first slots show what was read so far

@@ -1,27 +1,17 @@
--- Laws of the lines that answers print: nothing secret is listed, and no line of help is an answer's.
+-- Lines of answers: proofs of their laws.
 use Rattle.std.proofs.Common.{arith, ap, sym, refl, inl, inr, ◌∙◌}
 use Rattle.std.proofs.lemmas.Bool.{false≢true, or_right}
-use Rattle.std.specs.Prelude.{ℕ, List, [], ◌∷◌, ◌++◌, Option, Result, Ok, Err, ◌≡◌, ◌⊎◌, true, map, option_map}
+use Rattle.std.specs.Prelude.{ℕ, List, [], ◌∷◌, ◌++◌, Result, Ok, Err, ◌≡◌, ◌⊎◌, true, option_map}
+use Rattle.key_audit.specs.Listing.{ListingLaw}
 use Rattle.command.specs.declared.answer.Done.{Done}
 use Rattle.command.specs.declared.answer.Done.TheVariants.{Audited, Checked, Listed, Migrated, Published, Retired}
 use Rattle.command.specs.declared.answer.Done.TheVariants.{Signed, Verified}
 use Rattle.command.specs.declared.refusal.Refusal.{Refusal}
-use Rattle.command.specs.LineFault.{BeginsWithCapital, IsHelp, has_lowercase_line}
-use Rattle.state_file.specs.declared.record.Record.{Record}
-use Rattle.key_audit.specs.Listing.{ListingLaw, shown_of_records, without_secret}
 use Rattle.command.specs.Answer.{answer_line, listing_lines}
+use Rattle.command.specs.AnswerLaws.{AnswerLaws}
+use Rattle.command.specs.LineFault.{BeginsWithCapital, IsHelp, has_lowercase_line}
 
--- the listing of records; None without a key
-abbrev pub listed_lines : List Record → Option (List ℕ)
-listed_lines records = option_map listing_lines (shown_of_records records)
-
--- Nothing secret is listed: two lists of records that differ only in secrets have the same lines.
-pub secrets_have_no_part : ListingLaw → (a b : List Record) → map without_secret a ≡ map without_secret b
-    → listed_lines a ≡ listed_lines b
-secrets_have_no_part law a b same = ap (option_map listing_lines) (law a b same)
-
--- No answer's line begins with a capital letter.
-pub line_is_lower : (answer : Result Done Refusal) → BeginsWithCapital (answer_line answer) → ⊥
+line_is_lower : (answer : Result Done Refusal) → BeginsWithCapital (answer_line answer) → ⊥
 line_is_lower (Ok Verified) capital = omega (arith, capital)
 line_is_lower (Ok (Retired upto)) capital = omega (arith, capital)
 line_is_lower (Ok (Published public)) capital = omega (arith, capital)
@@ -53,10 +43,17 @@ unfolding has_lowercase_line
 later_line byte [] line lowercase = or_right _ _ lowercase
 later_line byte (next ∷ before) line lowercase = or_right _ _ (later_line next before line lowercase)
 
--- So no line of help is an answer's line, neither its first nor a later one.
-pub help_has_no_answer : (text before after : List ℕ) (answer : Result Done Refusal) → IsHelp text
+-- So no line of help is an answer's line.
+help_has_no_answer : (text before after : List ℕ) (answer : Result Done Refusal) → IsHelp text
     → (text ≡ answer_line answer ++ after) ⊎ (text ≡ before ++ 10 ∷ (answer_line answer ++ after)) → ⊥
 help_has_no_answer text before after answer (capital, none) (inl first) =
     false≢true (sym none ∙ ap (has_lowercase_line 10) first ∙ line_is_lowercase answer after)
 help_has_no_answer text before after answer (capital, none) (inr later) =
     false≢true (sym none ∙ ap (has_lowercase_line 10) later ∙ later_line 10 before _ (line_is_lowercase answer after))
+
+pub laws : ListingLaw → AnswerLaws
+laws law = record {
+  lower = line_is_lower;
+  help = help_has_no_answer;
+  listing = λ a b same. ap (option_map listing_lines) (law a b same);
+}
