@@ -17,9 +17,9 @@ use state_file::{FormatFault, MigrateFault, OpenFault};
 use std::io;
 use typecodes::{Name, Refusal as SignatureRefusal};
 
-/// No line of an answer begins with a capital letter, so none can be taken for a line of help. Nothing secret is listed:
-/// records that differ only in secrets have the same lines. The function does nothing: its contract is proved for all
-/// answers.
+/// No line of an answer begins with a capital letter, so none can be taken for a line of help. Nothing secret is
+/// listed: records that differ only in secrets have the same lines. The function does nothing: its contract is proved
+/// for all answers.
 pub fn answer_laws()
     ensures { AnswerLaws }
 {
