@@ -6,6 +6,7 @@ pub mod Walking
 pub mod Shown
 pub mod OneWay
 pub mod Verifying
+pub mod Roots
 pub mod Verdicts
 pub mod Making
 pub mod Bytes

@@ -5,9 +5,10 @@
 //!
 //! What the crates above rely on: `verify` is `Ok` exactly on the spellings of valid signatures, and else reports the
 //! first refusal, unless the message can't be read. `verify_bytes_by` takes a message in memory, `verify_digest_by` a
-//! message's digest; both take a way to climb chains, and `OneByOne` needs little stack. `write_signature` writes the
-//! textbook signature if roots and paths are the secrets'. It is valid if also each digest is the digest of what its
-//! level signs. `Level::write` writes one level's LMS signature alone. No call takes memory.
+//! message's digest; both take a way to climb chains, and `OneByOne` needs little stack. `root_by` gives the root that
+//! a signature leads to, which is the key's exactly where it is valid. `write_signature` writes the textbook signature
+//! if roots and paths are the secrets'. It is valid if also each digest is the digest of what its level signs.
+//! `Level::write` writes one level's LMS signature alone. No call takes memory.
 //!
 //! The laws are `spelling_laws`, `verdict_laws`, `textbook_laws` and `joining_laws`.
 //!
@@ -36,6 +37,5 @@ pub use crate::key::HssPublic;
 pub use crate::laws::{joining_laws, spelling_laws, textbook_laws, verdict_laws};
 pub use crate::secret::Level;
 pub use crate::signature::HssSigView;
-pub use crate::signed_key::SignedKeyView;
-pub use crate::verification::{message_prefix, verify, verify_bytes_by, verify_digest_by};
+pub use crate::verification::{message_prefix, root_by, verify, verify_bytes_by, verify_digest_by};
 pub use crate::writing::{signature_len, write_public, write_signature, write_signed_key};

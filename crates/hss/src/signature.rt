@@ -1,12 +1,11 @@
 //! Signatures, as views of their bytes.
 
-ghost use Rattle.std.specs.Prelude.{◌≡◌, ◌+◌, ◌*◌, ◌<◌, ◌≤◌, ◌↔◌, ◌^◌, Ok, IfOk, IfSome, IsSome};
+ghost use Rattle.std.specs.Prelude.{◌≡◌, ◌+◌, ◌-◌, ◌*◌, ◌<◌, ◌≤◌, ◌↔◌, ◌^◌, Ok, IfOk, IfSome, IsSome};
 ghost use Rattle.std.specs.Prelude.{length, take, drop};
 ghost use Rattle.byteorder.specs.Endian.{big_number};
 ghost use Rattle.typecodes.specs.Layout.{Spells};
 ghost use Rattle.typecodes.specs.Cursor.{Gives, Passes, Reads, read};
 ghost use Rattle.typecodes.specs.Types.{lms_signature_len_of};
-ghost use Rattle.lms.specs.declared.key.LmsPublic.{LmsPublic};
 ghost use Rattle.lms.specs.Key.{public_key as lms_public_key};
 ghost use Rattle.lms.specs.View.{bytes_of as lms_bytes_of, pair_of as lms_pair_of, signature_of as lms_signature_of};
 ghost use Rattle.hss.specs.Key.{level_number};
@@ -16,7 +15,7 @@ ghost use Rattle.hss.specs.Signature.{signature, signature_at, signature_size, s
 
 use crate::signed_key::SignedKeyView;
 use crate::signed_keys::SignedKeys;
-use lms::LmsSigView;
+use lms::{LmsPublic, LmsSigView};
 use typecodes::{Cause, Cursor, ReadFault};
 
 /// A signature of one to eight levels (RFC 8554 6.2), as a view of the bytes that spell it.
@@ -76,8 +75,23 @@ impl<'a> HssSigView<'a> {
         }
     }
 
-    /// If level i is above the bottom: its signature, and the public key of level i + 1, which it signs.
-    pub fn signed_key(&self, i: u8) -> Option<SignedKeyView<'a>>
+    /// The public key of level i, which the level above signs, and whose 56 bytes stand before level i's signature. The
+    /// caller keeps i from 1 to the last level.
+    pub fn key(&self, i: u8) -> LmsPublic
+        requires below_the_top { 1 ≤ i }
+        requires is_level { i < level_count (signature_of self.now) }
+        ensures value { (top : LmsPublic) → result ≡ key_at top (signature_of self.now) i }
+        ensures range { Spells lms_public_key result
+            (take 56 (drop (start_at (signature_of self.now) i - 56) (bytes_of self.now))) }
+    {
+        match self.signed_key(i - 1) {
+            Some(signed) => signed.key,
+            None => unreachable!(),
+        }
+    }
+
+    // If level i is above the bottom: its signature, and the public key of level i + 1, which it signs.
+    pub(crate) fn signed_key(&self, i: u8) -> Option<SignedKeyView<'a>>
         ensures is_some { IsSome result ↔ (i + 1 < level_count (signature_of self.now)) }
         ensures signature { IfSome result (λ view.
             lms_signature_of view.signature ≡ signature_at (signature_of self.now) i) }
@@ -91,7 +105,10 @@ impl<'a> HssSigView<'a> {
 
     /// The bottom level's signature, which signs the message.
     pub fn bottom(&self) -> LmsSigView<'a>
-        ensures { lms_signature_of result ≡ (signature_of self.now).bottom }
+        ensures value { lms_signature_of result ≡ (signature_of self.now).bottom }
+        ensures range { let bottom = level_count (signature_of self.now) - 1 in
+            lms_bytes_of result ≡ take (lms_signature_len_of (lms_pair_of result))
+            (drop (start_at (signature_of self.now) bottom) (bytes_of self.now)) }
     {
         self.bottom
     }

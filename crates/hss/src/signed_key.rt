@@ -10,18 +10,17 @@ ghost use Rattle.lms.specs.View.{signature_of as lms_signature_of};
 use lmots::Climbing;
 use lms::{LmsPublic, LmsSigView};
 use typecodes::{Cursor, ReadFault, Refusal};
-use winternitz::InLanes;
 
 /// The signature of a level above the bottom, and the next level's public key, which it signs (RFC 8554 6.2).
 #[derive(Clone, Copy, Debug)]
-pub struct SignedKeyView<'a> {
+pub(crate) struct SignedKeyView<'a> {
     /// The level's signature.
-    pub signature: LmsSigView<'a>,
+    pub(crate) signature: LmsSigView<'a>,
     /// The next level's public key.
-    pub key: LmsPublic,
+    pub(crate) key: LmsPublic,
     /// The key's 56 bytes, which follow the signature: the message that the level signs.
-    pub key_bytes: &'a [u8],
-    pub ghost spelled: { key_bytes.now ≡ public_bytes key },
+    pub(crate) key_bytes: &'a [u8],
+    ghost spelled: { key_bytes.now ≡ public_bytes key },
 }
 
 impl<'a> SignedKeyView<'a> {
@@ -30,7 +29,7 @@ impl<'a> SignedKeyView<'a> {
     /// The signature and the key at a cursor, at most 9324 bytes and 56. The caller keeps their end below `2^32`. At a
     /// fault the cursor stays.
     #[tactic(auto, using(crate::proofs::Passing::one), unfolding(crate::specs::SignedKey::signed_key))]
-    pub fn from_cursor(cursor: &mut Cursor<'a>) -> Result<Self, ReadFault>
+    pub(crate) fn from_cursor(cursor: &mut Cursor<'a>) -> Result<Self, ReadFault>
         requires { cursor.old.place + 9380 < 2 ^ 32 }
         ensures read { Gives (λ view. (signed_key_of view, cursor.new.place)) result
             (read signed_key cursor.old.bytes.now cursor.old.place) }
@@ -51,18 +50,9 @@ impl<'a> SignedKeyView<'a> {
         })
     }
 
-    /// Verifies the signature of the key under this level's key. The first refusal, with the level: other types than
-    /// the level's key's (10), then another root (12).
-    pub fn verify(&self, public: &LmsPublic, level: u8) -> Result<(), Refusal>
-        ensures verdict { LevelVerdict public.now (public_bytes self.now.key)
-            (lms_signature_of self.now.signature) level result }
-        ensures read { result ≢ Err Refusal.MessageRead }
-    {
-        self.verify_by(&InLanes, public, level)
-    }
-
-    /// As `verify`, by a way to climb chains.
-    pub fn verify_by<C: Climbing>(
+    /// Verifies the signature of the key under this level's key, by a way to climb chains. The first refusal, with the
+    /// level: other types than the level's key's (10), then another root (12).
+    pub(crate) fn verify_by<C: Climbing>(
         &self,
         climbing: &C,
         public: &LmsPublic,

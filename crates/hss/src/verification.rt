@@ -1,10 +1,11 @@
 //! Verification (RFC 8554 6.3).
 
-ghost use Rattle.std.specs.Prelude.{◌≡◌, ◌≢◌, ℕ, List, length, Err, IfOk, IfErr};
-ghost use Rattle.hss.specs.Signature.{key_at};
-ghost use Rattle.hss.specs.Verification.{HasPrefix, IsDigest, LeavesMessage, Verdict};
-ghost use Rattle.hss.specs.inner.Verification.{AboveVerdict, IsBottom};
+ghost use Rattle.std.specs.Prelude.{◌≡◌, ◌≢◌, ◌<◌, ℕ, List, length, Err, IfOk, IfErr};
+ghost use Rattle.hss.specs.Signature.{key_at, level_count, signature_at};
+ghost use Rattle.hss.specs.Verification.{GivesRoot, HasPrefix, IsDigest, LeavesMessage, Verdict};
+ghost use Rattle.hss.specs.inner.Verification.{AboveVerdict, GivesTopRoot, IsBottom};
 ghost use Rattle.hss.specs.View.{signature_of};
+ghost use Rattle.lms.specs.Verification.{LevelGivesRoot};
 ghost use Rattle.lms.specs.View.{signature_of as lms_signature_of};
 ghost use Rattle.typecodes.specs.Verdict.{Verifies};
 
@@ -75,6 +76,31 @@ pub fn verify_digest_by<C: Climbing>(
         .verify_digest_by(climbing, &bottom.key, digest, bottom.level)
 }
 
+/// The root to which the signature of a message in memory leads, by a way to climb chains. It is not compared with the
+/// key's, which it is exactly where the signature is valid. It is computed from the bottom up. Each level signs the
+/// next level's key as it was computed: so the message decides the root, even where a fault skips a comparison.
+///
+/// Refuses a fault of the signature's bytes (1 to 5); another number of levels than the key's (11); and at the lowest
+/// level that has them, other types than its key's (10), or, below the top, another root (12).
+pub fn root_by<C: Climbing>(
+    climbing: &C,
+    public: &HssPublic,
+    message: &[u8],
+    signature: &[u8],
+) -> Result<[u8; 32], Refusal>
+    ensures root { GivesRoot public.now message.now signature.now result }
+    ensures read { result ≢ Err Refusal.MessageRead }
+{
+    let whole = match HssSigView::read(signature) {
+        Ok(view) => view,
+        Err(fault) => return Err(Refusal::Unreadable(fault)),
+    };
+    if whole.levels() != public.levels.get() {
+        return Err(Refusal::LevelMismatch);
+    }
+    top_root(climbing, &public.top, &whole, message)
+}
+
 /// The 54 bytes that are hashed before the message: I of the bottom level's key, q, D_MESG and C (RFC 8554 4.5). No
 /// level is verified here; `verify_digest_by` does that. Refuses only a fault of the signature's bytes (1 to 5) and
 /// another number of levels than the key's (11), as verification of any message does.
@@ -101,14 +127,58 @@ pub fn message_prefix(public: &HssPublic, signature: &[u8]) -> Result<[u8; 54], 
 fn last_key(top: &LmsPublic, view: &HssSigView<'_>) -> LmsPublic
     ensures { result ≡ key_at top.now (signature_of view.now) (length (signature_of view.now).signed) }
 {
-    let levels = view.levels();
-    if levels < 2 {
+    key_of(top, view, view.levels() - 1)
+}
+
+// The key of a level, 0 for the top.
+fn key_of(top: &LmsPublic, view: &HssSigView<'_>, level: u8) -> LmsPublic
+    requires { level < level_count (signature_of view.now) }
+    ensures { result ≡ key_at top.now (signature_of view.now) level }
+{
+    if level < 1 {
         return *top;
     }
-    match view.signed_key(levels - 2) {
-        Some(signed) => signed.key,
-        None => unreachable!(),
+    view.key(level)
+}
+
+// The root to which all levels lead, computed from the bottom up.
+fn top_root<C: Climbing>(
+    climbing: &C,
+    top: &LmsPublic,
+    view: &HssSigView<'_>,
+    message: &[u8],
+) -> Result<[u8; 32], Refusal>
+    ensures root { GivesTopRoot top.now message.now (signature_of view.now) result }
+    ensures read { result ≢ Err Refusal.MessageRead }
+{
+    let bottom = view.levels() - 1;
+    let mut root = level_root(climbing, top, view, bottom, message)?;
+    for done in 0..bottom {
+        let level = bottom - done;
+        let mut key = view.key(level);
+        if root != key.root {
+            return Err(Refusal::RootMismatch(level));
+        }
+        key.root = root;
+        root = level_root(climbing, top, view, level - 1, &key.to_bytes())?;
     }
+    Ok(root)
+}
+
+// The root to which the signature of a level leads, with what the level signs.
+fn level_root<C: Climbing>(
+    climbing: &C,
+    top: &LmsPublic,
+    view: &HssSigView<'_>,
+    level: u8,
+    message: &[u8],
+) -> Result<[u8; 32], Refusal>
+    requires { level < level_count (signature_of view.now) }
+    ensures { LevelGivesRoot (key_at top.now (signature_of view.now) level) message.now
+        (signature_at (signature_of view.now) level) level result }
+{
+    let key = key_of(top, view, level);
+    view.level(level).root_by(climbing, &key, message, level)
 }
 
 // The bottom level of a signature.

@@ -74,7 +74,7 @@ impl Chains {
             self.private_values_in_lanes(seed, LANES * group, &mut values);
         }
         for chain in LANES * groups..count {
-            values[chain] = self.key.private_value(seed, chain as u16);
+            values[chain] = self.key.secret(seed, chain as u16);
         }
         values
     }

@@ -99,7 +99,7 @@ impl LmOts {
     }
 
     /// The private value of a chain, derived from the key's seed (RFC 8554, Appendix A).
-    pub fn private_value(&self, seed: &[u8; 32], chain: u16) -> [u8; 32]
+    pub fn secret(&self, seed: &[u8; 32], chain: u16) -> [u8; 32]
         ensures { result ≡ spec.private_value self.now.identifier self.now.leaf seed.now chain }
     {
         let mut hasher = self.hasher(chain);

@@ -1,16 +1,18 @@
 -- The key, the message and the bytes alone decide the answers of verification.
 use Rattle.std.proofs.Common.{◌≡◌, ℕ, List, Option, Result, Ok, Err, sym, subst}
-use Rattle.std.specs.Prelude.{◌≢◌, IsOk}
+use Rattle.std.specs.Prelude.{◌≢◌, ◌↔◌, ◌<◌, ◌^◌, IsOk, length}
 use Rattle.typecodes.specs.Message.{ReadWhole, Transition}
 use Rattle.typecodes.specs.Layout.{Spells}
 use Rattle.typecodes.specs.Verdict.{VerdictLaws}
 use Rattle.typecodes.specs.inner.Verdict.{DigestVerdict}
+use Rattle.typecodes.proofs.Spelling.{one_value}
 use Rattle.typecodes.proofs.Verdicts.{Refused, of_digest, tree_laws}
+use Rattle.typecodes.specs.Types.{chains_of, height_of}
 use Rattle.lms.specs.declared.key.LmsPublic.{LmsPublic}
 use Rattle.typecodes.specs.declared.refusal.Refusal.{Refusal}
 use Rattle.typecodes.specs.declared.refusal.Refusal.TheVariants.{Unreadable, TypeMismatch, LevelMismatch, RootMismatch, MessageRead}
 use Rattle.lms.specs.Signature.{Signature, signature}
-use Rattle.lms.specs.Verification.{IsValid, IsValidFor, LeavesMessage, LevelVerdict, Verdict, digest_of}
+use Rattle.lms.specs.Verification.{GivesRoot, IsValid, IsValidFor, LeadsTo, LeavesMessage, LevelGivesRoot, LevelVerdict, Signs, Verdict, digest_of}
 
 -- the answer for a message's digest is the answer for the message
 pub level_of_digest : {A : Type 0} (key : LmsPublic) (message digest : List ℕ) (s : Signature) (i : ℕ) (result : Result A Refusal)
@@ -58,3 +60,33 @@ laws = tree_laws Verdict (λ key. signature) (λ key s. s.pair ≡ key.pair) IsV
 pub accepted : (key : LmsPublic) (message bytes : List ℕ) (result : Result (Unit {0}) Refusal) → Verdict key message bytes result
     → result ≢ Err MessageRead → (s : Signature) → Spells signature s bytes → IsValid key message s → IsOk result
 accepted = laws.accepted
+
+-- ---- roots
+
+-- the one root to which a signature of the key's types leads is the key's exactly where the signature is valid
+pub root_of_level : (key : LmsPublic) (message digest root : List ℕ) (s : Signature) → digest ≡ digest_of key message s → s.pair ≡ key.pair
+    → length s.chains ≡ chains_of s.pair.ots → s.q < 2 ^ height_of s.pair.tree → length s.path ≡ height_of s.pair.tree
+    → LeadsTo key digest s root → ((other : List ℕ) → LeadsTo key digest s other → other ≡ root) → (root ≡ key.root) ↔ IsValid key message s
+root_of_level key message digest root s same types chains leaf height leads only = (
+  λ is. record {
+    types = types;
+    chains = subst (λ pair. length s.chains ≡ chains_of pair.ots) types chains;
+    leaf = subst (λ pair. s.q < 2 ^ height_of pair.tree) types leaf;
+    height = subst (λ pair. length s.path ≡ height_of pair.tree) types height;
+    leads = subst (LeadsTo key (digest_of key message s) s) is (subst (λ d. LeadsTo key d s root) same leads);
+  },
+  λ valid. sym (only key.root (subst (λ d. LeadsTo key d s key.root) (sym same) valid.leads)),
+)
+
+-- a valid signature that the bytes spell is the one that was decoded
+signs_decoded : (key : LmsPublic) (message bytes : List ℕ) (s : Signature) → Spells signature s bytes → Signs key message bytes → IsValid key message s
+signs_decoded key message bytes s spelled (t, spelled_too, valid) =
+    subst (λ s. IsValid key message s) (one_value signature t s bytes spelled_too spelled) valid
+
+-- the root of a decoded signature is the root of its bytes
+pub whole_root : (key : LmsPublic) (message bytes : List ℕ) (s : Signature) (result : Result (List ℕ) Refusal) → Spells signature s bytes
+    → LevelGivesRoot key message s 0 result → GivesRoot key message bytes result
+whole_root key message bytes s (Ok root) spelled exact =
+    (λ is. (s, spelled, exact.0 is), λ signs. exact.1 (signs_decoded key message bytes s spelled signs))
+whole_root key message bytes s (Err refusal) spelled (is, invalid) =
+    λ signs. invalid (signs_decoded key message bytes s spelled signs)

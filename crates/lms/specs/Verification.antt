@@ -1,5 +1,5 @@
 -- Which signatures are valid (RFC 8554 5.4.2 and 4.6), and what verification answers, with the first refusal.
-use Rattle.std.specs.Prelude.{◌≡◌, ◌≢◌, ℕ, ◌<◌, ◌^◌, List, length, Result, Ok, Err}
+use Rattle.std.specs.Prelude.{◌≡◌, ◌≢◌, ◌↔◌, ℕ, ◌<◌, ◌^◌, List, length, Result, Ok, Err}
 use Rattle.typecodes.specs.declared.refusal.Refusal.{Refusal}
 use Rattle.typecodes.specs.declared.refusal.Refusal.TheVariants.{Unreadable, TypeMismatch, LevelMismatch}
 use Rattle.typecodes.specs.declared.refusal.Refusal.TheVariants.{RootMismatch, MessageRead}
@@ -75,3 +75,18 @@ LevelVerdict key message s i (Err LevelMismatch) = ⊥
 LevelVerdict key message s i (Err MessageRead) = s.pair ≡ key.pair
 LevelVerdict key message s i (Err (RootMismatch level)) =
     (level ≡ i) × (s.pair ≡ key.pair) × (IsValid key message s → ⊥)
+
+-- The bytes spell a signature that is valid for the message.
+abbrev pub Signs : LmsPublic → List ℕ → List ℕ → Type 0
+Signs key message bytes = (s : Signature) × Spells signature s bytes × IsValid key message s
+
+-- The root to which a signature's bytes lead is the key's exactly where they spell a valid signature. Where they lead
+-- to none, they spell no valid one.
+abbrev pub GivesRoot : LmsPublic → List ℕ → List ℕ → Result (List ℕ) Refusal → Type 0
+GivesRoot key message bytes (Ok root) = (root ≡ key.root) ↔ Signs key message bytes
+GivesRoot key message bytes (Err refusal) = Signs key message bytes → ⊥
+
+-- The same of a decoded signature, as level i of an HSS signature.
+abbrev pub LevelGivesRoot : LmsPublic → List ℕ → Signature → ℕ → Result (List ℕ) Refusal → Type 0
+LevelGivesRoot key message s i (Ok root) = (root ≡ key.root) ↔ IsValid key message s
+LevelGivesRoot key message s i (Err refusal) = (refusal ≡ TypeMismatch i) × (IsValid key message s → ⊥)

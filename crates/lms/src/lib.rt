@@ -6,9 +6,9 @@
 //! What the crates above rely on: `verify` is `Ok` exactly on the spellings of valid signatures, and else reports the
 //! first refusal, unless the message can't be read. `LmsSigView::verify` does the same for a decoded signature, such as
 //! one level of HSS. `verify_bytes_by` takes a message in memory, `verify_digest_by` a message's digest; both take a
-//! way to climb chains, and `OneByOne` needs little stack. `write_signature` writes the textbook signature of
-//! `specs/Writing.antt`, which is valid. A `SigningTree` has what that needs of a tree, and writes the same. No call
-//! takes memory.
+//! way to climb chains, and `OneByOne` needs little stack. `root_by` gives the root that a signature leads to, which is
+//! the key's exactly where it is valid. `write_signature` writes the textbook signature of `specs/Writing.antt`, which
+//! is valid. A `SigningTree` has what that needs of a tree, and writes the same. No call takes memory.
 //!
 //! Keys and signatures are spelled in one way (`spelling_laws`), and `verify` has one answer, unless the message can't
 //! be read (`verdict_laws`).
@@ -38,5 +38,5 @@ pub use crate::laws::{spelling_laws, verdict_laws};
 pub use crate::secret::LmsTree;
 pub use crate::signature::LmsSigView;
 pub use crate::signing_tree::SigningTree;
-pub use crate::verification::{message_prefix, verify, verify_bytes_by, verify_digest_by};
+pub use crate::verification::{message_prefix, root_by, verify, verify_bytes_by, verify_digest_by};
 pub use crate::writing::{write_public, write_signature};

@@ -88,7 +88,7 @@ impl<'a> LmsSigView<'a> {
     }
 
     /// q, the leaf's number.
-    pub fn q(&self) -> u32
+    pub fn index(&self) -> u32
         ensures value { result ≡ (signature_of self.now).q }
         ensures range { result ≡ big_number 4 (take 4 (bytes_of self.now)) }
         ensures is_leaf { result < 2 ^ height_of (pair_of self.now).tree }

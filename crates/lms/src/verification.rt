@@ -2,8 +2,8 @@
 
 ghost use Rattle.std.specs.Prelude.{◌≡◌, ◌≢◌, List, ℕ, Err, IfErr, IfOk, MatchResult};
 ghost use Rattle.lms.specs.View.{signature_of};
-ghost use Rattle.lms.specs.Verification.{HasPrefix, IsDigest, IsValidFor, LeadsTo, LeavesMessage, LevelVerdict};
-ghost use Rattle.lms.specs.Verification.{Verdict, digest_of, prefix_of};
+ghost use Rattle.lms.specs.Verification.{GivesRoot, HasPrefix, IsDigest, IsValidFor, LeadsTo, LeavesMessage};
+ghost use Rattle.lms.specs.Verification.{LevelGivesRoot, LevelVerdict, Verdict, digest_of, prefix_of};
 ghost use Rattle.typecodes.specs.Verdict.{Verifies};
 ghost use Rattle.typecodes.specs.inner.Verdict.{DigestVerdict};
 
@@ -73,6 +73,25 @@ pub fn verify_digest_by<C: Climbing>(
     view.verify_digest_by(climbing, public, digest, 0)
 }
 
+/// The root to which the signature of a message in memory leads, by a way to climb chains (RFC 8554 5.4.2, algorithm
+/// 6a). It is compared with none: it is the key's exactly where the signature is valid. Refuses a fault of the
+/// signature's bytes (1 to 5), and other types than the key's (10, level 0).
+pub fn root_by<C: Climbing>(
+    climbing: &C,
+    public: &LmsPublic,
+    message: &[u8],
+    signature: &[u8],
+) -> Result<[u8; 32], Refusal>
+    ensures root { GivesRoot public.now message.now signature.now result }
+    ensures read { result ≢ Err Refusal.MessageRead }
+{
+    let view = match LmsSigView::read(signature) {
+        Ok(view) => view,
+        Err(fault) => return Err(Refusal::Unreadable(fault)),
+    };
+    view.root_by(climbing, public, message, 0)
+}
+
 /// The 54 bytes that are hashed before the message: I, q, D_MESG and C (RFC 8554 4.5). Refuses only a fault of the
 /// signature's bytes (1 to 5), as verification of any message does.
 pub fn message_prefix(public: &LmsPublic, signature: &[u8]) -> Result<[u8; 54], Refusal>
@@ -120,15 +139,8 @@ impl LmsSigView<'_> {
         }
     }
 
-    /// As `verify`, for a message in memory, such as a lower level's key, whose reading can't fail.
-    pub fn verify_bytes(&self, public: &LmsPublic, message: &[u8], level: u8) -> Result<(), Refusal>
-        ensures verdict { LevelVerdict public.now message.now (signature_of self.now) level result }
-        ensures read { result ≢ Err Refusal.MessageRead }
-    {
-        self.verify_bytes_by(&InLanes, public, message, level)
-    }
-
-    /// As `verify_bytes`, by a way to climb chains.
+    /// As `verify`, for a message in memory, such as a lower level's key, whose reading can't fail, and by a way to
+    /// climb chains.
     pub fn verify_bytes_by<C: Climbing>(
         &self,
         climbing: &C,
@@ -159,6 +171,23 @@ impl LmsSigView<'_> {
     {
         self.check_types(public, level)?;
         self.verify_digest(climbing, public, digest, level)
+    }
+
+    /// The root to which the signature of a message in memory leads, by a way to climb chains, at a level of an HSS
+    /// signature. Refuses other types than the key's (10, with the level).
+    pub fn root_by<C: Climbing>(
+        &self,
+        climbing: &C,
+        public: &LmsPublic,
+        message: &[u8],
+        level: u8,
+    ) -> Result<[u8; 32], Refusal>
+        ensures { LevelGivesRoot public.now message.now (signature_of self.now) level result }
+    {
+        self.check_types(public, level)?;
+        let key = self.one_time_key(public);
+        let signed = key.message_digest(self.randomizer, message);
+        Ok(root_from_signature(climbing, public, &signed, self))
     }
 
     /// The 54 bytes that are hashed before the message: I, q, D_MESG and C (RFC 8554 4.5).

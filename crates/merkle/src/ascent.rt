@@ -51,6 +51,7 @@ pub fn root_and_path<T: TreeHash>(
     ensures counted { T.made tree.new ≡ T.made tree.old + 2 ^ height }
     ensures leaves { T.leaf_of tree.new ≡ T.leaf_of tree.old }
     ensures joins { T.join_of tree.new ≡ T.join_of tree.old }
+    ensures most { T.most tree.new ≡ T.most tree.old }
 {
     path(tree, height, leaf, into);
     let value = tree.leaf(leaf);

@@ -71,7 +71,8 @@ impl<T: TreeHash> PathCache<T> {
         ensures nodes { IfOk result
             (KeepsNodes (T.leaf_of tree) (T.join_of tree) height (q / 2 ^ block_height height)) }
     {
-        Self::for_leaf_telling(alloc, tree, height, q, Silent::new())
+        let (cache, _) = Self::for_leaf_telling(alloc, tree, height, q, Silent::new())?;
+        Ok(cache)
     }
 
     /// As `for_leaf`, and tells a `Progress` of the leaves while they are made. If memory is refused, it is told of
@@ -82,23 +83,28 @@ impl<T: TreeHash> PathCache<T> {
         height: u8,
         q: u32,
         progress: P,
-    ) -> Result<PathCache<T>, OutOfMemory>
+    ) -> Result<(PathCache<T>, P), OutOfMemory>
     where
         T: Drop,
         requires at_most_25 { height ≤ 25 }
         requires fresh { T.made tree ≡ 0 }
         requires is_leaf { q < 2 ^ height }
-        ensures counted { IfOk result (λ cache. T.made cache.tree ≡ 2 ^ height) }
-        ensures leaves { IfOk result (λ cache. T.leaf_of cache.tree ≡ T.leaf_of tree) }
-        ensures joins { IfOk result (λ cache. T.join_of cache.tree ≡ T.join_of tree) }
+        requires untold { P.told progress ≡ 0 }
+        requires within { 2 ^ height ≤ P.most progress }
+        ensures counted { IfOk result (λ made. T.made made.0.tree ≡ 2 ^ height) }
+        ensures leaves { IfOk result (λ made. T.leaf_of made.0.tree ≡ T.leaf_of tree) }
+        ensures joins { IfOk result (λ made. T.join_of made.0.tree ≡ T.join_of tree) }
         ensures nodes { IfOk result
-            (KeepsNodes (T.leaf_of tree) (T.join_of tree) height (q / 2 ^ block_height height)) }
+            (λ made. KeepsNodes (T.leaf_of tree) (T.join_of tree) height (q / 2 ^ block_height height) made.0) }
+        // Of each leaf one was told.
+        ensures told { IfOk result (λ made. P.told made.1 ≡ 2 ^ height) }
     {
         let block_height = height / 2;
         let mut upper = zeroed_nodes(alloc, height - block_height)?;
         let mut block = zeroed_nodes(alloc, block_height)?;
         let kept_index = block_of(height, q);
-        let mut told = Told::new(tree, progress);
+        let leaves = 2u64.pow(u32::from(height));
+        let mut told = Told::new(tree, progress, leaves);
         fill(&mut told, 0, block_height, kept_index, &mut block);
         let block_root = block[block.len() - 1];
         fill_around(
@@ -110,14 +116,16 @@ impl<T: TreeHash> PathCache<T> {
             &block_root,
             &mut upper,
         );
-        Ok(PathCache {
-            tree: told.into_tree(),
+        let (tree, progress) = told.into_parts();
+        let cache = PathCache {
+            tree,
             height,
             upper,
             block,
             kept_index,
-            leaves: 2u64.pow(u32::from(height)),
-        })
+            leaves,
+        };
+        Ok((cache, progress))
     }
 
     /// The authentication path of leaf q (RFC 8554 5.4, RFC 8391 4.1.9), the leaf's sibling first. If q's block isn't

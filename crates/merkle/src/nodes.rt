@@ -23,6 +23,7 @@ pub(crate) fn fill<T: TreeHash>(
     ensures counted { T.made tree.new ≡ T.made tree.old + 2 ^ (base + depth) }
     ensures leaves { T.leaf_of tree.new ≡ T.leaf_of tree.old }
     ensures joins { T.join_of tree.new ≡ T.join_of tree.old }
+    ensures most { T.most tree.new ≡ T.most tree.old }
 {
     if base + depth == LANES_HEIGHT {
         let leaves = tree.leaves_in_lanes(LANES as u32 * index);
@@ -92,6 +93,7 @@ pub(crate) fn fill_around<T: TreeHash>(
     ensures counted { T.made tree.new + 2 ^ base ≡ T.made tree.old + 2 ^ (base + depth) }
     ensures leaves { T.leaf_of tree.new ≡ T.leaf_of tree.old }
     ensures joins { T.join_of tree.new ≡ T.join_of tree.old }
+    ensures most { T.most tree.new ≡ T.most tree.old }
 {
     if depth == 0 {
         into[0] = *known;

@@ -30,12 +30,16 @@ pub trait TreeHash: NodeHash {
     // how many leaves were made so far
     ghost made: { Self → ℕ };
 
+    // the greatest number of leaves that it tells somebody of; 0 for a tree that tells nobody
+    ghost most: { Self → ℕ } = { λ _. 0 };
+
     /// Leaf i. Each call counts as one leaf made.
     fn leaf(&mut self, i: u32) -> [u8; 32]
         ensures value { result ≡ leaf_of self.old i }
         ensures counted { made self.new ≡ made self.old + 1 }
         ensures leaves { leaf_of self.new ≡ leaf_of self.old }
-        ensures joins { Self.join_of self.new ≡ Self.join_of self.old };
+        ensures joins { Self.join_of self.new ≡ Self.join_of self.old }
+        ensures most { most self.new ≡ most self.old };
 
     /// The leaves from `first` on, one for each lane; they count as `LANES` leaves made. By default they are made one
     /// by one.
@@ -45,6 +49,7 @@ pub trait TreeHash: NodeHash {
         ensures counted { made self.new ≡ made self.old + lanes }
         ensures leaves { leaf_of self.new ≡ leaf_of self.old }
         ensures joins { Self.join_of self.new ≡ Self.join_of self.old }
+        ensures most { most self.new ≡ most self.old }
     {
         let mut leaves = [[0; 32]; LANES];
         for lane in 0..LANES {
@@ -86,6 +91,7 @@ pub(crate) fn node_at<T: TreeHash>(tree: &mut T, height: u8, index: u32) -> [u8;
     ensures counted { T.made tree.new ≡ T.made tree.old + 2 ^ height }
     ensures leaves { T.leaf_of tree.new ≡ T.leaf_of tree.old }
     ensures joins { T.join_of tree.new ≡ T.join_of tree.old }
+    ensures most { T.most tree.new ≡ T.most tree.old }
 {
     if height == 0 {
         return tree.leaf(index);
@@ -116,6 +122,7 @@ pub fn root<T: TreeHash>(tree: &mut T, height: u8) -> [u8; 32]
     ensures counted { T.made tree.new ≡ T.made tree.old + 2 ^ height }
     ensures leaves { T.leaf_of tree.new ≡ T.leaf_of tree.old }
     ensures joins { T.join_of tree.new ≡ T.join_of tree.old }
+    ensures most { T.most tree.new ≡ T.most tree.old }
 {
     node_at(tree, height, 0)
 }
@@ -131,6 +138,7 @@ pub fn path<T: TreeHash>(tree: &mut T, height: u8, q: u32, into: &mut [[u8; 32]]
     ensures counted { T.made tree.new ≡ T.made tree.old + (2 ^ height - 1) }
     ensures leaves { T.leaf_of tree.new ≡ T.leaf_of tree.old }
     ensures joins { T.join_of tree.new ≡ T.join_of tree.old }
+    ensures most { T.most tree.new ≡ T.most tree.old }
 {
     let mut over = q;
     for (k, node) in into.iter_mut().enumerate() {

@@ -21,8 +21,8 @@ pub trait Climbing {
     fn prf(&self, key: [u8; 32]) -> Prf
         ensures { result.key ≡ key };
 
-    /// As `Wots::hash_from_signature`. The caller gives a value for each chain.
-    fn hash_from_signature(
+    /// As `Wots::public_from_signature`. The caller gives a value for each chain.
+    fn public_from_signature(
         &self,
         key: &Wots<'_>,
         digest: &[u8; 32],
@@ -59,13 +59,13 @@ impl Climbing for InLanes {
         Prf::new(key)
     }
 
-    fn hash_from_signature(
+    fn public_from_signature(
         &self,
         key: &Wots<'_>,
         digest: &[u8; 32],
         values: &[[u8; 32]],
     ) -> [u8; 32] {
-        key.hash_from_signature(digest, values)
+        key.public_from_signature(digest, values)
     }
 }
 
@@ -84,7 +84,7 @@ impl Climbing for OneByOne {
         Prf::without_lanes(key)
     }
 
-    fn hash_from_signature(
+    fn public_from_signature(
         &self,
         key: &Wots<'_>,
         digest: &[u8; 32],

@@ -77,10 +77,10 @@ impl Wots<'_> {
     }
 
     /// The private value of a chain, derived from a secret.
-    pub fn private_value(&self, secret: &[u8; 32], chain: u16) -> [u8; 32]
-        ensures { result ≡ spec.private_value self.now.seed.now.key self.now.leaf secret.now chain }
+    pub fn secret(&self, secret_seed: &[u8; 32], chain: u16) -> [u8; 32]
+        ensures { result ≡ spec.private_value self.now.seed.now.key self.now.leaf secret_seed.now chain }
     {
-        let mut hasher = keyed(4, secret);
+        let mut hasher = keyed(4, secret_seed);
         hasher.update(self.seed.key);
         hasher.update(self.step_address(chain, 0, 0));
         hasher.finalize()

@@ -1,6 +1,6 @@
 //! WOTS+ one-time signatures and L-trees (RFC 8391, sections 3.1 and 4.1.5), for SHA-256 with n = 32 and w = 16.
 //!
-//! `hash_from_signature` gives the public hash that a signature's values lead to, `public_hash` the one of a secret's
+//! `public_from_signature` gives the public hash that a signature's values lead to, `public_hash` the one of a secret's
 //! key, and `public_hashes_in_lanes` those of several leaves side by side. `sign_digest` writes the values of a
 //! secret's signature, which climb to the secret's ends. `rand_hash` joins the nodes of the hash tree above. A verifier
 //! takes `Climbing` as a parameter: in lanes, or with little stack.
@@ -17,7 +17,7 @@
 //! let key = Wots { seed: &seed, leaf: 5 };
 //! let mut values = [0; 32 * WOTS_CHAINS];
 //! key.sign_digest(&secret, &digest, &mut values);
-//! let hash = key.hash_from_signature(&digest, values.as_chunks().0);
+//! let hash = key.public_from_signature(&digest, values.as_chunks().0);
 //! assert_eq!(rt; hash, key.public_hash(&secret));
 //! ```
 #![tactic(auto)]

@@ -34,7 +34,7 @@ impl Wots<'_> {
             self.private_values_in_lanes(secret, &first, LANES * group, &mut values);
         }
         for chain in WOTS_CHAINS / LANES * LANES..WOTS_CHAINS {
-            values[chain] = self.private_value(secret, chain as u16);
+            values[chain] = self.secret(secret, chain as u16);
         }
         values
     }
@@ -109,7 +109,7 @@ impl Wots<'_> {
 
     /// The public hash that a signature leads to (RFC 8391 3.1.6 and 4.1.10). Each chain climbs from its digit to its
     /// end, and the L-tree joins the ends. The caller gives a value for each chain.
-    pub fn hash_from_signature(&self, digest: &[u8; 32], values: &[[u8; 32]]) -> [u8; 32]
+    pub fn public_from_signature(&self, digest: &[u8; 32], values: &[[u8; 32]]) -> [u8; 32]
         requires { length values.now ≡ wots_chains }
         ensures value { result ≡ spec.public_hash self.now.seed.now.key self.now.leaf
             (ends_of_signature self.now.seed.now.key self.now.leaf digest.now values.now) }

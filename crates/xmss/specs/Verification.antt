@@ -1,5 +1,5 @@
 -- Which signatures are valid (RFC 8391 4.1.10, 3.1.6 and 4.1.5), and verification's answers, with the first refusal.
-use Rattle.std.specs.Prelude.{◌≡◌, ℕ, ◌<◌, ◌^◌, List, Option, length, Result, Ok, Err}
+use Rattle.std.specs.Prelude.{◌≡◌, ◌↔◌, ℕ, ◌<◌, ◌^◌, List, Option, length, Result, Ok, Err}
 use Rattle.typecodes.specs.declared.refusal.Refusal.{Refusal}
 use Rattle.typecodes.specs.declared.refusal.Refusal.TheVariants.{Unreadable, TypeMismatch, LevelMismatch}
 use Rattle.typecodes.specs.declared.refusal.Refusal.TheVariants.{RootMismatch, MessageRead}
@@ -66,3 +66,13 @@ abbrev pub LeavesMessage : {M A : Type 0} → Transition M → (M → Option (Li
     → Type 0
 LeavesMessage transition remaining text old new (Err (TypeMismatch level)) = ⊥
 LeavesMessage transition remaining text old new result = TreeLeavesMessage transition remaining text old new result
+
+-- The bytes spell a signature that is valid for the message.
+abbrev pub Signs : XmssPublic → List ℕ → List ℕ → Type 0
+Signs key message bytes = (s : Signature) × Spells (signature key.tree) s bytes × IsValid key message s
+
+-- The root to which a signature's bytes lead is the key's exactly where they spell a valid signature. Where they lead
+-- to none, they spell no valid one.
+abbrev pub GivesRoot : XmssPublic → List ℕ → List ℕ → Result (List ℕ) Refusal → Type 0
+GivesRoot key message bytes (Ok root) = (root ≡ key.root) ↔ Signs key message bytes
+GivesRoot key message bytes (Err refusal) = Signs key message bytes → ⊥

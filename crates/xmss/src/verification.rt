@@ -2,7 +2,8 @@
 
 ghost use Rattle.std.specs.Prelude.{◌≡◌, ◌≢◌, Err, IfErr, IfOk, List, ℕ};
 ghost use Rattle.xmss.specs.View.{signature_of};
-ghost use Rattle.xmss.specs.Verification.{HasPrefix, IsDigest, IsValidFor, LeadsTo, LeavesMessage, Verdict};
+ghost use Rattle.xmss.specs.Verification.{GivesRoot, HasPrefix, IsDigest, IsValidFor, LeadsTo, LeavesMessage};
+ghost use Rattle.xmss.specs.Verification.{Verdict};
 ghost use Rattle.typecodes.specs.Verdict.{Verifies};
 ghost use Rattle.typecodes.specs.inner.Verdict.{DigestVerdict};
 
@@ -74,6 +75,26 @@ pub fn verify_digest_by<C: Climbing>(
     view.verify_digest(climbing, public, digest)
 }
 
+/// The root to which the signature of a message in memory leads, by a way to climb chains (RFC 8391 4.1.10, algorithm
+/// 13). It is compared with none: it is the key's exactly where the signature is valid. Refuses a signature that
+/// doesn't decode (1, 4 or 5).
+pub fn root_by<C: Climbing>(
+    climbing: &C,
+    public: &XmssPublic,
+    message: &[u8],
+    signature: &[u8],
+) -> Result<[u8; 32], Refusal>
+    ensures root { GivesRoot public.now message.now signature.now result }
+    ensures read { result ≢ Err Refusal.MessageRead }
+{
+    let view = match XmssSigView::read(public.tree, signature) {
+        Ok(view) => view,
+        Err(fault) => return Err(Refusal::Unreadable(fault)),
+    };
+    let signed = message_digest(view.randomizer, &public.root, view.index, message);
+    Ok(root_from_signature(climbing, public, &signed, &view))
+}
+
 /// The 128 bytes that are hashed before the message: toByte(2, 32), r, the root and toByte(idx, 32) (RFC 8391 4.1.9). A
 /// signature that doesn't decode is refused (1, 4 or 5), as with any message.
 pub fn message_prefix(public: &XmssPublic, signature: &[u8]) -> Result<[u8; 128], Refusal>
@@ -126,7 +147,7 @@ fn root_from_signature<C: Climbing>(
         seed: &seed,
         leaf: view.index,
     };
-    let leaf = climbing.hash_from_signature(&key, digest, view.chains);
+    let leaf = climbing.public_from_signature(&key, digest, view.chains);
     let nodes = Nodes { seed: &seed };
     root_from_path(&nodes, view.index, &leaf, view.path)
 }

@@ -1,5 +1,5 @@
 -- The steps of verification: the levels above the bottom, and the bottom.
-use Rattle.std.specs.Prelude.{◌≡◌, ℕ, ◌<◌, List, length, Result, Ok, Err}
+use Rattle.std.specs.Prelude.{◌≡◌, ◌↔◌, ℕ, ◌<◌, List, length, Result, Ok, Err}
 use Rattle.typecodes.specs.declared.refusal.Refusal.{Refusal}
 use Rattle.typecodes.specs.declared.refusal.Refusal.TheVariants.{Unreadable, TypeMismatch, LevelMismatch, RootMismatch}
 use Rattle.typecodes.specs.declared.refusal.Refusal.TheVariants.{MessageRead}
@@ -36,3 +36,13 @@ pub record IsBottom (key : HssPublic) (bytes : List ℕ) (bottom : LmsSignature)
   pub above : AboveVerdict key.top whole (Ok bottom_key)
   pub last : i ≡ length whole.signed
   pub signature_is : bottom ≡ whole.bottom
+
+-- all levels are valid
+abbrev pub AreValid : LmsPublic → List ℕ → Signature → Type 0
+AreValid top message s = (i : ℕ) → i < level_count s → IsValidAt top message s i
+
+-- The top level's root, computed from the bottom up: it is the top key's exactly where all levels are valid. Where
+-- there is none, one isn't.
+abbrev pub GivesTopRoot : LmsPublic → List ℕ → Signature → Result (List ℕ) Refusal → Type 0
+GivesTopRoot top message s (Ok root) = (root ≡ top.root) ↔ AreValid top message s
+GivesTopRoot top message s (Err refusal) = AreValid top message s → ⊥

@@ -17,5 +17,5 @@ returns-clause-ok c = (
   c.in-Ok.ensures.reads,
   sym c.levels.ensures.value ∙ (c.if-levels-get.false ∙ c.get.ensures.value),
   c.message_prefix.ensures
-      ∙ ap₂ prefix_of c.last_key-key.ensures c.bottom.ensures,
+      ∙ ap₂ prefix_of c.last_key-key.ensures c.bottom.ensures.value,
 )

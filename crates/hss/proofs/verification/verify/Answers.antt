@@ -64,6 +64,6 @@ returns g c =
       text,
       fits,
       bottom-read key text c.args.signature.now s c.in_ok-key.key _ (c.levels-2.result - 1) c.verify.result (spelled g after) (count g after)
-          c.in_ok-key.ensures last (c.bottom.ensures ∙ signature_at-bottom s (c.levels-2.result - 1) last) verdict,
+          c.in_ok-key.ensures last (c.bottom.ensures.value ∙ signature_at-bottom s (c.levels-2.result - 1) last) verdict,
       bottom-leaves _ _ _ _ _ key _ _ (c.levels-2.result - 1) c.verify.result (omega (arith, c.levels-2.ensures.value, count g after)) verdict leaves,
     )

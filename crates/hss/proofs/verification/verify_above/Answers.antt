@@ -49,5 +49,5 @@ returns-clause-ok g c =
       count = count g after;
       above = c.in_ok-key.ensures;
       last = omega (arith, c.levels-2.ensures.value);
-      signature_is = c.bottom.ensures;
+      signature_is = c.bottom.ensures.value;
     }

@@ -28,6 +28,7 @@ loop-k-preserved g c =
       counted = omega (arith, path_leaves_more c.loop-k.k);
       leaves = cc;
       joins = cc;
+      most = cc;
     }
 
 pub returns-clause-value : goal.returns-clause-value

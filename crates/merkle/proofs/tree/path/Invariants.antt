@@ -11,4 +11,5 @@ invariant-loop-k g l = record {
   counted : g.T.TreeHash.made l.tree ≡ g.T.TreeHash.made l.initial.tree + (2 ^ l.k - 1);
   leaves : g.T.TreeHash.leaf_of l.tree ≡ g.T.TreeHash.leaf_of l.initial.tree;
   joins : g.T.NodeHash.join_of l.tree ≡ g.T.NodeHash.join_of l.initial.tree;
+  most : g.T.TreeHash.most l.tree ≡ g.T.TreeHash.most l.initial.tree;
 }

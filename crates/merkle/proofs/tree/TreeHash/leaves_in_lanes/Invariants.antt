@@ -10,4 +10,5 @@ invariant-loop-lane g l = record {
   counted : g.Self.TreeHash.made l.self ≡ g.Self.TreeHash.made l.initial.self + l.lane;
   leaves : g.Self.TreeHash.leaf_of l.self ≡ g.Self.TreeHash.leaf_of l.initial.self;
   joins : g.Self.NodeHash.join_of l.self ≡ g.Self.NodeHash.join_of l.initial.self;
+  most : g.Self.TreeHash.most l.self ≡ g.Self.TreeHash.most l.initial.self;
 }
