@@ -6,32 +6,40 @@ use Rattle.state_file.specs.inner.FileStore.{synced_left}
 use Rattle.std.proofs.lemmas.List.{same_lists, get_or_default}
 use Rattle.std.proofs.lemmas.List.Prefix.{front_from_reads, front_reads}
 use Rattle.std.proofs.lemmas.Bool.{cases_eq}
-use Rattle.state_file.specs.Disk.{ChangesOnly, DiskState, IsOutside, MayLeave, Range, greatest_end, range_of}
+use Rattle.state_file.specs.Disk.{AreWithin, ChangesOnly, DiskState, IsOutside, MayLeave, OpensRange, Range, WritesBytes, range_of}
 use Rattle.state_file.specs.File.{HasNoKey, IsClosed, open_value}
 use Rattle.state_file.specs.Filling.{first_offsets}
-use Rattle.state_file.specs.inner.Filling.{AreWithin, IsUnfinished, after_first_gate, gate_opened}
+use Rattle.state_file.specs.inner.Filling.{IsUnfinished, after_first_gate, gate_opened}
 use Rattle.state_file.specs.Gates.{IsClosedAfter}
+use Rattle.state_file.proofs.Ranges.{changes_within, within_more}
 use Rattle.state_file.proofs.SlotWrites.{Stages, split, join, stage_done}
 
 -- ---- what a crash leaves
 
-outside_all : (whole : Range) (ranges : List Range) (offset : ℕ) → AreWithin whole ranges → (offset < whole.from) ⊎ (whole.to ≤ offset) → IsOutside offset ranges
-outside_all whole [] offset within aside = tt
-outside_all whole (range ∷ ranges) offset within aside = (
-  ⊎_elim (λ (low : offset < whole.from). inl (omega (arith, within.0))) (λ (high : whole.to ≤ offset). inr (omega (arith, within.1))) aside,
-  outside_all whole ranges offset within.2 aside,
-)
-
-ends_within : (whole : Range) (ranges : List Range) (len : ℕ) → AreWithin whole ranges → greatest_end len ranges ≤ greatest_end len (whole ∷ [])
-ends_within whole [] len within = omega arith
-ends_within whole (range ∷ ranges) len within = omega (arith, within.1, ends_within whole ranges len within.2)
-
 pub unfinished_leaves : (end : ℕ) (base : List ℕ) (state : DiskState) (c : List ℕ) → IsUnfinished end base state → MayLeave state c → ChangesOnly (after_first_gate end ∷ []) base c
-unfinished_leaves end base state c unfinished left = subst (λ (b : List ℕ). ChangesOnly (after_first_gate end ∷ []) b c) unfinished.same_base (record {
-  kept = λ offset inside outside. left.kept offset inside (outside_all (after_first_gate end) state.ranges offset unfinished.within outside.0);
-  no_shorter = left.no_shorter;
-  no_longer = omega (arith, left.no_longer, ends_within (after_first_gate end) state.ranges (length state.base) unfinished.within);
-})
+unfinished_leaves end base state c unfinished left =
+    subst (λ (b : List ℕ). ChangesOnly (after_first_gate end ∷ []) b c) unfinished.same_base
+    (changes_within (after_first_gate end ∷ []) state.ranges state.base c unfinished.within left)
+
+-- one write more after the first gate
+opened_after : (end : ℕ) (base : List ℕ) (range : Range) (old new : DiskState) → 1 ≤ range.from → range.to ≤ end → OpensRange range old new
+    → IsUnfinished end base old → IsUnfinished end base new
+opened_after end base range old new after fits opens unfinished = record {
+  same_base = opens.same_base ∙ unfinished.same_base;
+  within = record {
+    outside = λ offset aside. opens.no_more.outside offset (
+      ⊎_elim (λ (low : offset < 1). inl (omega (arith, low, after))) (λ (high : end ≤ offset). inr (omega (arith, high, fits))) aside.0,
+      unfinished.within.outside offset aside,
+    );
+    ends = λ len. omega (arith, fits, opens.no_more.ends len, unfinished.within.ends len);
+  };
+}
+
+pub written_after : {A E : Type 0} (end : ℕ) (base : List ℕ) (at : ℕ) (bytes : List ℕ) (old new : DiskState) (result : Result A E) → 1 ≤ at → at + length bytes ≤ end
+    → WritesBytes at bytes old new result → IsUnfinished end base old → IsUnfinished end base new
+written_after end base at bytes old new (Ok a) after fits written unfinished = opened_after end base (range_of at bytes) old new after fits written.0 unfinished
+written_after end base at bytes old new (Err fault) after fits (inl same) unfinished = subst (IsUnfinished end base) (sym same) unfinished
+written_after end base at bytes old new (Err fault) after fits (inr opens) unfinished = opened_after end base (range_of at bytes) old new after fits opens unfinished
 
 pub still_closed : (end : ℕ) (base c : List ℕ) → IsClosed base 0 → ChangesOnly (after_first_gate end ∷ []) base c → IsClosed c 0
 still_closed end base c closed changes =
@@ -88,7 +96,7 @@ sync_leaves end base old new c (Ok a) unfinished shows synced may =
     let is : c ≡ old.content = synced_left old.content c (subst (λ (s : DiskState). MayLeave s c) synced may) in
     subst (ChangesOnly (after_first_gate end ∷ []) base) (sym is) (unfinished_leaves end base old old.content unfinished shows)
 sync_leaves end base old new c (Err fault) unfinished shows synced may =
-    unfinished_leaves end base new c (record { same_base = synced.0 ∙ unfinished.same_base; within = subst (AreWithin (after_first_gate end)) (sym synced.1) unfinished.within }) may
+    unfinished_leaves end base new c (record { same_base = synced.0 ∙ unfinished.same_base; within = subst (AreWithin (after_first_gate end ∷ [])) (sym synced.1) unfinished.within }) may
 
 -- ---- slots
 
@@ -196,5 +204,5 @@ gate_done end base content mid new bytes closed is same first second put =
 pub synced_unfinished : (end : ℕ) (state : DiskState) → IsSynced state → IsUnfinished end state.content state
 synced_unfinished end state synced = record {
   same_base = ap (λ (s : DiskState). s.base) synced;
-  within = subst (AreWithin (after_first_gate end)) (sym (ap (λ (s : DiskState). s.ranges) synced)) tt;
+  within = subst (AreWithin (after_first_gate end ∷ [])) (sym (ap (λ (s : DiskState). s.ranges) synced)) (within_more (after_first_gate end) []);
 }

@@ -12,6 +12,7 @@ pub mod Levels
 pub mod Legal
 pub mod Lists
 pub mod Log
+pub mod MemoryMoments
 pub mod Moments
 pub mod Moved
 pub mod OneWay
@@ -22,4 +23,5 @@ pub mod SlotWrites
 pub mod StoreReads
 pub mod Versions
 pub mod Visible
+pub mod WriteSynced
 pub mod Written

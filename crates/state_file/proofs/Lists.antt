@@ -33,6 +33,7 @@ module _ {S D : Type 0} (disk_of : S → D) (moment : D → ℕ) (left_since : D
     later = leaves.later;
     each = λ list left. one_of_two a b list left.0 (leaves.each left.0 left.1) left.2;
     before = λ t list early left. ⊎_elim (λ was. inl (left.0, was, left.2)) (λ now. inr (one_of_two a b list left.0 now left.2)) (leaves.before t left.0 early left.1);
+    keeps = λ t list early left. (left.0, leaves.keeps t left.0 early left.1, left.2);
   }
 
   pub lists_stay : (old new : S) (a : List Record) → LeavesOnly moment left_since (disk_of old) (disk_of new) (StandsFor a) → LeavesOnly store_moment store_left old new (λ list. list ≡ a)
@@ -40,6 +41,7 @@ module _ {S D : Type 0} (disk_of : S → D) (moment : D → ℕ) (left_since : D
     later = leaves.later;
     each = λ list left. ⊎_elim (λ e. e) (λ e. e) (one_of_two a a list left.0 (inl (leaves.each left.0 left.1)) left.2);
     before = λ t list early left. ⊎_elim (λ was. inl (left.0, was, left.2)) (λ now. inr (⊎_elim (λ e. e) (λ e. e) (one_of_two a a list left.0 (inl now) left.2))) (leaves.before t left.0 early left.1);
+    keeps = λ t list early left. (left.0, leaves.keeps t left.0 early left.1, left.2);
   }
 
 pub reads_leave : {D : Type 0} (state : D → DiskState) (moment : D → ℕ) (left_since : D → ℕ → List ℕ → Type 0) (old new : D) (records : List Record) (tag : List ℕ) → IsSyncedFile records tag (state old)

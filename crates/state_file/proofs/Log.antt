@@ -6,9 +6,9 @@ use Rattle.std.proofs.lemmas.List.Prefix.{at_from_reads}
 use Rattle.std.proofs.lemmas.Bool.Decides.{nat_tests}
 use Rattle.typecodes.specs.Layout.{AreBytes}
 use Rattle.typecodes.proofs.Bytes.{AreBytes-front}
-use Rattle.state_file.specs.Disk.{range_of, ChangesOnly, OpensRange, Elapses}
+use Rattle.state_file.specs.Disk.{range_of, AreWithin, ChangesOnly, OpensRange, Elapses}
 use Rattle.state_file.specs.Log.{base_of, ranges_of, logged_state, LeftBy, LeftSince, Overlays}
-use Rattle.state_file.proofs.Ranges.{changes_more}
+use Rattle.state_file.proofs.Ranges.{changes_more, within_all, within_more}
 use Rattle.state_file.specs.declared.disk.log.Entry.{Entry}
 use Rattle.state_file.specs.declared.disk.log.Entry.TheVariants.{Wrote}
 
@@ -60,12 +60,18 @@ overlays_bytes at (b ∷ bytes) old new overlaid =
     let width : at + length (b ∷ bytes) - at ≡ length (b ∷ bytes) = omega arith in
     ap (λ n. take n (drop at new)) width ∙ ap (λ (l : List ℕ). take (length (b ∷ bytes)) l) (at_from_reads 0 new (b ∷ bytes) at fits overlaid.put) ∙ take_at (b ∷ bytes) (drop (at + length (b ∷ bytes)) new) (length (b ∷ bytes)) refl
 
+opened : (log log_new : List Entry) (at : ℕ) (bytes : List ℕ) → log_new ≡ log ++ Wrote at (at + length bytes) ∷ []
+    → ranges_of (reverse log_new) ≡ range_of at bytes ∷ ranges_of (reverse log)
+opened log log_new at bytes is = ap ranges_of (ap reverse is ∙ newest_first log (Wrote at (at + length bytes)))
+
 pub opens : (first : List ℕ) (log log_new : List Entry) (at : ℕ) (bytes old new : List ℕ) → Overlays at bytes old new → log_new ≡ log ++ Wrote at (at + length bytes) ∷ []
     → OpensRange (range_of at bytes) (logged_state old first log) (logged_state new first log_new)
 opens first log log_new at bytes old new overlaid is = record {
   changes = overlays_range at bytes old new overlaid;
-  more = ap ranges_of (ap reverse is ∙ newest_first log (Wrote at (at + length bytes)));
+  no_more = subst (AreWithin (range_of at bytes ∷ ranges_of (reverse log))) (sym (opened log log_new at bytes is)) (within_all (range_of at bytes ∷ ranges_of (reverse log)));
+  no_fewer = subst (λ ranges. AreWithin ranges (ranges_of (reverse log))) (sym (opened log log_new at bytes is)) (within_more (range_of at bytes) (ranges_of (reverse log)));
   same_base = ap (base_of first) (ap reverse is ∙ newest_first log (Wrote at (at + length bytes)));
+  same_wavers = refl;
 }
 
 widened : (at n : ℕ) (bytes old new : List ℕ) → ChangesOnly (range_of at (take n bytes) ∷ []) old new → ChangesOnly (range_of at bytes ∷ []) old new

@@ -45,6 +45,6 @@ pub free_leaves : (short : Bool) (state : DiskState) (c : List ℕ) → IsFreePl
 free_leaves short state c free left =
     let same : c ≡ state.content = synced_left state.content c (subst (λ (s : DiskState). MayLeave s c) free.synced left) in
     subst HasNoKey (sym same) (elim short as (λ (is : Bool). short ≡ is → HasNoKey state.content) [
-      | true ↦ λ is. inl (free.shorter is)
+      | true ↦ λ is. inl (free.size.0 is)
       | false ↦ λ is. inr (free.closed is)
     ] refl)

@@ -22,6 +22,11 @@ abbrev pub greatest_end : ℕ → List Range → ℕ
 greatest_end len [] = len
 greatest_end len (range ∷ ranges) = max range.to (greatest_end len ranges)
 
+-- The inner ranges lie in the outer ones, and reach no further.
+pub record AreWithin (outer inner : List Range) : Type 0 where
+  pub outside : (offset : ℕ) → IsOutside offset outer → IsOutside offset inner
+  pub ends : (len : ℕ) → greatest_end len inner ≤ greatest_end len outer
+
 -- New differs from old at most in these ranges and past old's end.
 pub record ChangesOnly (ranges : List Range) (old new : List ℕ) : Type 0 where
   pub kept : (offset : ℕ) → offset < length old → IsOutside offset ranges
@@ -31,16 +36,23 @@ pub record ChangesOnly (ranges : List Range) (old new : List ℕ) : Type 0 where
 
 -- a disk at one moment
 pub record DiskState : Type 0 where
-  -- what a read gives
+  -- what a read gives; while reads waver, what it gives once a sync succeeds
   pub content : List ℕ
   -- the content right after the last sync that succeeded
   pub base : List ℕ
   -- the ranges written since then, or refused in a write
   pub ranges : List Range
+  -- Whether reads waver: a sync failed, and none has succeeded since. Each read then gives some content that a crash
+  -- may leave, and two reads need not agree.
+  pub wavers : Bool
 
 -- a disk with this content, all synced
 abbrev pub settled : List ℕ → DiskState
-settled content = record { content = content; base = content; ranges = [] }
+settled content = record { content = content; base = content; ranges = []; wavers = false }
+
+-- reads give the content
+abbrev pub IsSteady : DiskState → Type 0
+IsSteady state = state.wavers ≡ false
 
 -- a crash leaves what a read gives
 abbrev pub IsSynced : DiskState → Type 0
@@ -50,11 +62,15 @@ IsSynced state = state ≡ settled state.content
 abbrev pub MayLeave : DiskState → List ℕ → Type 0
 MayLeave state = ChangesOnly state.ranges state.base
 
--- One more range is unsynced, and the content changed at most there.
+-- One more range may be unsynced, and the content changed at most there. Neither how the unsynced bytes are cut into
+-- ranges matters, nor whether the disk touched all bytes of the range: a write in parts is one write. It may have
+-- touched fewer bytes, none beside the range, and what was unsynced before stays unsynced.
 pub record OpensRange (range : Range) (old new : DiskState) : Type 0 where
   pub changes : ChangesOnly (range ∷ []) old.content new.content
-  pub more : new.ranges ≡ range ∷ old.ranges
+  pub no_more : AreWithin (range ∷ old.ranges) new.ranges
+  pub no_fewer : AreWithin new.ranges old.ranges
   pub same_base : new.base ≡ old.base
+  pub same_wavers : new.wavers ≡ old.wavers
 
 -- What a write does. If it is refused, it may have written any part of its range, or done nothing.
 abbrev pub WritesBytes : {A E : Type 0} (at : ℕ) (bytes : List ℕ) (old new : DiskState) → Result A E → Type 0
@@ -62,7 +78,8 @@ WritesBytes at bytes old new (Ok _) = OpensRange (range_of at bytes) old new
     × (slice_range new.content at (at + length bytes) ≡ bytes)
 WritesBytes at bytes old new (Err _) = (new ≡ old) ⊎ OpensRange (range_of at bytes) old new
 
--- What a sync does. A refused one promises nothing: a read then gives any content that a crash may leave.
+-- What a sync does. A refused one promises nothing: each read may then give another content that a crash may leave,
+-- until a sync succeeds.
 abbrev pub Syncs : {A E : Type 0} (old new : DiskState) → Result A E → Type 0
 Syncs old new (Ok _) = new ≡ settled old.content
 Syncs old new (Err _) = (new.base ≡ old.base) × (new.ranges ≡ old.ranges)
@@ -103,10 +120,12 @@ pub record CallsDisk {D A : Type 0} (is_honest : D → Bool) (state : D → Disk
   pub failures : Counts is_failure (refused old) (refused new) answer
   pub honest : is_honest new ≡ is_honest old
 
--- Whatever a crash leaves at any moment from old on has P.
+-- Whatever a crash leaves at any moment from old on has P. What it could leave before isn't forgotten.
 pub record LeavesOnly {D C : Type 0} (moment : D → ℕ) (left_since : D → ℕ → C → Type 0) (old new : D) (P : C
     → Type 0) : Type 0 where
   pub later : moment old ≤ moment new
   pub each : (c : C) → left_since new (moment old) c → P c
   -- the same for a run that began earlier
   pub before : (t : ℕ) (c : C) → t ≤ moment old → left_since new t c → left_since old t c ⊎ P c
+  -- what a crash could leave between an earlier moment and old counts at new, too
+  pub keeps : (t : ℕ) (c : C) → t ≤ moment old → left_since old t c → left_since new t c

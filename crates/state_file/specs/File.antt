@@ -78,6 +78,11 @@ pub record SpellsRecords (content : List ℕ) (records : List Record) : Type 0 w
   pub holds : (k : ℕ) (entry : Record) → slice_get records k ≡ Some entry
       → Holds (file_version records) content k entry
 
+-- An append to this many records, even one that a crash cut, writes their next slot and the gate after it. The content
+-- is longer than that.
+abbrev pub IsLongerThanAppended : ℕ → List ℕ → Type 0
+IsLongerThanAppended count content = 256 * (count + 1) + 1 < length content
+
 -- ---- contents without a key
 
 -- The content has no key: under 257 bytes, or a closed first gate.

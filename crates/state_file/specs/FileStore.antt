@@ -1,11 +1,12 @@
 -- A store over a disk: what callers see of it, and what an opening and a new file give.
-use Rattle.std.specs.Prelude.{Bool, List, Result, Ok, Err, ◌≡◌, ℕ, false, [], IfErr, IfOk, IsTrue, OnOk, length, max}
+use Rattle.std.specs.Prelude.{Bool, List, Result, Ok, Err, ◌≡◌, ◌↔◌, ℕ, false, [], IfErr, IfOk, IsTrue, OnOk, length}
+use Rattle.std.specs.Prelude.{max}
 use Rattle.state_file.specs.declared.disk.Disk as disk
 use Rattle.state_file.specs.declared.store.file_store.FileStore.{FileStore}
 use Rattle.state_file.specs.declared.record.Record.{Record}
 use Rattle.state_file.specs.declared.refused.Refused.{Refused}
-use Rattle.state_file.specs.File.{SpellsRecords, LeftLists}
-use Rattle.state_file.specs.Disk.{LeavesOnly, MayLeave, settled}
+use Rattle.state_file.specs.File.{IsLongerThanAppended, SpellsRecords, StandsFor, LeftLists}
+use Rattle.state_file.specs.Disk.{LeavesOnly, MayLeave}
 use Rattle.state_file.specs.DiskCalls.{CountsFailures}
 use Rattle.state_file.specs.Format.{Formats, LeftByFormat, is_failed_format}
 use Rattle.state_file.specs.Opening.{ReportsContent, Settles, is_failed_opening}
@@ -22,6 +23,10 @@ records_of store = store.records
 -- whether a call has failed, so that no other is answered
 abbrev pub has_stopped : {D : Type 0} {bound : _} → FileStore D bound → Bool
 has_stopped store = store.stopped
+
+-- whether the file, when it was opened, had bytes behind what an append can leave
+abbrev pub has_bytes_behind : {D : Type 0} {bound : _} → FileStore D bound → Bool
+has_bytes_behind store = store.behind
 
 abbrev pub WhileStoreRuns : {D : Type 0} {bound : _} (d : disk.Ghosts D) (store : FileStore D bound) → Type 0 → Type 0
 WhileStoreRuns d store Then = WhileRunning (d.honest (disk_of store)) (has_stopped store) Then
@@ -63,6 +68,11 @@ pub record FindsRecords {D : Type 0} {bound : _} (d : disk.Ghosts D) (given : D)
       → IfOk result (λ found. SpellsRecords (d.state given).content (records_of found))
   pub running : IfOk result (λ found. has_stopped found ≡ false)
   pub unreadable : IfOk result (λ found. unreadable_of found ≡ [])
+  pub loads : IfOk result (λ found. loads_of found ≡ [])
+  pub records_given : IfOk result (λ found. given_of found ≡ [])
+  pub behind : IsTrue (d.honest given)
+      → IfOk result (λ found. IsTrue (has_bytes_behind found)
+      ↔ IsLongerThanAppended (length (records_of found)) (d.state given).content)
   pub fault : IsTrue (d.honest given)
       → IfErr result (λ refused. ReportsContent (d.state given).content refused.fault)
   pub moments : IsTrue (d.honest given)
@@ -78,6 +88,9 @@ pub record PreparesDisk {D : Type 0} {bound : _} (d : disk.Ghosts D) (given : D)
   pub records : IfOk result (λ prepared. records_of prepared ≡ [])
   pub running : IfOk result (λ prepared. has_stopped prepared ≡ false)
   pub unreadable : IfOk result (λ prepared. unreadable_of prepared ≡ [])
+  pub loads : IfOk result (λ prepared. loads_of prepared ≡ [])
+  pub records_given : IfOk result (λ prepared. given_of prepared ≡ [])
+  pub behind : IfOk result (λ prepared. has_bytes_behind prepared ≡ false)
   pub answer : IsTrue (d.honest given)
       → Formats (d.state given).content (d.state (disk_of_result result)) (outcome_of result)
   pub len : IsTrue (d.honest given)
@@ -85,3 +98,11 @@ pub record PreparesDisk {D : Type 0} {bound : _} (d : disk.Ghosts D) (given : D)
   pub moments : IsTrue (d.honest given)
       → LeavesOnly d.moment d.left_since given (disk_of_result result) (LeftByFormat (d.state given))
   pub failures : CountsFailures d is_failed_format given (disk_of_result result) (outcome_of result)
+
+-- ---- laws
+
+-- While a store runs, a crash between two calls leaves its records: a content that spells them, or, where there are
+-- none, one without a key.
+pub record StoreLaw {D : Type 0} (d : disk.Ghosts D) : Type 0 where
+  pub leaves : (store : FileStore D d) (c : List ℕ) → WhileStoreRuns d store
+      (d.left_since (disk_of store) (d.moment (disk_of store)) c → StandsFor (records_of store) c)

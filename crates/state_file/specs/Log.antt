@@ -1,6 +1,6 @@
 -- The log of a disk in memory, and what a crash leaves after it. A moment is a number of entries.
 use Rattle.std.specs.Prelude.{◌≡◌, ℕ, ◌+◌, ◌<◌, ◌≤◌, ◌==◌, if◌then◌else◌, max, List, [], ◌∷◌, length, take}
-use Rattle.std.specs.Prelude.{reverse, slice_index}
+use Rattle.std.specs.Prelude.{false, reverse, slice_index}
 use Rattle.state_file.specs.Disk.{Range, IsOutside, greatest_end, ChangesOnly, DiskState}
 use Rattle.state_file.specs.declared.disk.log.Entry.{Entry}
 use Rattle.state_file.specs.declared.disk.log.Entry.TheVariants.{Wrote, Synced}
@@ -20,7 +20,7 @@ ranges_of (Synced content ∷ earlier) = []
 -- the disk's state after this log, which has its oldest entry first
 abbrev pub logged_state : (content first : List ℕ) (log : List Entry) → DiskState
 logged_state content first log =
-    record { content = content; base = base_of first (reverse log); ranges = ranges_of (reverse log) }
+    record { content = content; base = base_of first (reverse log); ranges = ranges_of (reverse log); wavers = false }
 
 -- what a crash right after this log may leave
 abbrev pub LeftBy : (first : List ℕ) (log : List Entry) → List ℕ → Type 0

@@ -1,5 +1,5 @@
 -- A place for a file that holds no key yet.
-use Rattle.std.specs.Prelude.{◌≡◌, ◌<◌, ◌≤◌, ℕ, Bool, true, false, List, length, Result, Ok, Err}
+use Rattle.std.specs.Prelude.{◌≡◌, ◌↔◌, ◌<◌, ℕ, Bool, true, false, List, length, Result, Ok, Err}
 use Rattle.state_file.specs.Disk.{DiskState, IsSynced, settled}
 use Rattle.state_file.specs.File.{HasNoKey, IsClosed, MayHaveKey}
 use Rattle.state_file.specs.declared.migration.MigrateFault.{MigrateFault}
@@ -8,8 +8,7 @@ use Rattle.state_file.specs.declared.migration.MigrateFault.TheVariants.{DeviceF
 -- All is synced, and there is no key: under 257 bytes (short), or a closed first gate.
 pub record IsFreePlace (short : Bool) (state : DiskState) : Type 0 where
   pub synced : IsSynced state
-  pub shorter : short ≡ true → length state.content < 257
-  pub longer : short ≡ false → 257 ≤ length state.content
+  pub size : (short ≡ true) ↔ (length state.content < 257)
   pub closed : short ≡ false → IsClosed state.content 0
 
 -- What looking at a place answers, and leaves: no key, perhaps a key (50), or a device that failed (45).

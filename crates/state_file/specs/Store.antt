@@ -1,6 +1,6 @@
 -- What the calls of a store do.
 use Rattle.std.specs.Prelude.{◌≡◌, ◌⊎◌, ℕ, ◌+◌, ◌<◌, ◌≤◌, Bool, true, false, IsTrue, List, [], ◌∷◌, ◌++◌, length}
-use Rattle.std.specs.Prelude.{slice_get, Option, Some, None, Result, Ok, Err, if◌then◌else◌}
+use Rattle.std.specs.Prelude.{codes, slice_get, Option, Some, None, Result, Ok, Err, if◌then◌else◌}
 use Rattle.state_file.specs.declared.record.Record.{Record}
 use Rattle.state_file.specs.declared.record.Record.TheVariants.{Key as KeyRecord, Extend, Bound, Retire, Moved}
 use Rattle.state_file.specs.Slot.{FitsVersion, file_version}
@@ -42,6 +42,21 @@ Appends most old old_stopped entry new new_stopped before after (Err OutOfMemory
     (old_stopped ≡ false) × (length old < most) × (new ≡ old) × (new_stopped ≡ false) × (after ≡ before)
 Appends most old old_stopped entry new new_stopped before after (Err Full) =
     (old_stopped ≡ false) × (most ≤ length old) × (new ≡ old) × (new_stopped ≡ false) × (after ≡ before)
+
+-- the numbers and names of faults
+abbrev pub store_fault_number : StoreFault → ℕ
+store_fault_number Stopped = 26
+store_fault_number (Damaged k) = 43
+store_fault_number DeviceFailed = 45
+store_fault_number OutOfMemory = 46
+store_fault_number Full = 52
+
+abbrev pub store_fault_name : StoreFault → List ℕ
+store_fault_name Stopped = codes "Stopped"
+store_fault_name (Damaged k) = codes "Damaged"
+store_fault_name DeviceFailed = codes "DeviceFailed"
+store_fault_name OutOfMemory = codes "OutOfMemory"
+store_fault_name Full = codes "Full"
 
 -- the answer 26
 abbrev pub is_stopped : StoreFault → Bool

@@ -2,7 +2,8 @@
 
 ghost use Rattle.std.specs.Prelude.{◌≡◌, ◌+◌, ◌<◌, ◌≤◌, ℕ, List, Bool, IsTrue, length, slice_range, IfOk, OnOk};
 ghost use Rattle.typecodes.specs.Layout.{AreBytes};
-ghost use Rattle.state_file.specs.Disk.{CallsDisk, Counts, DiskState, MayLeave, Syncs, WritesBytes, is_past_end};
+ghost use Rattle.state_file.specs.Disk.{CallsDisk, Counts, DiskState, IsSteady, MayLeave, Syncs, WritesBytes};
+ghost use Rattle.state_file.specs.Disk.{is_past_end};
 
 mod log;
 mod memory_disk;
@@ -29,7 +30,8 @@ pub enum DiskFault {
 /// Only an honest disk promises the clauses about bytes and crashes. `MemoryDisk` is proved honest; for a file of the
 /// machine it is a premise.
 pub trait Disk {
-    // what a read gives, and what a crash at this moment may leave
+    // What a read gives, and what a crash at this moment may leave. While reads waver, after a sync that failed, each
+    // gives some content that a crash may leave.
     ghost state: { Self → DiskState };
 
     // this moment, as a number that doesn't fall
@@ -49,7 +51,10 @@ pub trait Disk {
 
     /// The length in bytes.
     fn len(&mut self) -> Result<u64, DiskFault>
-        ensures length { IsTrue (honest self.old) → IfOk result (λ n. n ≡ length (state self.old).content) }
+        ensures length { IsTrue (honest self.old) → IsSteady (state self.old) →
+            IfOk result (λ n. n ≡ length (state self.old).content) }
+        ensures wavers { IsTrue (honest self.old) →
+            IfOk result (λ n. (c : List ℕ) × MayLeave (state self.old) c × (n ≡ length c)) }
         ensures keeps_state { IsTrue (honest self.old) → state self.new ≡ state self.old }
         ensures past_ends { past_ends self.new ≡ past_ends self.old }
         ensures call { CallsDisk honest state moment left_since failures self.old self.new result };
@@ -58,12 +63,15 @@ pub trait Disk {
     /// `PastEnd`. After an Err, `into` may hold anything.
     fn read_at(&mut self, at: u64, into: &mut [u8]) -> Result<(), DiskFault>
         requires { 0 < length into.old }
-        ensures within { IsTrue (honest self.old) →
+        ensures within { IsTrue (honest self.old) → IsSteady (state self.old) →
             OnOk result (at + length into.old ≤ length (state self.old).content) }
-        ensures bytes { IsTrue (honest self.old) →
+        ensures bytes { IsTrue (honest self.old) → IsSteady (state self.old) →
             OnOk result (into.new ≡ slice_range (state self.old).content at (at + length into.old)) }
-        ensures past_end { IsTrue (honest self.old) → result ≡ Err DiskFault.PastEnd →
+        ensures past_end { IsTrue (honest self.old) → IsSteady (state self.old) → result ≡ Err DiskFault.PastEnd →
             length (state self.old).content < at + length into.old }
+        ensures wavers { IsTrue (honest self.old) →
+            OnOk result ((c : List ℕ) × MayLeave (state self.old) c × (at + length into.old ≤ length c) ×
+            (into.new ≡ slice_range c at (at + length into.old))) }
         ensures past_ends { Counts is_past_end (past_ends self.old) (past_ends self.new) result }
         ensures keeps_state { IsTrue (honest self.old) → state self.new ≡ state self.old }
         ensures call { CallsDisk honest state moment left_since failures self.old self.new result };

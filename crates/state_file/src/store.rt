@@ -34,6 +34,36 @@ pub enum StoreFault {
     Full,
 }
 
+impl StoreFault {
+    ghost use Rattle.state_file.specs.Store.{store_fault_name, store_fault_number};
+
+    /// The number that reports the fault: 26, 43, 45, 46 or 52.
+    pub fn number(self) -> u8
+        ensures { result ≡ store_fault_number self }
+    {
+        match self {
+            StoreFault::Stopped => 26,
+            StoreFault::Damaged(_) => 43,
+            StoreFault::DeviceFailed => 45,
+            StoreFault::OutOfMemory => 46,
+            StoreFault::Full => 52,
+        }
+    }
+
+    /// The name that is printed beside the number.
+    pub fn name(self) -> &'static str
+        ensures { result.now ≡ store_fault_name self }
+    {
+        match self {
+            StoreFault::Stopped => "Stopped",
+            StoreFault::Damaged(_) => "Damaged",
+            StoreFault::DeviceFailed => "DeviceFailed",
+            StoreFault::OutOfMemory => "OutOfMemory",
+            StoreFault::Full => "Full",
+        }
+    }
+}
+
 /// A list of records that grows at its end.
 pub trait Store {
     ghost use Rattle.state_file.specs.declared.record.Record.{Record as R};

@@ -1,7 +1,7 @@
 -- A new file that a migration is filling, and the old one that it reads.
-use Rattle.std.specs.Prelude.{◌≡◌, ℕ, ◌+◌, ◌<◌, ◌≤◌, Bool, false, List, [], ◌∷◌, drop, take, Result, Ok, Err}
+use Rattle.std.specs.Prelude.{◌≡◌, ℕ, ◌+◌, ◌<◌, Bool, false, List, [], ◌∷◌, drop, take, Result, Ok, Err}
 use Rattle.state_file.specs.Carried.{carried}
-use Rattle.state_file.specs.Disk.{DiskState, Range}
+use Rattle.state_file.specs.Disk.{AreWithin, DiskState, Range}
 use Rattle.state_file.specs.File.{IsClosed, IsFileOf, first_tag, open_value, previous_tag}
 use Rattle.state_file.specs.Store.{IsRecordAt}
 use Rattle.state_file.specs.declared.migration.MigrateFault.{MigrateFault}
@@ -12,15 +12,10 @@ use Rattle.state_file.specs.declared.record.Record.{Record}
 abbrev pub after_first_gate : ℕ → Range
 after_first_gate end = record { from = 1; to = end }
 
--- these ranges lie in the whole one
-abbrev pub AreWithin : Range → List Range → Type 0
-AreWithin whole [] = Unit {0}
-AreWithin whole (range ∷ ranges) = (whole.from ≤ range.from) × (range.to ≤ whole.to) × AreWithin whole ranges
-
 -- Slots are being written: since this base was synced, all writes were after the first gate and below `end`.
 pub record IsUnfinished (end : ℕ) (base : List ℕ) (state : DiskState) : Type 0 where
   pub same_base : state.base ≡ base
-  pub within : AreWithin (after_first_gate end) state.ranges
+  pub within : AreWithin (after_first_gate end ∷ []) state.ranges
 
 -- the content with its first gate open
 abbrev pub gate_opened : List ℕ → List ℕ

@@ -2,6 +2,7 @@
 use Rattle.std.specs.Prelude.{◌≡◌, ℕ, ◌+◌, ◌*◌, ◌<◌, ◌≤◌, true, List, length, Option, Some, None, Result, IfErr, IsTrue}
 use Rattle.state_file.specs.File.{Holds, IsWhole, MayHaveKey, SpellsRecords, begins_key, fields_at, most_records}
 use Rattle.state_file.specs.File.{previous_tag, tag_at, version_of}
+use Rattle.state_file.specs.Disk.{IsSteady}
 use Rattle.state_file.specs.Slot.{file_version}
 use Rattle.state_file.specs.declared.disk.Disk as disk
 use Rattle.state_file.specs.declared.file.opening.OpenFault.{OpenFault}
@@ -9,18 +10,18 @@ use Rattle.state_file.specs.declared.file.opening.OpenFault.TheVariants.{NoKey, 
 use Rattle.state_file.specs.declared.file.opening.OpenFault.TheVariants.{Damaged, DeviceFailed}
 use Rattle.state_file.specs.declared.record.Record.{Record}
 use Rattle.state_file.specs.declared.record.Version.{Version}
-use Rattle.state_file.specs.Opening.{ReportsContent, spelled}
+use Rattle.state_file.specs.Opening.{ReportsContent}
 
 abbrev pub ReportsDisk : {D A : Type 0} (d : disk.Ghosts D) → D → Result A OpenFault → Type 0
 ReportsDisk d old answer = IsTrue (d.honest old) → IfErr answer (ReportsContent (d.state old).content)
 
--- An honest disk has at least this many bytes.
+-- Reads of an honest disk don't waver, and it has at least this many bytes.
 abbrev pub HasBytes : {D : Type 0} (d : disk.Ghosts D) → D → ℕ → Type 0
-HasBytes d old count = IsTrue (d.honest old) → count ≤ length (d.state old).content
+HasBytes d old count = IsTrue (d.honest old) → IsSteady (d.state old) × (count ≤ length (d.state old).content)
 
--- This is an honest disk's length.
+-- Reads of an honest disk don't waver, and this is its length.
 abbrev pub IsLengthOf : {D : Type 0} (d : disk.Ghosts D) → D → ℕ → Type 0
-IsLengthOf d old len = IsTrue (d.honest old) → len ≡ length (d.state old).content
+IsLengthOf d old len = IsTrue (d.honest old) → IsSteady (d.state old) × (len ≡ length (d.state old).content)
 
 -- The first slot is a Key's, of this version.
 pub record StartsWithKey (version : Version) (content : List ℕ) : Type 0 where

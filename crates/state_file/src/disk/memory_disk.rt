@@ -1,7 +1,7 @@
 //! A disk in memory, to show what a crash may leave.
 
 ghost use Rattle.std.specs.Prelude.{if◌then◌else◌, nat_le, true, ◌-◌, ◌≡◌, ◌+◌, ◌≤◌, ◌<◌, length, slice_range};
-ghost use Rattle.std.specs.Prelude.{IfOk, IfErr, OnOk, OnErr, ◌≢◌};
+ghost use Rattle.std.specs.Prelude.{IfOk, IfErr, List, OnOk, OnErr, ◌≢◌, ℕ};
 ghost use Rattle.std.proofs.Props.{props};
 ghost use Rattle.typecodes.specs.Layout.{AreBytes};
 ghost use Rattle.state_file.specs.Disk.{MayLeave, settled, WritesBytes, Syncs, Counts};
@@ -184,6 +184,7 @@ impl Disk for MemoryDisk {
     fn len(&mut self) -> Result<u64, DiskFault>
         ensures value { result ≡ answer_of (next_fate self.old) (Ok (length (state_of self.old).content)) }
         ensures length { IfOk result (λ n. n ≡ length (state_of self.old).content) }
+        ensures wavers { IfOk result (λ n. (c : List ℕ) × MayLeave (state_of self.old) c × (n ≡ length c)) }
         ensures keeps_state { state_of self.new ≡ state_of self.old }
         ensures past_ends { past_ends_of self.new ≡ past_ends_of self.old }
         ensures call { CallComes self.old self.new result }
@@ -200,6 +201,8 @@ impl Disk for MemoryDisk {
         ensures bytes { OnOk result (into.new ≡ slice_range (state_of self.old).content at (at + length into.old)) }
         ensures past_end { result ≡ Err DiskFault.PastEnd →
             length (state_of self.old).content < at + length into.old }
+        ensures wavers { OnOk result ((c : List ℕ) × MayLeave (state_of self.old) c ×
+            (at + length into.old ≤ length c) × (into.new ≡ slice_range c at (at + length into.old))) }
         ensures past_ends { Counts is_past_end (past_ends_of self.old) (past_ends_of self.new) result }
         ensures keeps_state { state_of self.new ≡ state_of self.old }
         ensures call { CallComes self.old self.new result }

@@ -3,7 +3,7 @@
 ghost use Rattle.std.specs.Prelude.{◌≡◌, ◌⊎◌, ◌+◌, ◌*◌, ◌<◌, ◌≤◌, ◌∷◌, [], ◌++◌, ℕ, List, IsTrue};
 ghost use Rattle.std.specs.Prelude.{length, slice_range, IfOk, OnOk};
 ghost use Rattle.state_file.specs.File.{open_value};
-ghost use Rattle.state_file.specs.Disk.{settled, range_of, ChangesOnly, IsSynced, LeavesOnly, MayLeave};
+ghost use Rattle.state_file.specs.Disk.{settled, range_of, ChangesOnly, IsSteady, IsSynced, LeavesOnly, MayLeave};
 ghost use Rattle.state_file.specs.Disk.{is_failure};
 ghost use Rattle.state_file.specs.inner.DiskCalls.{CountsFailuresWithoutReads, ReadsDisk};
 ghost use Rattle.state_file.specs.Gates.{AddsSlot, IsClosedAfter, IsAtRest, slot_and_gate};
@@ -16,6 +16,7 @@ pub(crate) const SLOT: u64 = 256;
 
 /// Reads bytes that are known to be there.
 pub(crate) fn read_within<D: Disk>(disk: &mut D, at: u64, into: &mut [u8]) -> Result<(), DiskFault>
+    requires steady { IsTrue (D.honest disk.old) → IsSteady (D.state disk.old) }
     requires within { IsTrue (D.honest disk.old) → at + length into.old ≤ length (D.state disk.old).content }
     requires non_empty { 0 < length into.old }
     ensures bytes { IsTrue (D.honest disk.old) →

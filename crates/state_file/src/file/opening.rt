@@ -1,7 +1,7 @@
 //! Reading a file's slots, up to the first closed gate.
 
-ghost use Rattle.std.specs.Prelude.{◌≡◌, ◌+◌, ◌*◌, ◌-◌, ◌<◌, ◌≤◌, ◌==◌, ◌∷◌, [], ◌++◌, IsTrue, IfOk, IfErr};
-ghost use Rattle.std.specs.Prelude.{OnOk, MatchOption, Some, length, slice_index};
+ghost use Rattle.std.specs.Prelude.{◌≡◌, ◌+◌, ◌*◌, ◌-◌, ◌<◌, ◌≤◌, ◌==◌, ◌∷◌, [], ◌++◌, ◌↔◌, IsTrue, IfOk};
+ghost use Rattle.std.specs.Prelude.{IfErr, OnOk, MatchOption, Some, length, slice_index};
 ghost use Rattle.typecodes.specs.Layout.{Spells};
 ghost use Rattle.state_file.specs.File.{MayHaveKey, fields_at, first_tag, most_records, open_value, previous_tag};
 ghost use Rattle.state_file.specs.File.{tag_at, tag_of};
@@ -86,9 +86,10 @@ impl From<DiskFault> for OpenFault {
     }
 }
 
-/// A file's version and records. `moved`: the last record is a Moved; `tag`: its tag.
+/// A file's length, version and records. `moved`: the last record is a Moved; `tag`: its tag.
 #[derive(Drop)]
 pub(crate) struct Found {
+    pub(crate) len: u64,
     pub(crate) version: Version,
     pub(crate) count: u32,
     pub(crate) moved: bool,
@@ -111,7 +112,7 @@ struct Body {
 
 // Whether slot k's gate is open.
 fn read_gate<D: Disk>(disk: &mut D, k: u32) -> Result<bool, DiskFault>
-    requires { IsTrue (D.honest disk.old) → 256 * k < length (D.state disk.old).content }
+    requires { HasBytes D.Disk disk.old (256 * k + 1) }
     ensures gate { IsTrue (D.honest disk.old) →
         IfOk result (λ opened. opened ≡ (slice_index (D.state disk.old).content (256 * k) == open_value)) }
     ensures reads { ReadsDisk D.Disk is_failure disk.old disk.new result }
@@ -262,12 +263,14 @@ fn check_key<D: Disk>(disk: &mut D, len: u64) -> Result<Version, OpenFault>
 }
 
 impl Found {
-    fn none(version: Version) -> Self
+    fn none(len: u64, version: Version) -> Self
         ensures none { (result.count ≡ 0) × (result.tag ≡ first_tag) × (result.records ≡ []) }
         ensures moved { result.moved ≡ has_moved result.records }
         ensures version { result.version ≡ version }
+        ensures len { result.len ≡ len }
     {
         Found {
+            len,
             version,
             count: 0,
             moved: false,
@@ -283,11 +286,20 @@ impl Found {
         ensures records { self.new.records ≡ self.old.records ++ slot.now.entry ∷ [] }
         ensures moved { self.new.moved ≡ is_moved (Some slot.now.entry) }
         ensures version { self.new.version ≡ self.old.version }
+        ensures len { self.new.len ≡ self.old.len }
     {
         self.count += 1;
         self.moved = slot.entry.is_moved();
         self.tag = slot.tag;
         self.records.push(&slot.entry);
+    }
+
+    /// Whether the file has bytes behind what an append to these records can have left: slot N, and the gate after it.
+    pub(crate) fn has_bytes_behind(&self) -> bool
+        requires { self.now.count ≤ most_records }
+        ensures { IsTrue result ↔ (256 * (self.now.count + 1) + 1 < self.now.len) }
+    {
+        self.len > SLOT * (u64::from(self.count) + 1) + 1
     }
 }
 
@@ -298,12 +310,13 @@ fn read_slots<D: Disk>(disk: &mut D, len: u64, version: Version) -> Result<Found
     ensures counted { IfOk result (λ found. found.count ≡ length found.records) }
     ensures at_most_limit { IfOk result (λ found. found.count ≤ most_records) }
     ensures moved { IfOk result (λ found. found.moved ≡ has_moved found.records) }
+    ensures len { IfOk result (λ found. found.len ≡ len) }
     ensures found { IsTrue (D.honest disk.old) →
         IfOk result (λ found. IsFound found.version (D.state disk.old).content found.records found.tag) }
     ensures fault { ReportsDisk D.Disk disk.old result }
     ensures reads { ReadsDisk D.Disk is_failed_opening disk.old disk.new result }
 {
-    let mut found = Found::none(version);
+    let mut found = Found::none(len, version);
     while read_gate(disk, found.count)? {
         let slot = read_slot(disk, len, version, found.count, &found.tag)?;
         found.push(&slot);
@@ -316,6 +329,7 @@ pub(crate) fn find_records<D: Disk>(disk: &mut D) -> Result<Found, OpenFault>
     ensures counted { IfOk result (λ found. found.count ≡ length found.records) }
     ensures at_most_limit { IfOk result (λ found. found.count ≤ most_records) }
     ensures moved { IfOk result (λ found. found.moved ≡ has_moved found.records) }
+    ensures len { IsTrue (D.honest disk.old) → IfOk result (λ found. found.len ≡ length (D.state disk.old).content) }
     ensures found { IsTrue (D.honest disk.old) →
         IfOk result (λ found. IsFound found.version (D.state disk.old).content found.records found.tag) }
     ensures fault { ReportsDisk D.Disk disk.old result }

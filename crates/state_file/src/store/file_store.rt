@@ -39,6 +39,8 @@ pub struct FileStore<D: Disk> {
     stopped: bool,
     // whether the last record is a Moved
     moved: bool,
+    // whether the file was opened with bytes behind its last record
+    behind: bool,
     records: RecordList,
     // slots that load reported as unreadable
     unreadable: SlotList,
@@ -55,13 +57,26 @@ pub struct FileStore<D: Disk> {
 }
 
 impl<D: Disk + Drop> FileStore<D> {
-    ghost use Rattle.state_file.specs.FileStore.{FindsRecords, PreparesDisk, disk_of, has_stopped, records_of};
+    ghost use Rattle.state_file.specs.FileStore.{FindsRecords, PreparesDisk, disk_of, has_bytes_behind, has_stopped};
+    ghost use Rattle.state_file.specs.FileStore.{records_of};
 
     /// The number of records.
     pub fn count(&self) -> u32
         ensures { result ≡ length (records_of self.now) }
     {
         self.count
+    }
+
+    /// Whether the file, when it was opened, had bytes behind what an append can leave: with N records, more than
+    /// 256·(N + 1) + 1 bytes. An append leaves no more than that, even one that a crash cut. So something else changed
+    /// the file: it closed a gate, and the records from there on are lost, or it added bytes. A migration to a longer
+    /// place leaves such bytes, too.
+    ///
+    /// Appends keep the answer: they write over these bytes slot by slot, and a lost record stays lost.
+    pub fn has_bytes_behind(&self) -> bool
+        ensures { result ≡ has_bytes_behind self.now }
+    {
+        self.behind
     }
 
     pub(crate) fn has_moved(&self) -> bool
@@ -106,6 +121,7 @@ impl<D: Disk + Drop> FileStore<D> {
                 tag: FIRST_TAG,
                 stopped: false,
                 moved: false,
+                behind: false,
                 records: RecordList::new(),
                 unreadable: SlotList::new(),
                 loads: SlotList::new(),
@@ -124,6 +140,7 @@ impl<D: Disk + Drop> FileStore<D> {
         let mut disk = disk;
         match find_records(&mut disk) {
             Ok(found) => {
+                let behind = found.has_bytes_behind();
                 let tag = found.tag;
                 Ok(FileStore {
                     disk,
@@ -132,6 +149,7 @@ impl<D: Disk + Drop> FileStore<D> {
                     tag,
                     stopped: false,
                     moved: found.moved,
+                    behind,
                     records: found.records,
                     unreadable: SlotList::new(),
                     loads: SlotList::new(),
@@ -144,7 +162,8 @@ impl<D: Disk + Drop> FileStore<D> {
 }
 
 impl<D: Disk + Drop> FileStore<D> {
-    ghost use Rattle.state_file.specs.FileStore.{WhileStoreRuns, disk_of, has_stopped, records_of, unreadable_of};
+    ghost use Rattle.state_file.specs.FileStore.{WhileStoreRuns, disk_of, has_bytes_behind, has_stopped, records_of};
+    ghost use Rattle.state_file.specs.FileStore.{unreadable_of};
 
     /// Slot k's tag, 32 bytes. Nothing is written.
     pub fn tag_at(&mut self, k: u32) -> Result<[u8; 32], StoreFault>
@@ -154,6 +173,7 @@ impl<D: Disk + Drop> FileStore<D> {
         ensures tag { IsTrue (D.honest (disk_of self.old)) →
             IfOk result (λ tag. tag ≡ tag_at (D.state (disk_of self.old)).content k) }
         ensures keeps_records { records_of self.new ≡ records_of self.old }
+        ensures behind { has_bytes_behind self.new ≡ has_bytes_behind self.old }
         ensures unreadable { unreadable_of self.new ≡ unreadable_of self.old }
         ensures reads { WhileStoreRuns D.Disk self.old
             (OnlyReads D.state D.moment D.left_since (disk_of self.old) (disk_of self.new)) }
@@ -176,7 +196,7 @@ impl<D: Disk + Drop> FileStore<D> {
 }
 
 impl<D: Disk + Drop> Store for FileStore<D> {
-    ghost use Rattle.state_file.specs.FileStore.{LeavesLists, WhileStoreRuns, disk_of, has_stopped};
+    ghost use Rattle.state_file.specs.FileStore.{LeavesLists, WhileStoreRuns, disk_of, has_bytes_behind, has_stopped};
     ghost use Rattle.state_file.specs.inner.FileStore.{kept_list};
     ghost use Rattle.state_file.specs.inner.FileStore.{kept_stands};
     ghost use Rattle.state_file.specs.FileStore.{given_of, loads_of, records_of, unreadable_of};
@@ -229,6 +249,7 @@ impl<D: Disk + Drop> Store for FileStore<D> {
         ensures loads { AddsLoad is_stopped k (loads_of self.old) (loads_of self.new) result }
         ensures given { AddsGiven (given_of self.old) (given_of self.new) result }
         ensures keeps_records { records_of self.new ≡ records_of self.old }
+        ensures behind { has_bytes_behind self.new ≡ has_bytes_behind self.old }
         ensures reads { WhileStoreRuns D.Disk self.old
             (OnlyReads D.state D.moment D.left_since (disk_of self.old) (disk_of self.new)) }
         ensures any_moment { WhileStoreRuns D.Disk self.old
@@ -292,6 +313,7 @@ impl<D: Disk + Drop> Store for FileStore<D> {
         ensures unreadable { unreadable_of self.new ≡ unreadable_of self.old }
         ensures loads { loads_of self.new ≡ loads_of self.old }
         ensures given { given_of self.new ≡ given_of self.old }
+        ensures behind { has_bytes_behind self.new ≡ has_bytes_behind self.old }
         ensures full { result ≡ Err StoreFault.Full → self.new ≡ self.old }
         ensures adds { IsTrue (D.honest (disk_of self.old)) →
             OnOk result

@@ -36,7 +36,7 @@ pub struct MemoryStore {
 
 impl MemoryStore {
     ghost use Rattle.state_file.specs.MemoryStore.{KeepsLoads, KeepsRecords, cut_of, cut_of_append, failures_of};
-    ghost use Rattle.state_file.specs.MemoryStore.{is_stopped, limit_of, records_of, refusals_of};
+    ghost use Rattle.state_file.specs.MemoryStore.{given_of, is_stopped, limit_of, loads_of, records_of, refusals_of};
 
     /// An empty store of at most `limit` records.
     pub fn with_limit(alloc: Global, limit: u32) -> Self
@@ -46,6 +46,8 @@ impl MemoryStore {
         ensures stopped { is_stopped result ≡ false }
         ensures failures { failures_of result ≡ 0 }
         ensures refusals { refusals_of result ≡ 0 }
+        ensures loads { loads_of result ≡ [] }
+        ensures given { given_of result ≡ [] }
     {
         MemoryStore {
             records: Vec::new(alloc),

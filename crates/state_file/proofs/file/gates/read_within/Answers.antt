@@ -9,7 +9,7 @@ returns-clause-reads g c = record {
   counts = record {
     failures = c.read_at.ensures.call.failures;
     past_ends = λ honest.
-        kept_within c.read_at.result _ _ (g.D.Disk.past_ends c.args.disk.now) (g.D.Disk.past_ends c.read_at.new.self) c.read_at.ensures.past_ends (c.read_at.ensures.past_end honest) (c.requires.within honest);
+        kept_within c.read_at.result _ _ (g.D.Disk.past_ends c.args.disk.now) (g.D.Disk.past_ends c.read_at.new.self) c.read_at.ensures.past_ends (c.read_at.ensures.past_end honest (c.requires.steady honest)) (c.requires.within honest);
     honest = c.read_at.ensures.call.honest;
   };
 }

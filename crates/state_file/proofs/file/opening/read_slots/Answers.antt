@@ -30,6 +30,7 @@ loop-disk-preserved g c =
       at_most_limit = omega (arith, c.push.ensures.count, c.in_ok-slot.ensures.below_limit);
       moved = c.push.ensures.moved ∙ pushed_moved found.records c.push.new.self.records slot.entry c.push.ensures.records;
       version = c.push.ensures.version ∙ before.version;
+      len = c.push.ensures.len ∙ before.len;
       honest = c.read_slot.ensures.reads.counts.honest ∙ c.read_gate.ensures.reads.counts.honest ∙ before.honest;
       failures = c.in_ok-slot.ensures.reads.counts.failures ∙ c.in_ok-read_gate.ensures.reads.counts.failures ∙ before.failures;
       past_ends = λ honest.

@@ -13,6 +13,7 @@ invariant-loop-disk g l = record {
   at_most_limit : l.found.count ≤ most_records;
   moved : l.found.moved ≡ has_moved l.found.records;
   version : l.found.version ≡ l.version;
+  len : l.found.len ≡ l.len;
   honest : g.D.Disk.honest l.disk ≡ g.D.Disk.honest l.initial.disk;
   failures : g.D.Disk.failures l.disk ≡ g.D.Disk.failures l.initial.disk;
   past_ends : IsTrue (g.D.Disk.honest l.initial.disk) → g.D.Disk.past_ends l.disk ≡ g.D.Disk.past_ends l.initial.disk;
