@@ -101,6 +101,7 @@ adds_ok g old new entry was tied is records is_open random memory untaken = reco
       most = is.most;
     };
     unreadable = is.unreadable;
+    asked = is.asked;
   };
   random = random;
   refusals = is.refusals;
@@ -128,6 +129,7 @@ adds_failed g old new entry tied is records is_open random memory untaken =
           most = is.most;
         };
         unreadable = is.unreadable;
+        asked = is.asked;
       };
       random = random;
       refusals = is.refusals;
@@ -148,6 +150,7 @@ adds_failed g old new entry tied is records is_open random memory untaken =
           most = is.most;
         };
         unreadable = is.unreadable;
+        asked = is.asked;
       };
       random = random;
       refusals = is.refusals;
@@ -174,6 +177,7 @@ adds_refused g old new entry was tied is records is_open random memory untaken =
       most = is.most;
     };
     unreadable = is.unreadable;
+    asked = is.asked;
   };
   random = random;
   refusals = is.refusals;

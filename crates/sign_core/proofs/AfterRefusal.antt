@@ -1,9 +1,10 @@
 -- What stands after a refusal.
 use Rattle.std.proofs.Common.{◌≡◌, ◌≢◌, ◌∙◌, refl, sym, ap, subst, ◌⊎◌, inl, inr, ℕ, zero, suc, ◌+◌, ◌-◌, Bool, true}
 use Rattle.std.proofs.Common.{false, List, [], ◌∷◌, ◌++◌, length, length-append, take, Option, Some, None, Err}
-use Rattle.std.proofs.Common.{append_assoc, append-nil, arith}
+use Rattle.std.proofs.Common.{append_assoc, append-nil, arith, ◌≤◌}
 use Rattle.std.specs.Prelude.{if◌then◌else◌, nat_le, nat_lt, not, slice_get}
 use Rattle.std.specs.List.{concat}
+use Rattle.std.proofs.lemmas.Bool.Decides.{nat_tests}
 use Rattle.std.proofs.lemmas.Option.{none-some, same_Some}
 use Rattle.typecodes.specs.declared.spec.Spec.{Spec}
 use Rattle.typecodes.specs.Spec.{IsSpec}
@@ -16,7 +17,7 @@ use Rattle.state_file.specs.declared.record.Secret.{Secret}
 use Rattle.sign_core.specs.declared.key.AnyPublic.{AnyPublic}
 use Rattle.sign_core.specs.declared.fault.SignFault.{SignFault}
 use Rattle.sign_core.specs.declared.fault.SignFault.TheVariants.{LedgerFull, Moved, OutOfMemory, RandomRepeated}
-use Rattle.sign_core.specs.declared.fault.SignFault.TheVariants.{RetireRange, Stopped}
+use Rattle.sign_core.specs.declared.fault.SignFault.TheVariants.{KeyThere, RetireRange, Stopped}
 use Rattle.sign_core.specs.AfterRefusal.{AfterRefusalLaw, AreDrawnFor, BeginsDrawn, IsDrawnKey, IsNextWanted, IsRefusal}
 use Rattle.sign_core.specs.AfterRefusal.{LeavesRecords, LeavesRequested, LeavesTrees, WantsRecords}
 use Rattle.sign_core.specs.Events.{AreFields, key_sizes}
@@ -37,6 +38,7 @@ use Rattle.sign_core.proofs.Cases.{published, retired_key}
 use Rattle.sign_core.proofs.Bindings.{binding_other, binds}
 use Rattle.sign_core.proofs.DrawnAgain.{IsSettled, settled_repeated, settled_key}
 use Rattle.sign_core.proofs.Fresh.{begins_along, extend_in}
+use Rattle.sign_core.proofs.InTurn.{in_turn}
 use Rattle.sign_core.proofs.BoundBelow.{next_extend}
 use Rattle.sign_core.proofs.Leaves.{deepest_is}
 use Rattle.sign_core.proofs.OnceKept.{kept_choice}
@@ -354,7 +356,7 @@ has_left limit state name chance =
       read = λ outcome again refusal. read_too state name chance outcome (again refusal);
     } in
     settled_key quiet limit state name chance settled.refused_for (the_key state.records) refl
-    (λ key k bound. settled_repeated quiet state chance settled key k bound chance.given)
+    (λ key k bound is. settled_repeated quiet state chance settled key k bound chance.given)
     (λ key level wants refusal.
     let inside = (deepest_is key.secret state.records level wants.level_is).0 in
     inr (
@@ -420,6 +422,27 @@ retires limit state upto fate (Some key) =
     (choice state.records (nat_lt limit (length state.records + 1)) _ _ (plain state LedgerFull)
     (append_quiet state (Retire upto) fate _ refl (λ refusal. cc (refusal.1)))))))
 
+draws_nothing : (state : State) (chance : Creation) (found : Option Secret) → (begun state chance found).drawn ≡ []
+draws_nothing state chance None = refl
+draws_nothing state chance (Some secret) = by_room chance.has_room
+  where
+    published_draws : (records : List Record) (found : Option AnyPublic) → (published records found).drawn ≡ []
+    published_draws records (Some public) = refl
+    published_draws records None = refl
+
+    by_fate : (key : Key) (fate : Fate)
+        → (appended state (KeyRecord key) fate (λ records. published records (any_public_of key))).drawn ≡ []
+    by_fate key acked = published_draws (state.records ++ KeyRecord key ∷ []) (any_public_of key)
+    by_fate key cut_old = refl
+    by_fate key cut_new = refl
+    by_fate key no_memory = refl
+
+    by_room : (has_room : Bool) → (if not has_room then refused state OutOfMemory
+        else appended state (KeyRecord (new_key chance.version secret)) chance.fate
+        (λ records. published records (any_public_of (new_key chance.version secret)))).drawn ≡ []
+    by_room true = by_fate (new_key chance.version secret) chance.fate
+    by_room false = refl
+
 module _ (state : State) (spec : Spec) (chance : Creation) (can : IsSpec spec) (are : AreFields (key_sizes spec) chance.fields) where
   abbrev QuietHere : Outcome AnyPublic → Type 0
   QuietHere outcome = QuietIn state.records (IsDrawnKey chance.version spec chance.fields outcome.drawn) outcome
@@ -456,27 +479,6 @@ module _ (state : State) (spec : Spec) (chance : Creation) (can : IsSpec spec) (
       (append_quiet state (KeyRecord key) chance.fate next (secret, is, refl)
       (published_never (state.records ++ KeyRecord key ∷ []) (any_public_of key) public has))
 
-  draws_nothing : (found : Option Secret) → (begun state chance found).drawn ≡ []
-  draws_nothing None = refl
-  draws_nothing (Some secret) = by_room chance.has_room
-    where
-      published_draws : (records : List Record) (found : Option AnyPublic) → (published records found).drawn ≡ []
-      published_draws records (Some public) = refl
-      published_draws records None = refl
-
-      by_fate : (key : Key) (fate : Fate)
-          → (appended state (KeyRecord key) fate (λ records. published records (any_public_of key))).drawn ≡ []
-      by_fate key acked = published_draws (state.records ++ KeyRecord key ∷ []) (any_public_of key)
-      by_fate key cut_old = refl
-      by_fate key cut_new = refl
-      by_fate key no_memory = refl
-
-      by_room : (has_room : Bool) → (if not has_room then refused state OutOfMemory
-          else appended state (KeyRecord (new_key chance.version secret)) chance.fate
-          (λ records. published records (any_public_of (new_key chance.version secret)))).drawn ≡ []
-      by_room true = by_fate (new_key chance.version secret) chance.fate
-      by_room false = refl
-
   quiet_choice : (test : Bool) (x y : Outcome AnyPublic) → QuietHere x → QuietHere y → QuietHere (if test then x else y)
   quiet_choice true x y first second = first
   quiet_choice false x y first second = second
@@ -484,8 +486,28 @@ module _ (state : State) (spec : Spec) (chance : Creation) (can : IsSpec spec) (
   creates : (failed : Option SignFault) → QuietHere (created_load failed state spec chance)
   creates (Some fault) = plain state fault
   creates None = quiet_choice (nat_le 1 (length state.records)) _ _ (plain state _)
-      (draws_key (begun state chance (secret_of_fields spec chance.fields)) (draws_nothing (secret_of_fields spec chance.fields))
+      (draws_key (begun state chance (secret_of_fields spec chance.fields)) (draws_nothing state chance (secret_of_fields spec chance.fields))
       (begins (secret_of_fields spec chance.fields) refl))
+
+-- ---- what a create draws
+
+drawn_where_none : (state : State) (spec : Spec) (chance : Creation) (failed : Option SignFault) → failed ≡ None → state.records ≡ []
+    → (created_load failed state spec chance).drawn ≡ concat chance.fields
+drawn_where_none state spec chance failed loads none =
+    ap (λ f. (created_load f state spec chance).drawn) loads
+    ∙ ap (λ (n : ℕ). (if nat_le 1 n then refused {A = AnyPublic} state KeyThere
+    else drawing (concat chance.fields) (begun state chance (secret_of_fields spec chance.fields))).drawn) (ap length none)
+    ∙ ap (λ bytes. concat chance.fields ++ bytes) (draws_nothing state chance (secret_of_fields spec chance.fields))
+    ∙ append-nil (concat chance.fields)
+
+undrawn_where_some : (state : State) (spec : Spec) (chance : Creation) (failed : Option SignFault)
+    → (failed ≢ None) ⊎ (1 ≤ length state.records) → (created_load failed state spec chance).drawn ≡ []
+undrawn_where_some state spec chance (Some fault) why = refl
+undrawn_where_some state spec chance None (inl fails) = absurd (fails refl)
+undrawn_where_some state spec chance None (inr some) =
+    let there : nat_le 1 (length state.records) ≡ true = grind (arith, nat_tests) in
+    ap (λ (is : Bool). (if is then refused {A = AnyPublic} state KeyThere
+    else drawing (concat chance.fields) (begun state chance (secret_of_fields spec chance.fields))).drawn) there
 
 publishes : (records : List Record) (found : Option AnyPublic) → QuietIn records (λ entry. ⊥) (published records found)
 publishes records (Some public) = λ refusal. absurd (cc (refusal.1))
@@ -508,4 +530,7 @@ after_refusal_law = record {
   retire = λ limit state upto fate refusal. retires limit state upto fate (the_key state.records) refusal;
   create = λ state spec chance can are refusal. creates state spec chance can are chance.failed_load refusal;
   opening = λ state chance refusal. opens state chance (first_illegal state.records) refusal;
+  unread = in_turn;
+  create_draws = λ state spec chance loads none. drawn_where_none state spec chance chance.failed_load loads none;
+  create_draws_none = λ state spec chance why. undrawn_where_some state spec chance chance.failed_load why;
 }

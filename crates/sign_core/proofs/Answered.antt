@@ -71,7 +71,7 @@ signed_open limit state name signature chance is = elim (cases_Bool state.is_ope
       let settled : IsSettled StaysOpen state =
       record { refused_for = λ fault other signature is. absurd (cc); gives = λ own signature is. open_now; read = λ outcome opens. opens } in
       settled_key StaysOpen limit state name chance settled.refused_for (the_key state.records) refl
-      (λ key k bound. settled_repeated StaysOpen state chance settled key k bound chance.given)
+      (λ key k bound is. settled_repeated StaysOpen state chance settled key k bound chance.given)
       (λ key level wants. open_bound_below key name chance (bottom_of key.secret - level) chance.trees state.records) signature is
   | inr closed ↦
       let same = ap (λ (o : Outcome (List ℕ)). o.answer) (closed_key limit state name chance (the_key state.records) closed) in

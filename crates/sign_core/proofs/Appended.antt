@@ -89,4 +89,5 @@ ends_alike g view new random one other answer last state acknowledged failed ans
     most = ends.store.most;
   };
   unreadable = ends.unreadable;
+  asked = ends.asked;
 }

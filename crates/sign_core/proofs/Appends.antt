@@ -33,5 +33,6 @@ pub record IsAppended {S A : Type 0} (g : store.Ghosts S) (old new : S) (entry :
   pub refused : answer ≡ Err OutOfMemory → LeavesOld g old new
   pub refusals : Counts is_out_of_memory (g.refusals old) (g.refusals new) answer
   pub unreadable : g.unreadable new ≡ g.unreadable old
+  pub asked : g.loads new ≡ g.loads old
   pub honest : g.honest new ≡ g.honest old
   pub most : g.most new ≡ g.most old

@@ -85,6 +85,7 @@ module _ {S R M : Type 0} (g : store.Ghosts S) (r : source.Ghosts R) (m : messag
         most = refl;
       };
       unreadable = refl;
+      asked = refl;
     };
     more = [];
     grown = sym (append-nil _);

@@ -167,6 +167,7 @@ does_after g r m old mid new before after given extend bytes outcome answer runn
         store = keeps_after g old.store mid.store new.store old.records mid.records second.more extend bytes outcome running first.records second.grown
             first.store second.ends.store;
         unreadable = second.ends.unreadable ∙ first.unreadable;
+        asked = second.ends.asked ∙ first.asked;
       };
       more = ExtendRecord extend ∷ second.more;
       grown = second.grown ∙ ap (λ l. l ++ second.more) first.records ∙ append_assoc old.records (ExtendRecord extend ∷ []) second.more;

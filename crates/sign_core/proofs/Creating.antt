@@ -11,7 +11,7 @@ use Rattle.state_file.specs.declared.record.Record.TheVariants.{Key as KeyRecord
 use Rattle.state_file.specs.declared.record.Secret.{Secret}
 use Rattle.state_file.specs.declared.store.Store as store
 use Rattle.state_file.specs.Disk.{Counts, LeavesOnly}
-use Rattle.state_file.specs.Store.{Collects, WhileRunning}
+use Rattle.state_file.specs.Store.{AddsLoad, Collects, WhileRunning}
 use Rattle.state_file.proofs.Moments.{combined}
 use Rattle.sign_core.specs.declared.key.AnyPublic.{AnyPublic}
 use Rattle.sign_core.specs.declared.fault.SignFault.{SignFault}
@@ -27,7 +27,7 @@ use Rattle.sign_core.proofs.Appends.{IsAppended}
 use Rattle.sign_core.specs.Ledger.{Table}
 use Rattle.sign_core.specs.Records.{the_key}
 use Rattle.sign_core.specs.Signer.{Creates, IsAnswered, KeepsStore, LeavesOld, LeavesSource, LoadFails, MakesKey, View}
-use Rattle.sign_core.specs.Signer.{is_fault, is_store_failed, is_random_failed, is_out_of_memory, unreadable_slot}
+use Rattle.sign_core.specs.Signer.{is_fault, is_store_failed, is_random_failed, is_out_of_memory, is_stopped, unreadable_slot}
 use Rattle.sign_core.specs.World.{Creation, Fate, Outcome, acked, answered, appended, closed_state, created, cut, cut_new, cut_old, drawing}
 use Rattle.sign_core.proofs.Cases.{begun}
 use Rattle.sign_core.specs.World.{new_key, no_memory, open_state, refused, secret_of_fields}
@@ -85,6 +85,7 @@ refused_first g r version spec old new random fault failed is load step failures
   room = refl;
   refusals = is.refusals;
   unreadable = is.unreadable;
+  asked = is.asked;
   stays = is.stays;
 }
 
@@ -149,6 +150,7 @@ undrawn_random g r version spec old mid before after is draws = record {
   room = refl;
   refusals = is.refusals;
   unreadable = is.unreadable;
+  asked = is.asked;
   stays = λ stopped. absurd (true≢false (sym stopped ∙ is.finds.0));
 }
 
@@ -210,8 +212,9 @@ made_by_fate : {S R : Type 0} (g : store.Ghosts S) (r : source.Ghosts R) (versio
     → Counts is_random_failed (r.failures before) (r.failures after) outcome.answer
     → Counts is_out_of_memory (g.refusals old) (g.refusals new) outcome.answer
     → Collects unreadable_slot (g.unreadable old) (g.unreadable new) outcome.answer
+    → AddsLoad is_stopped 0 (g.loads old) (g.loads new) outcome.answer
     → MakesKey g r version spec old new before after IsAnswer
-made_by_fate g r version spec old mid new before after secret fate outcome answer IsAnswer has draws step undrawn is keeps stopped failures refusals unreadable = record {
+made_by_fate g r version spec old mid new before after secret fate outcome answer IsAnswer has draws step undrawn is keeps stopped failures refusals unreadable asked = record {
   chance = record { version = version; failed_load = None; fields = draws.fields; has_room = true; fate = fate };
   of_version = refl;
   outcome = drawing (concat draws.fields) outcome;
@@ -228,6 +231,7 @@ made_by_fate g r version spec old mid new before after secret fate outcome answe
   room = refl;
   refusals = refusals;
   unreadable = unreadable;
+  asked = asked;
   stays = λ before. absurd (true≢false (sym before ∙ has.looked.finds.0));
 }
 
@@ -254,7 +258,7 @@ made g r version spec old mid new before after secret table records can draws ha
       failures = stored.stored.2 ∙ loaded.finds.3;
       honest = stored.honest ∙ loaded.honest;
       most = stored.most ∙ loaded.most;
-    }) (stored.stored.1 ∙ sym loaded.finds.0) draws.failures (stored.refusals ∙ loaded.refusals) (stored.unreadable ∙ loaded.unreadable)
+    }) (stored.stored.1 ∙ sym loaded.finds.0) draws.failures (stored.refusals ∙ loaded.refusals) (stored.unreadable ∙ loaded.unreadable) (stored.asked ∙ loaded.asked)
 
 made_cut : {S R : Type 0} (g : store.Ghosts S) (r : source.Ghosts R) (version : Version) (spec : Spec) (old mid new : S) (before after : R) (secret : Secret)
     → (draws : DrawsSecret r spec before after (Ok secret)) → (has : HasAppended {A = Unit {0}} g old mid new (KeyRecord (new_key version secret)) (Err StoreFailed))
@@ -272,7 +276,7 @@ made_cut g r version spec old mid new before after secret draws has (inl same) =
       failures = stored.stored.2 ∙ ap (λ n. n + 1) loaded.finds.3;
       honest = stored.honest ∙ loaded.honest;
       most = stored.most ∙ loaded.most;
-    }) stored.stored.1 draws.failures (stored.refusals ∙ loaded.refusals) (stored.unreadable ∙ loaded.unreadable)
+    }) stored.stored.1 draws.failures (stored.refusals ∙ loaded.refusals) (stored.unreadable ∙ loaded.unreadable) (stored.asked ∙ loaded.asked)
 made_cut g r version spec old mid new before after secret draws has (inr more) =
     let entry = KeyRecord (new_key version secret) in
     let loaded = has.looked in
@@ -285,7 +289,7 @@ made_cut g r version spec old mid new before after secret draws has (inr more) =
       failures = stored.stored.2 ∙ ap (λ n. n + 1) loaded.finds.3;
       honest = stored.honest ∙ loaded.honest;
       most = stored.most ∙ loaded.most;
-    }) stored.stored.1 draws.failures (stored.refusals ∙ loaded.refusals) (stored.unreadable ∙ loaded.unreadable)
+    }) stored.stored.1 draws.failures (stored.refusals ∙ loaded.refusals) (stored.unreadable ∙ loaded.unreadable) (stored.asked ∙ loaded.asked)
 
 pub unmade : {S R : Type 0} (g : store.Ghosts S) (r : source.Ghosts R) (version : Version) (spec : Spec) (old mid new : S) (before after : R) (secret : Secret) (fault : SignFault)
     → DrawsSecret r spec before after (Ok secret) → HasAppended {A = Unit {0}} g old mid new (KeyRecord (new_key version secret)) (Err fault)
@@ -305,7 +309,7 @@ unmade g r version spec old mid new before after secret OutOfMemory draws has =
       honest = stored.honest ∙ loaded.honest;
       most = stored.most ∙ loaded.most;
     }) (stored.stored.1 ∙ sym loaded.finds.0) draws.failures (stored.refusals ∙ ap (λ n. n + 1) loaded.refusals)
-    (stored.unreadable ∙ loaded.unreadable)
+    (stored.unreadable ∙ loaded.unreadable) (stored.asked ∙ loaded.asked)
 unmade g r version spec old mid new before after secret Changed draws has = absurd has.appended.stored
 unmade g r version spec old mid new before after secret Exhausted draws has = absurd has.appended.stored
 unmade g r version spec old mid new before after secret LedgerFull draws has = absurd has.appended.stored
@@ -346,6 +350,7 @@ made_with g r version spec old new before after P Q to makes = record {
   room = makes.room;
   refusals = makes.refusals;
   unreadable = makes.unreadable;
+  asked = makes.asked;
   stays = makes.stays;
 }
 

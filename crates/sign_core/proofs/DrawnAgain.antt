@@ -79,16 +79,16 @@ module _ (Q : Outcome (List ℕ) → Type 0) (limit : ℕ) (state : State) (name
       (damaged_at key level state.records (current_at level state.records (length state.records))) (rest level is)))
 
   settled_of : (key : Key) (found : Option (ℕ × Bound)) → binding_at state.records name ≡ found
-      → ((k : ℕ) (bound : Bound) → Q (repeated state key k bound chance chance.given))
+      → ((k : ℕ) (bound : Bound) → binding_at state.records name ≡ Some (k, bound) → Q (repeated state key k bound chance chance.given))
       → (binding_at state.records name ≡ None → (level : ℕ) → deepest key.secret state.records ≡ Some level
       → Q (bound_trees key name chance (bottom_of key.secret - level) chance.trees state.records))
       → Q (requested_binding limit state key name chance found)
-  settled_of key (Some (k, bound)) is again rest = again k bound
+  settled_of key (Some (k, bound)) is again rest = again k bound is
   settled_of key None is again rest = kept_choice Q (is_long key name) _ _ (λ long. refuses LongName (λ e. cc))
       (λ short. settled_level key (deepest key.secret state.records) refl (rest is))
 
   pub settled_key : (found : Option Key) → the_key state.records ≡ found
-      → ((key : Key) (k : ℕ) (bound : Bound) → Q (repeated state key k bound chance chance.given))
+      → ((key : Key) (k : ℕ) (bound : Bound) → binding_at state.records name ≡ Some (k, bound) → Q (repeated state key k bound chance chance.given))
       → ((key : Key) (level : ℕ) → WantsRecords state name key level
       → Q (bound_trees key name chance (bottom_of key.secret - level) chance.trees state.records))
       → Q (requested_key limit state name chance found)
@@ -219,7 +219,7 @@ drawn_again limit state name chance =
     let settled : IsSettled all state =
     record { refused_for = λ fault other is. absurd (other (cc)); gives = λ signature is. absurd (cc); read = λ outcome again. again } in
     settled_key all limit state name chance settled.refused_for (the_key state.records) refl
-    (λ key k bound. settled_repeated all state chance settled key k bound chance.given)
+    (λ key k bound is. settled_repeated all state chance settled key k bound chance.given)
     (λ key level wants. repeats_bound_below key name chance (bottom_of key.secret - level) chance.trees state.records)
 
 -- ---- how much is drawn
@@ -302,7 +302,7 @@ drawn_most limit state key name chance keyed drawn =
     let settled : IsSettled (DrawsMost most) state =
     record { refused_for = λ fault other. omega arith; gives = λ signature. omega arith; read = λ outcome draws. draws } in
     settled_key (DrawsMost most) limit state name chance settled.refused_for (the_key state.records) refl
-    (λ own k bound. settled_repeated (DrawsMost most) state chance settled own k bound chance.given)
+    (λ own k bound is. settled_repeated (DrawsMost most) state chance settled own k bound chance.given)
     (λ own level wants.
     let same : key ≡ own = cc (keyed, wants.active.keyed) in
     let inner = most_bound_below key name chance (bottom_of key.secret - level) chance.trees state.records drawn.trees drawn.bound in
@@ -365,6 +365,6 @@ pub signed_read : (limit : ℕ) (state : State) (name signature : List ℕ) (cha
     → IsSome chance.given × ((requested limit state name chance).is_read ≡ true)
 signed_read limit state name signature chance =
     settled_key (IsRead chance.given) limit state name chance (λ fault other given is. absurd (cc))
-    (the_key state.records) refl (λ key k bound. read_repeated state key k bound chance chance.given)
+    (the_key state.records) refl (λ key k bound is. read_repeated state key k bound chance chance.given)
     (λ key level wants.
     read_bound_below key name chance (bottom_of key.secret - level) chance.trees state.records) signature

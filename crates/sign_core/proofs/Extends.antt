@@ -90,6 +90,7 @@ module _ {S R : Type 0} (g : store.Ghosts S) (r : source.Ghosts R) (level : ℕ)
       most = refl;
     };
     unreadable = refl;
+    asked = refl;
   }
 
   fails_along : (before after : ℕ) (fault : SignFault) (answer : Result (List ℕ) SignFault) → Err fault ≡ answer
@@ -238,6 +239,7 @@ adds_caching g old new caches entry answer adds = record {
     is_open = adds.ends.is_open;
     store = adds.ends.store;
     unreadable = adds.ends.unreadable;
+    asked = adds.ends.asked;
   };
   random = adds.random;
   refusals = adds.refusals;

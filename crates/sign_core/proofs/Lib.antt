@@ -15,12 +15,14 @@ pub mod OneLeaf
 pub mod Ends
 pub mod Fresh
 pub mod DrawnAgain
+pub mod InTurn
 pub mod Chains
 pub mod Textbook
 pub mod Keys
 pub mod Valid
 pub mod Lists
 pub mod TreeSteps
+pub mod TreeChain
 pub mod Bindings
 pub mod Leaves
 pub mod Follow
@@ -33,6 +35,7 @@ pub mod Migrating
 pub mod Next
 pub mod Uses
 pub mod Kept
+pub mod KeptCaches
 pub mod BoundBelow
 pub mod TreeParts
 pub mod Stops
@@ -78,3 +81,4 @@ pub mod Capacities
 pub mod OldFile
 pub mod MigrateKey
 pub mod Moves
+pub mod Told

@@ -272,7 +272,7 @@ pub record Reaches (key : Key) (trees : Trees) (records : List Record) (level pl
   pub len : length new ≡ length old + level
   pub made : AreMade old → AreMade new
 
-top_level : (records : List Record) (level place : ℕ) → IsTreeAt records level place → made_at records place ≡ None → level ≡ 0
+pub top_level : (records : List Record) (level place : ℕ) → IsTreeAt records level place → made_at records place ≡ None → level ≡ 0
 top_level records zero place at none = refl
 top_level records (suc level) place (extend, stands, of_level) none =
     absurd (none_some (sym none ∙ ap (made_entry records place) stands))

@@ -297,6 +297,7 @@ module _ {D E : Type 0} (d : disk.Ghosts D) (e : disk.Ghosts E) (old_time : Keep
         | inr q ↦ inr (p, q)
       ]
     ];
+    keeps = first.keeps;
   }
 
   -- what sealing leaves of a content

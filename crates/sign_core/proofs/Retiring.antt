@@ -105,6 +105,7 @@ left_retires g v upto answer signer only step failures refusals = record {
       most = refl;
     };
     unreadable = refl;
+    asked = refl;
   };
   random = refl;
   cached = refl;

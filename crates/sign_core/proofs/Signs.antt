@@ -206,6 +206,7 @@ module _ {S R M : Type 0} (g : store.Ghosts S) (r : source.Ghosts R) (m : messag
         store = subst (λ s. KeepsStore g old.store s old.records (kept (state_of old) answer is_read)) (sym keeps.store)
             (kept_store g old answer is_read signer only calm.store);
         unreadable = ap g.unreadable keeps.store;
+        asked = ap g.loads keeps.store;
       };
       possible = record { trees = tt; bound = tt };
       source = subst (λ s. Provides (r.upcoming old.random) [] (r.upcoming s)) (sym keeps.random)
@@ -387,6 +388,7 @@ module _ {S R M : Type 0} (g : store.Ghosts S) (r : source.Ghosts R) (m : messag
             is_open = b.does.ends.is_open;
             store = b.does.ends.store;
             unreadable = b.does.ends.unreadable;
+            asked = b.does.ends.asked;
           };
           possible = b.possible;
           source = b.does.source;
@@ -423,6 +425,7 @@ module _ {S R M : Type 0} (g : store.Ghosts S) (r : source.Ghosts R) (m : messag
         is_open = refl;
         store = kept_store g v (Err (Damaged slot)) false signer only (λ n. refl);
         unreadable = refl;
+        asked = refl;
       };
       more = [];
       grown = sym (append-nil _);

@@ -91,7 +91,7 @@ binds_none limit state name other chance fault is not =
     let settled : IsSettled quiet state =
     record { refused_for = λ fault other name named is not. refl; gives = λ signature fault name is not. refl; read = λ outcome quiet. quiet } in
     settled_key quiet limit state name chance settled.refused_for (the_key state.records) refl
-    (λ key k bound. settled_repeated quiet state chance settled key k bound chance.given)
+    (λ key k bound is. settled_repeated quiet state chance settled key k bound chance.given)
     (λ key level wants. quiet_bound_below key name chance (bottom_of key.secret - level) chance.trees state.records) fault other is not
 
 -- ---- retirings

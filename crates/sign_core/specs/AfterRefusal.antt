@@ -1,7 +1,7 @@
 -- What stands after a refusal: the old records; after a request for a new name also the trees that it had begun; and
--- perhaps the record whose append failed.
+-- perhaps the record whose append failed. And what was drawn and read before it.
 use Rattle.std.specs.Prelude.{◌≡◌, ◌≢◌, ◌⊎◌, ℕ, suc, ◌+◌, ◌-◌, ◌<◌, ◌≤◌, List, [], ◌∷◌, ◌++◌, length, take, slice_get}
-use Rattle.std.specs.Prelude.{Some, None, Err}
+use Rattle.std.specs.Prelude.{Some, None, Err, Bool, true, false, IsSome}
 use Rattle.std.specs.List.{concat}
 use Rattle.typecodes.specs.declared.spec.Spec.{Spec}
 use Rattle.typecodes.specs.Spec.{IsSpec}
@@ -13,13 +13,13 @@ use Rattle.state_file.specs.declared.record.Record.TheVariants.{Bound as BoundRe
 use Rattle.state_file.specs.declared.record.Secret.{Secret}
 use Rattle.state_file.specs.declared.record.Version.{Version}
 use Rattle.sign_core.specs.declared.fault.SignFault.{SignFault}
-use Rattle.sign_core.specs.declared.fault.SignFault.TheVariants.{RandomRepeated, StoreFailed}
+use Rattle.sign_core.specs.declared.fault.SignFault.TheVariants.{MessageRead, OutOfMemory, RandomRepeated, StoreFailed}
 use Rattle.sign_core.specs.Events.{AreFields, key_sizes}
 use Rattle.sign_core.specs.Requests.{BeginsTree, BindsName, bytes_drawn}
 use Rattle.sign_core.specs.Retirings.{IsActive}
 use Rattle.sign_core.specs.Records.{binding_at, deepest}
 use Rattle.sign_core.specs.World.{Chance, Creation, Draw, Fate, Opening, Outcome, State, created, new_key, opened}
-use Rattle.sign_core.specs.World.{requested, retired, secret_of_fields}
+use Rattle.sign_core.specs.World.{randomizer_of_fields, requested, retired, secret_of_fields}
 
 -- These records were acknowledged and stand. Only after 25 one more may stand, the one whose append failed, and it has
 -- this property.
@@ -94,6 +94,22 @@ abbrev pub LeavesRequested : State → (name : List ℕ) → Chance → Outcome 
 LeavesRequested state name chance outcome =
     (LeavesRecords state.records (λ entry. ⊥) outcome × (outcome.drawn ≡ [])) ⊎ LeavesBegun state name chance outcome
 
+-- The refusals that can follow a new name's message: it can't be read (27), or its binding's append fails (25, 29).
+abbrev pub is_after_message : SignFault → Bool
+is_after_message MessageRead = true
+is_after_message StoreFailed = true
+is_after_message OutOfMemory = true
+is_after_message _ = false
+
+-- The turn of a new name's message had come: each new tree is recorded, and C is drawn.
+pub record IsInTurn (state : State) (name : List ℕ) (chance : Chance) (outcome : Outcome (List ℕ)) : Type 0 where
+  pub key : Key
+  pub level : ℕ
+  pub wants : WantsRecords state name key level
+  pub trees : length state.records + (bottom_of key.secret - level) ≤ length outcome.acknowledged
+  pub randomizer : IsSome (randomizer_of_fields key.secret chance.bound.fields)
+  pub refusals : (fault : SignFault) → outcome.answer ≡ Err fault → is_after_message fault ≡ true
+
 -- ---- the other events
 
 -- the Key with this version and the drawn secret
@@ -120,3 +136,13 @@ pub record AfterRefusalLaw : Type 0 where
       (created state spec chance)
   pub opening : (state : State) (chance : Opening) → IsRefusal (opened state chance)
       → LeavesRecords state.records (λ entry. ⊥) (opened state chance)
+  -- no refusal that comes before a new name's message reads it
+  pub unread : (limit : ℕ) (state : State) (name : List ℕ) (chance : Chance) → binding_at state.records name ≡ None
+      → (requested limit state name chance).is_read ≡ true
+      → IsInTurn state name chance (requested limit state name chance)
+  -- A create draws all fields of its secret, or fewer where the source fails (23). It draws none before it knows that
+  -- no record is there.
+  pub create_draws : (state : State) (spec : Spec) (chance : Creation) → chance.failed_load ≡ None → state.records ≡ []
+      → (created state spec chance).drawn ≡ concat chance.fields
+  pub create_draws_none : (state : State) (spec : Spec) (chance : Creation)
+      → (chance.failed_load ≢ None) ⊎ (1 ≤ length state.records) → (created state spec chance).drawn ≡ []

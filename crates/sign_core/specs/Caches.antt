@@ -1,5 +1,5 @@
 -- The caches of current trees, and which one is missing for a signature.
-use Rattle.std.specs.Prelude.{◌≡◌, ◌≢◌, ◌⊎◌, ℕ, ◌<◌, ◌≤◌, List, slice_index_or, Option, Some, None}
+use Rattle.std.specs.Prelude.{◌≡◌, ◌≢◌, ◌⊎◌, ℕ, ◌<◌, ◌≤◌, List, length, slice_index_or, Option, Some, None}
 use Rattle.typecodes.specs.declared.secret.LmsSecret.{LmsSecret}
 use Rattle.typecodes.specs.declared.secret.XmssSecret.{XmssSecret}
 use Rattle.state_file.specs.declared.record.Key.{Key}
@@ -48,3 +48,11 @@ abbrev pub LacksCache : Key → List Record → (lowest : Option ℕ) → (befor
 LacksCache key records None before cached = ⊥
 LacksCache key records (Some lowest) before cached =
     LacksLevel key records lowest before cached ⊎ LacksXmss key cached
+
+-- All of them are there.
+abbrev pub HasCaches : Key → List Record → (lowest : Option ℕ) → (before : ℕ) → Cached → Type 0
+HasCaches key records lowest before cached = LacksCache key records lowest before cached → ⊥
+
+-- Each current tree down to this level has its cache.
+abbrev pub HasAll : Key → List Record → (lowest : ℕ) → Cached → Type 0
+HasAll key records lowest cached = HasCaches key records (Some lowest) (length records) cached

@@ -27,6 +27,8 @@ pub mod Lives
 pub mod RefusalOrder
 pub mod AfterRefusal
 pub mod Caches
+pub mod Alarm
+pub mod Progress
 pub mod OldFile
 pub mod Migration
 pub mod Moves

@@ -4,6 +4,11 @@ use Rattle.state_file.specs.File.{SpellsRecords}
 use Rattle.state_file.specs.Laws.{IsLegal}
 use Rattle.state_file.specs.Opening.{OpensAs, damaged, no_key, no_key_file, unknown_version}
 use Rattle.state_file.specs.Slot.{file_version}
+use Rattle.state_file.specs.declared.file.opening.OpenFault.{OpenFault}
+use Rattle.state_file.specs.declared.file.opening.OpenFault.TheVariants.{NoKey as OpenNoKey}
+use Rattle.state_file.specs.declared.file.opening.OpenFault.TheVariants.{NotKeyFile as OpenNotKeyFile}
+use Rattle.state_file.specs.declared.file.opening.OpenFault.TheVariants.{Version as OpenVersion, Damaged as OpenDamaged}
+use Rattle.state_file.specs.declared.file.opening.OpenFault.TheVariants.{DeviceFailed as OpenFailed}
 use Rattle.state_file.specs.declared.migration.MigrateFault.{MigrateFault}
 use Rattle.state_file.specs.declared.migration.MigrateFault.TheVariants.{NoKey, NotKeyFile, Version as VersionFault}
 use Rattle.state_file.specs.declared.migration.MigrateFault.TheVariants.{Damaged, Illegal, DeviceFailed, OutOfMemory}
@@ -11,6 +16,14 @@ use Rattle.state_file.specs.declared.record.Record.{Record}
 use Rattle.state_file.specs.declared.record.Version.TheVariants.{One, Two}
 use Rattle.sign_core.specs.Ledger.{RunsOutOfMemory}
 use Rattle.sign_core.specs.Records.{first_illegal}
+
+-- what is answered where the old place isn't opened
+abbrev pub opening_fault : OpenFault → MigrateFault
+opening_fault OpenNoKey = NoKey
+opening_fault OpenNotKeyFile = NotKeyFile
+opening_fault OpenVersion = VersionFault
+opening_fault (OpenDamaged k) = Damaged k
+opening_fault OpenFailed = DeviceFailed
 
 -- ---- the old place
 

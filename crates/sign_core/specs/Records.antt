@@ -15,9 +15,11 @@ use Rattle.state_file.specs.declared.record.Record.{Record}
 use Rattle.state_file.specs.declared.record.Record.TheVariants.{Key as KeyRecord, Extend as ExtendRecord}
 use Rattle.state_file.specs.declared.record.Record.TheVariants.{Bound as BoundRecord, Retire, Moved}
 use Rattle.state_file.specs.declared.record.Secret.{Secret}
-use Rattle.state_file.specs.declared.record.Secret.TheVariants.{Xmss}
+use Rattle.state_file.specs.declared.record.Secret.TheVariants.{Lms, Hss, Xmss}
 use Rattle.state_file.specs.declared.record.Version.{Version}
 use Rattle.state_file.specs.declared.record.Version.TheVariants.{One, Two}
+use Rattle.typecodes.specs.declared.spec.Spec.{Spec}
+use Rattle.typecodes.specs.declared.spec.Spec.TheVariants as spec
 
 -- ---- the key
 
@@ -25,6 +27,12 @@ use Rattle.state_file.specs.declared.record.Version.TheVariants.{One, Two}
 abbrev pub the_key : List Record → Option Key
 the_key (KeyRecord key ∷ rest) = Some key
 the_key _ = None
+
+-- the types of a secret's trees
+abbrev pub types_of : Secret → Spec
+types_of (Lms secret) = spec.Lms secret.pair
+types_of (Hss levels identifier seed) = spec.Hss levels
+types_of (Xmss secret) = spec.Xmss secret.tree
 
 -- ---- trees
 

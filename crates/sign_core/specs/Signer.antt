@@ -20,7 +20,7 @@ use Rattle.state_file.specs.declared.record.Version.{Version}
 use Rattle.state_file.specs.declared.store.Store as store
 use Rattle.state_file.specs.Disk.{Counts, LeavesOnly}
 use Rattle.state_file.specs.Laws.{IsLegal, bottom_of}
-use Rattle.state_file.specs.Store.{Collects, WhileRunning}
+use Rattle.state_file.specs.Store.{AddsLoad, Collects, WhileRunning}
 pub use Rattle.state_file.specs.Store.{is_fault}
 use Rattle.sign_core.specs.declared.key.AnyPublic.{AnyPublic}
 use Rattle.sign_core.specs.declared.fault.SignFault.{SignFault}
@@ -107,6 +107,11 @@ abbrev pub is_device_failed : SignFault → Bool
 is_device_failed DeviceFailed = true
 is_device_failed _ = false
 
+-- the store had stopped before
+abbrev pub is_stopped : SignFault → Bool
+is_stopped Stopped = true
+is_stopped _ = false
+
 -- the slot that an answer 43 names
 abbrev pub unreadable_slot : SignFault → List ℕ
 unreadable_slot (Unreadable k) = k ∷ []
@@ -123,7 +128,7 @@ pub record KeepsStore {S A : Type 0} (g : store.Ghosts S) (old new : S) (records
   pub honest : g.honest new ≡ g.honest old
   pub most : g.most new ≡ g.most old
 
--- A signer's call ends with this outcome.
+-- A signer's call ends with this outcome. It loads no record.
 pub record Ends {S R A : Type 0} (g : store.Ghosts S) (old new : View S R) (outcome : Outcome A)
     (answer : Result A SignFault) : Type 0 where
   pub answer_is : outcome.answer ≡ answer
@@ -131,6 +136,7 @@ pub record Ends {S R A : Type 0} (g : store.Ghosts S) (old new : View S R) (outc
   pub is_open : new.is_open ≡ outcome.state.is_open
   pub store : KeepsStore g old.store new.store old.records outcome
   pub unreadable : g.unreadable new.store ≡ g.unreadable old.store
+  pub asked : g.loads new.store ≡ g.loads old.store
 
 -- A crash at any moment of a call that adds nothing leaves the old list.
 abbrev pub LeavesOld : {S : Type 0} → store.Ghosts S → (old new : S) → Type 0
@@ -324,8 +330,8 @@ LeavesSource None [] old new = Unit {0}
 LeavesSource None (entry ∷ entries) old new = new ≡ old
 
 -- Making a key in a store is a step of the world by some chance, and its outcome is the answer. It takes no memory of
--- its own. The store has stopped if it had before, or after a 25; one that had is as it was. After a 43 of k it has
--- reported slot k as unreadable.
+-- its own. It loads record 0, once, and no other. The store has stopped if it had before, or after a 25; one that had
+-- is as it was. After a 43 of k it has reported slot k as unreadable.
 pub record MakesKey {S R : Type 0} (g : store.Ghosts S) (r : source.Ghosts R) (version : Version) (spec : Spec)
     (old new : S) (before after : R) (IsAnswer : Outcome AnyPublic → Type 0) : Type 0 where
   pub chance : Creation
@@ -343,6 +349,7 @@ pub record MakesKey {S R : Type 0} (g : store.Ghosts S) (r : source.Ghosts R) (v
   pub room : chance.has_room ≡ true
   pub refusals : Counts is_out_of_memory (g.refusals old) (g.refusals new) outcome.answer
   pub unreadable : Collects unreadable_slot (g.unreadable old) (g.unreadable new) outcome.answer
+  pub asked : AddsLoad is_stopped 0 (g.loads old) (g.loads new) outcome.answer
   pub stays : g.stopped old ≡ true → new ≡ old
 
 abbrev pub Creates : {S R : Type 0} → store.Ghosts S → source.Ghosts R → Version → Spec → (kept_in : S) → (random : R)

@@ -13,7 +13,7 @@ use Rattle.xmss.specs.Secret.{digest_at as xmss_digest_at, root_of_secret as xms
 use Rattle.xmss.specs.Writing.{signature_bytes as xmss_signature_bytes, textbook as xmss_textbook}
 use Rattle.hss.specs.Secret.{Signing}
 use Rattle.hss.specs.Writing.{signature_bytes as hss_signature_bytes, textbook as hss_textbook}
-use Rattle.state_file.specs.Laws.{IsLegal}
+use Rattle.state_file.specs.Laws.{IsCurrent, IsLegal}
 use Rattle.state_file.specs.declared.record.Bound.{Bound}
 use Rattle.state_file.specs.declared.record.Extend.{Extend}
 use Rattle.state_file.specs.declared.record.Key.{Key}
@@ -55,6 +55,14 @@ current_at level records k = unwrap_or (current level (take k records)) 0
 abbrev pub tree_chain : (level : ℕ) → List Record → (tree : ℕ) → List ℕ
 tree_chain zero records tree = tree ∷ []
 tree_chain (suc level) records tree = tree_chain level records (current_at level records tree) ++ tree ∷ []
+
+-- The chain leads from the Key's tree down to a level's tree: each of its trees is under the one before it, which was
+-- current when the tree was made.
+pub record IsTreeChain (records : List Record) (level tree : ℕ) (chain : List ℕ) : Type 0 where
+  pub count : length chain ≡ suc level
+  pub last : slice_get chain level ≡ Some tree
+  pub each : (i above below : ℕ) → slice_get chain i ≡ Some above → slice_get chain (suc i) ≡ Some below
+      → IsCurrent records below i above
 
 abbrev pub leaf_signing : LmsSecret → (leaf : ℕ) → (randomizer digest : List ℕ) → Signing
 leaf_signing secret leaf randomizer digest =

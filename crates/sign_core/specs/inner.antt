@@ -5,6 +5,7 @@ pub mod Frames
 pub mod Ledger
 pub mod Links
 pub mod OldFile
+pub mod Progress
 pub mod Request
 pub mod Serving
 pub mod Signer

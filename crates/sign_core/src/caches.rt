@@ -11,41 +11,38 @@ ghost use Rattle.sign_core.specs.Signing.{IsXmssKey};
 ghost use Rattle.sign_core.specs.Textbook.{damaged_at};
 
 use crate::fault::SignFault;
-use crate::progress::{TreeLeaves, TreeProgress};
+use crate::progress::{KeyProgress, TreeMaker, TreeProgress};
 use crate::tree_secret::TreeSecret;
 use lms::SigningTree;
-use merkle::{PathCache, Told, root_and_path};
+use merkle::PathCache;
 use std::alloc::Global;
 use std::marker::Model;
 use typecodes::{LmsSecret, XmssSecret};
 
-/// What is asked of a cache: the tree of a secret at a level, which is to sign by a leaf. `progress` is told of it, if
-/// it is made.
+/// A request for a tree: of this secret, at this level, about to sign by `leaf`. `maker` makes it, if need be.
 #[derive(Drop)]
-pub(crate) struct TreeRequest<'a, X, P> {
+pub(crate) struct TreeRequest<'a, X: TreeSecret, P> {
     level: u8,
     secret: X,
     leaf: u32,
-    progress: &'a P,
+    maker: TreeMaker<'a, P>,
+    ghost fits: { X.tree_height secret ≡ maker.height },
 }
 
 impl<'a, X: TreeSecret, P: TreeProgress> TreeRequest<'a, X, P> {
-    pub(crate) fn new(level: u8, secret: X, leaf: u32, progress: &'a P) -> Self
+    pub(crate) fn new(level: u8, secret: X, leaf: u32, progress: &KeyProgress<'a, P>) -> Self
+        requires within_limit { level < 8 }
         ensures level { result.level ≡ level }
         ensures secret { result.secret ≡ secret }
         ensures leaf { result.leaf ≡ leaf }
     {
+        let maker = progress.maker_at(level, secret.height());
         TreeRequest {
             level,
             secret,
             leaf,
-            progress,
+            maker,
         }
-    }
-
-    // Tells that the tree is begun.
-    fn begin(&self) -> TreeLeaves<'a, P> {
-        TreeLeaves::begin(self.progress, self.level, self.secret.height())
     }
 }
 
@@ -73,10 +70,9 @@ impl<X: TreeSecret> TreeCache<X> {
         ensures fault { IfErr result (λ fault. fault ≡ SignFault.OutOfMemory) }
     {
         let secret = asked.secret;
-        let height = secret.height();
         // a tree whose leaves are used up has no leaf of this number
-        let leaf = asked.leaf.min(2u32.pow(u32::from(height)) - 1);
-        let made = PathCache::for_leaf_telling(alloc, secret.tree(), height, leaf, asked.begin());
+        let leaf = asked.leaf.min(2u32.pow(u32::from(secret.height())) - 1);
+        let made = asked.maker.cache(alloc, secret, leaf);
         let cache = made.map_err(|_| SignFault::OutOfMemory)?;
         Ok(TreeCache { secret, cache })
     }
@@ -125,8 +121,7 @@ impl<X: TreeSecret, P: TreeProgress> TreeRequest<'_, X, P> {
                 return cache.cache.root();
             }
         }
-        let mut tree = Told::new(self.secret.tree(), self.begin());
-        root_and_path(&mut tree, self.secret.height(), self.leaf, into)
+        self.maker.root_and_path(self.secret, self.leaf, into)
     }
 }
 
@@ -192,6 +187,9 @@ impl Caches {
         ensures fault { IfErr result (λ fault. fault ≡ SignFault.OutOfMemory) }
         ensures stays { OnErr result (self.new ≡ self.old) }
         ensures root { IfOk result (λ root. root ≡ lms_root_of asked.entry.secret) }
+        ensures there { OnOk result (HasLevel self.new asked.entry.level asked.entry.secret) }
+        ensures others { (k : ℕ) → k ≢ asked.entry.level → cache_at self.new.levels k ≡ cache_at self.old.levels k }
+        ensures xmss { self.new.xmss ≡ self.old.xmss }
     {
         let level = usize::from(asked.level);
         let cache = TreeCache::new(self.alloc, asked)?;

@@ -12,7 +12,7 @@ ghost use Rattle.sign_core.specs.Textbook.{damaged_at, current_at};
 use crate::caches::{Caches, TreeRequest};
 use crate::fault::SignFault;
 use crate::ledger::{Ledger, Made};
-use crate::progress::TreeProgress;
+use crate::progress::{KeyProgress, TreeProgress};
 use arrayvec::ArrayVec;
 use hss::Level;
 use lmots::LmOts;
@@ -66,7 +66,7 @@ impl SecretTrees {
         ledger: &Ledger,
         caches: &mut Caches,
         level: u8,
-        progress: &P,
+        progress: &KeyProgress<'_, P>,
     ) -> Result<(), u32>
         requires trees { MakesTrees ledger.now.key.secret self.now }
         requires level { level < levels_of ledger.now.key.secret }
@@ -152,7 +152,7 @@ impl KeyTrees {
         place: u32,
         leaf: u32,
         above: &mut ArrayVec<Level, 8>,
-        progress: &P,
+        progress: &KeyProgress<'_, P>,
     ) -> Result<SigningTree, u32>
         requires legal { IsLegal ledger.now.records }
         requires keyed { the_key ledger.now.records ≡ Some ledger.now.key }
@@ -186,9 +186,40 @@ impl KeyTrees {
 }
 
 impl Caches {
-    ghost use Rattle.sign_core.specs.Caches.{LacksCache, cache_at};
-    ghost use Rattle.std.specs.Prelude.{ℕ};
-    ghost use Rattle.sign_core.specs.inner.Links.{MakesTrees};
+    ghost use Rattle.sign_core.specs.Caches.{HasCaches, LacksCache, cache_at};
+    ghost use Rattle.std.specs.Prelude.{ℕ, ◌≢◌};
+    ghost use Rattle.state_file.specs.Laws.{IsLegal};
+    ghost use Rattle.sign_core.specs.Records.{the_key};
+    ghost use Rattle.sign_core.specs.inner.Caches.{HasOwn, LacksOwn};
+    ghost use Rattle.sign_core.specs.inner.Links.{AreTreesOf, IsTreeAt, MakesTrees, chain_trees};
+
+    // Makes the cache of a level's current tree, where it is missing and the tree's record stands before a place.
+    fn keep_current<P: TreeProgress>(
+        &mut self,
+        trees: &KeyTrees,
+        ledger: &Ledger,
+        level: u8,
+        leaf: u32,
+        before: u32,
+        progress: &KeyProgress<'_, P>,
+    ) -> Result<(), SignFault>
+        requires trees { AreTreesOf trees.now ledger.now.key }
+        requires within_limit { level < 8 }
+        ensures there { OnOk result (HasOwn (chain_trees trees.now) ledger.now.records level before self.new) }
+        ensures fault { IfErr result (λ fault. fault ≡ SignFault.OutOfMemory) }
+        ensures lacking { OnErr result (LacksOwn (chain_trees trees.now) ledger.now.records level before self.old) }
+        ensures others { (k : ℕ) → k ≢ level → cache_at self.new.levels k ≡ cache_at self.old.levels k }
+        ensures xmss { self.new.xmss ≡ self.old.xmss }
+    {
+        let Some(tree) = ledger.current(level) else {
+            return Ok(());
+        };
+        if tree.place >= before {
+            return Ok(());
+        }
+        let secret = trees.secret_at(ledger, tree.place);
+        self.keep(TreeRequest::new(level, secret, leaf, progress))
+    }
 
     /// Makes the missing caches of the current trees, from the top down to a level, where their records stand before a
     /// place. The tree at `place` is to sign by this leaf. A new cache keeps the block of the leaf by which its tree is
@@ -201,10 +232,14 @@ impl Caches {
         place: u32,
         leaf: u32,
         before: u32,
-        progress: &P,
+        progress: &KeyProgress<'_, P>,
     ) -> Result<(), SignFault>
+        requires legal { IsLegal ledger.now.records }
+        requires keyed { the_key ledger.now.records ≡ Some ledger.now.key }
         requires trees { MakesTrees ledger.now.key.secret keys.now }
         requires within_limit { level < 8 }
+        requires stands { IsTreeAt ledger.now.records level place }
+        ensures kept { OnOk result (HasCaches ledger.now.key ledger.now.records (Some level) before self.new) }
         ensures fault { IfErr result (λ fault. fault ≡ SignFault.OutOfMemory) }
         ensures lacking { OnErr result
             (LacksCache ledger.now.key ledger.now.records (Some level) before self.old) }
@@ -217,17 +252,9 @@ impl Caches {
             }
         };
         if let Some(made) = ledger.made(place) {
-            if level > 0 {
-                let leaf = made.extend.parent_leaf;
-                self.keep_trees(keys, ledger, level - 1, made.parent, leaf, before, progress)?;
-            }
+            let leaf = made.extend.parent_leaf;
+            self.keep_trees(keys, ledger, level - 1, made.parent, leaf, before, progress)?;
         }
-        match ledger.current(level) {
-            Some(tree) if tree.place < before => {
-                let secret = trees.secret_at(ledger, tree.place);
-                self.keep(TreeRequest::new(level, secret, leaf, progress))
-            }
-            _ => Ok(()),
-        }
+        self.keep_current(trees, ledger, level, leaf, before, progress)
     }
 }

@@ -26,7 +26,7 @@ ghost use Rattle.sign_core.specs.Opened.{OpenedLaw};
 ghost use Rattle.sign_core.specs.RefusalOrder.{RefusalLaw};
 ghost use Rattle.sign_core.specs.SignerCalls.{SignerLaw};
 ghost use Rattle.sign_core.specs.Textbook.{AllHaveSizes, AreSound, any_public_of, current_at, damaged_at};
-ghost use Rattle.sign_core.specs.Textbook.{textbook_signature};
+ghost use Rattle.sign_core.specs.Textbook.{IsTreeChain, textbook_signature, tree_chain};
 
 use crate::source::Source;
 use state_file::{Disk, FileStore, Store};
@@ -34,8 +34,8 @@ use typecodes::Message;
 
 /// What lookups find in a key's records.
 ///
-/// - `current`: the current tree of a level. `next`: the least number above all leaves that records name or retire in a
-///   tree.
+/// - `current`: the current tree of a level. `chain`: the trees from the Key's down to one that was current. `next`:
+///   the least number above all leaves that records name or retire in a tree.
 /// - `legal`: a list of one record or more is legal exactly if none of its records is illegal. `first`: the first
 ///   illegal record is the first at which the list stops being legal.
 /// - `deepest`: the deepest level with a free leaf. `exhausted`: where there is none, no leaf is free.
@@ -44,6 +44,8 @@ use typecodes::Message;
 pub fn ledger_laws()
     ensures current { (records : List Record) (level tree : ℕ) →
         (current level records ≡ Some tree) ↔ IsCurrent records (length records) level tree }
+    ensures chain { (records : List Record) (k level tree : ℕ) → IsCurrent records k level tree →
+        IsTreeChain records level tree (tree_chain level records tree) }
     ensures next { (secret : Secret) (records : List Record) (tree : ℕ) →
         IsNext secret records tree (next_leaf secret records tree) }
     ensures legal { (records : List Record) → 0 < length records →

@@ -29,11 +29,12 @@
 //! signature handed out is valid (`once_law`, `specs/Headline.antt`).
 //!
 //! `migrate_key` moves a key to one new state file, and no crash leaves two files that can sign
-//! (`specs/Migration.antt`). The old file's runs go on across it (`moves_law`). `create_telling`, `sign_telling` and
-//! `serve_telling` also tell a `TreeProgress` of the trees that they make. `AnyPublic` and `verify_any` are for keys of
-//! the three schemes, by their lengths (`specs/Key.antt`).
+//! (`specs/Migration.antt`). The old file's runs go on across it (`moves_law`). By a `KeyProgress`,
+//! `create_telling`, `sign_telling` and `serve_telling` tell a `TreeProgress` of the trees that they make. `AnyPublic`
+//! and `verify_any` are for keys of the three schemes, by their lengths (`specs/Key.antt`).
 #![tactic(auto)]
 
+mod alarm;
 mod caches;
 mod fault;
 mod frames;
@@ -50,6 +51,7 @@ mod tree_secret;
 mod trees;
 mod writing;
 
+pub use crate::alarm::{Alarm, slot_behind, tell_behind};
 pub use crate::fault::{ServeFault, SignFault};
 pub use crate::key::{AnyPublic, KeyFault, verify_any};
 pub use crate::laws::{
@@ -57,9 +59,9 @@ pub use crate::laws::{
     once_law, opened_law, refusal_law, signer_law, sound_law, stop_law, stopped_law, textbook_laws,
 };
 pub use crate::ledger::{Ledger, LedgerFault};
-pub use crate::migration::migrate_key;
-pub use crate::progress::TreeProgress;
+pub use crate::migration::{migrate_key, migrate_key_telling};
+pub use crate::progress::{KeyProgress, TreeProgress};
 pub use crate::serving::{serve, serve_telling};
-pub use crate::signer::Signer;
+pub use crate::signer::{Signer, types_of};
 pub use crate::source::{RngSource, Source, SourceFault, TapeSource};
 pub use merkle::Silent;

@@ -1,11 +1,14 @@
 //! The migration of a key from a file of version 1 to one of version 2.
 
+ghost use Rattle.sign_core.specs.Alarm.{TellsBehind};
 ghost use Rattle.sign_core.specs.Migration.{Migrates};
+ghost use Rattle.sign_core.specs.OldFile.{opening_fault};
 
 mod old_file;
 
+use crate::alarm::Alarm;
 use crate::migration::old_file::open_old;
-use state_file::{Disk, MigrateFault, Place, Refused, fill, seal};
+use state_file::{Disk, MigrateFault, Place, Refused, SlotList, fill, seal};
 use std::alloc::Global;
 
 /// Moves the records of a key from a file of version 1 to a new one of version 2, where they go on. The old file gets a
@@ -38,7 +41,20 @@ pub fn migrate_key<D: Disk + Drop, E: Disk + Drop>(
 ) -> (D, E, Result<u32, MigrateFault>)
     ensures { Migrates D.Disk E.Disk old new result.0 result.1 result.2 }
 {
-    let store = match open_old(alloc, old) {
+    migrate_key_telling(alloc, old, new, &mut SlotList::new())
+}
+
+/// As `migrate_key`. If the old file has bytes behind its last record, `alarm` is told so before anything is written.
+pub fn migrate_key_telling<D: Disk + Drop, E: Disk + Drop, A: Alarm>(
+    alloc: Global,
+    old: D,
+    new: E,
+    alarm: &mut A,
+) -> (D, E, Result<u32, MigrateFault>)
+    ensures migrates { Migrates D.Disk E.Disk old new result.0 result.1 result.2 }
+    ensures tells { TellsBehind D.Disk old opening_fault result.2 (A.slots alarm.old) (A.slots alarm.new) }
+{
+    let store = match open_old(alloc, old, alarm) {
         Ok(store) => store,
         Err(Refused { fault, given }) => return (given, new, Err(fault)),
     };

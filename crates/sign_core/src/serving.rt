@@ -9,7 +9,7 @@ ghost use Rattle.sign_core.specs.Signing.{KeepsCapacity};
 
 use crate::fault::{ServeFault, SignFault};
 use crate::frames::read_head;
-use crate::progress::TreeProgress;
+use crate::progress::{KeyProgress, TreeProgress};
 use crate::signer::Signer;
 use crate::source::Source;
 use merkle::Silent;
@@ -62,7 +62,9 @@ pub fn serve<S: Store, R: Source, I: Message, W: Write>(
     ensures { Serves S.Store R.Source I.Message signer.old signer.new reader.old reader.new
         (W.contents writer.old) (W.contents writer.new) result }
 {
-    serve_telling(alloc, signer, reader, writer, &Silent::new())
+    let silent = Silent::new();
+    let progress = KeyProgress::of(&signer.spec(), &silent);
+    serve_telling(alloc, signer, reader, writer, &progress)
 }
 
 /// As `serve`, telling the progress of the trees that each request makes, as `sign_telling`.
@@ -71,7 +73,7 @@ pub fn serve_telling<S: Store, R: Source, I: Message, W: Write, P: TreeProgress>
     signer: &mut Signer<S, R>,
     reader: &mut I,
     writer: &mut W,
-    progress: &P,
+    progress: &KeyProgress<'_, P>,
 ) -> Result<u64, ServeFault>
     ensures { Serves S.Store R.Source I.Message signer.old signer.new reader.old reader.new
         (W.contents writer.old) (W.contents writer.new) result }
@@ -92,7 +94,7 @@ fn take_turn<S: Store, R: Source, I: Message, W: Write, P: TreeProgress>(
     reader: &mut I,
     writer: &mut W,
     signature: &mut Vec<u8>,
-    progress: &P,
+    progress: &KeyProgress<'_, P>,
 ) -> Result<bool, ServeFault>
     ensures { Turns S.Store R.Source I.Message signer.old signer.new reader.old reader.new
         (W.contents writer.old) (W.contents writer.new) (vec_capacity signature.old) (vec_capacity signature.new)
@@ -137,7 +139,7 @@ fn ask<S: Store, R: Source, M: Message, P: TreeProgress>(
     name: &[u8],
     message: &mut M,
     signature: &mut Vec<u8>,
-    progress: &P,
+    progress: &KeyProgress<'_, P>,
 ) -> Reply
     ensures asks { Asks S.Store R.Source M.Message name.now signer.old signer.new message.old message.new
         (vec_capacity signature.old) signature.new.items result }

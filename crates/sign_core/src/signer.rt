@@ -2,7 +2,8 @@
 
 ghost use Rattle.std.specs.Prelude.{◌≡◌, ◌<◌, ◌≤◌, ◌-◌, ◌^◌, true, false, Some, Ok, Err, length, IfErr, IfOk};
 ghost use Rattle.std.specs.Prelude.{None, OnOk};
-ghost use Rattle.merkle.specs.Tree.{root_of as tree_root};
+ghost use Rattle.sign_core.specs.Records.{types_of};
+ghost use Rattle.sign_core.specs.inner.Progress.{height_at};
 ghost use Rattle.sign_core.specs.inner.Signer.{DrawsSecret, Hinders, IsTakenUp};
 ghost use Rattle.sign_core.specs.Signer.{IsTied, LoadsAll, MakesKey};
 ghost use Rattle.sign_core.specs.inner.Signer.{LoadsRecord, LooksForKey, TakesUpLoaded};
@@ -16,13 +17,11 @@ mod sign;
 use crate::caches::Caches;
 use crate::fault::SignFault;
 use crate::key::AnyPublic;
-use crate::key_trees::{KeyTrees, SecretTrees};
 use crate::ledger::{Ledger, LedgerFault};
-use crate::progress::{TreeLeaves, TreeProgress};
+use crate::progress::{KeyProgress, TreeMaker, TreeProgress};
 use crate::source::{Source, draw};
-use crate::tree_secret::TreeSecret;
 use arrayvec::ArrayVec;
-use merkle::{Silent, Told, root};
+use merkle::Silent;
 use state_file::{Key, Record, Refused, Secret, Store, StoreFault, Version};
 use std::alloc::Global;
 use std::marker::Model;
@@ -68,6 +67,7 @@ fn load_first<S: Store>(store: &mut S) -> Result<(), SignFault>
 fn draw_secret<R: Source>(spec: &Spec, random: &mut R) -> Result<Secret, SignFault>
     ensures draws { DrawsSecret R.Source spec.now random.old random.new result }
     ensures spec { OnOk result (IsSpec spec.now) }
+    ensures types { IfOk result (λ secret. types_of secret ≡ spec.now) }
 {
     match spec {
         Spec::Lms(pair) => Ok(Secret::Lms(LmsSecret::new(*pair, draw(random)?, draw(random)?))),
@@ -85,23 +85,31 @@ fn draw_secret<R: Source>(spec: &Spec, random: &mut R) -> Result<Secret, SignFau
     }
 }
 
-// The root of a key's top tree.
-fn root_of<P: TreeProgress>(secret: &Secret, progress: &P) -> [u8; 32]
-    ensures { result ≡ key_root secret.now }
+// The types of a secret's trees.
+pub fn types_of(secret: &Secret) -> Spec
+    ensures { result ≡ types_of secret.now }
 {
-    match SecretTrees::of(secret) {
-        SecretTrees::Chain(KeyTrees { top, .. }) => top_root(top, progress),
-        SecretTrees::Xmss(secret) => top_root(secret, progress),
+    match secret {
+        Secret::Lms(secret) => Spec::Lms(secret.pair),
+        Secret::Hss { levels, .. } => Spec::Hss(levels.copied()),
+        Secret::Xmss(secret) => Spec::Xmss(secret.tree),
     }
 }
 
-// The root of a secret's tree, of which `progress` is told as a top tree.
-fn top_root<X: TreeSecret, P: TreeProgress>(secret: X, progress: &P) -> [u8; 32]
-    ensures { result ≡ tree_root (X.tree_leaves secret) (X.tree_joins secret) (X.tree_height secret) }
+// The root of a key's top tree.
+fn root_of<P: TreeProgress>(secret: &Secret, maker: TreeMaker<'_, P>) -> [u8; 32]
+    requires { maker.height ≡ height_at (types_of secret.now) 0 }
+    ensures { result ≡ key_root secret.now }
 {
-    let height = secret.height();
-    let leaves = TreeLeaves::begin(progress, 0, height);
-    root(&mut Told::new(secret.tree(), leaves), height)
+    match secret {
+        Secret::Lms(secret) => maker.root(*secret),
+        Secret::Hss {
+            levels,
+            identifier,
+            seed,
+        } => maker.root(LmsSecret::new(levels.as_slice()[0], *identifier, *seed)),
+        Secret::Xmss(secret) => maker.root(*secret),
+    }
 }
 
 // Makes a key in a store without records, and appends its record.
@@ -111,19 +119,21 @@ fn create_key<S: Store, R: Source, P: TreeProgress>(
     spec: &Spec,
     store: &mut S,
     random: &mut R,
-    progress: &P,
+    maker: TreeMaker<'_, P>,
 ) -> Result<Ledger, SignFault>
     requires room { 1 ≤ S.most store.old }
+    requires top { maker.height ≡ height_at spec.now 0 }
     ensures makes { MakesKey S.Store R.Source version spec.now store.old store.new random.old random.new
         (IsTakenUp result) }
     ensures tied { IfOk result (λ table. IsTied S.Store store.new table.records) }
 {
     load_first(store)?;
     let secret = draw_secret(spec, random)?;
+    let root = root_of(&secret, maker);
     let key = Key {
         version,
-        root: root_of(&secret, progress),
         secret,
+        root,
     };
     store
         .append(&Record::Key(key.copied()))
@@ -183,13 +193,13 @@ impl<S: Store, R: Source> Signer<S, R> {
     ghost use Rattle.state_file.specs.declared.record.Key.{Key as K};
     ghost use Rattle.sign_core.specs.Textbook.{public_of_key};
     ghost use Rattle.sign_core.specs.inner.Signer.{Adds, HoldsParts, AreBottomLeaves};
-    ghost use Rattle.sign_core.specs.Signer.{Creates, Opens, Retires};
+    ghost use Rattle.sign_core.specs.Signer.{Creates, Opens, Retires, is_before_caches, is_before_repeat};
+    ghost use Rattle.sign_core.specs.Signing.{is_unprepared};
     ghost use Rattle.sign_core.specs.Ledger.{TakesMemory};
     ghost use Rattle.state_file.specs.Slot.{FitsVersion, file_version};
     ghost use Rattle.state_file.specs.declared.record.Version.TheVariants.{One};
 
-    /// Makes a key of version 1 in a store that has none, and its signer, as `create_telling`. The store must take at
-    /// least one record.
+    /// Makes a key of version 1 in a store that has none, and its signer, as `create_in`.
     pub fn create(
         alloc: Global,
         spec: Spec,
@@ -199,28 +209,46 @@ impl<S: Store, R: Source> Signer<S, R> {
         requires room { 1 ≤ S.most store }
         ensures { Creates S.Store R.Source One spec store random result }
     {
-        Signer::create_telling(alloc, Version::One, spec, store, random, &Silent::new())
+        Signer::create_in(alloc, Version::One, spec, store, random)
+    }
+
+    /// Makes a key of this version in a store that has none, and its signer, as `create_telling`. The store must take
+    /// at least one record.
+    pub fn create_in(
+        alloc: Global,
+        version: Version,
+        spec: Spec,
+        store: S,
+        random: R,
+    ) -> Result<Self, Refused<(S, R), SignFault>>
+        requires room { 1 ≤ S.most store }
+        ensures { Creates S.Store R.Source version spec store random result }
+    {
+        let silent = Silent::new();
+        let progress = KeyProgress::of(&spec, &silent);
+        Signer::create_telling(alloc, version, spec, store, random, progress)
     }
 
     /// Makes a key in a store that has none, and its signer: draws the key's secret, makes the top tree's root, and
-    /// appends the key's record. `progress` is told of the top tree while its root is made. It takes no memory of its
+    /// appends the key's record. `progress` tells of the top tree while its root is made. It takes no memory of its
     /// own. A refusal gives back the store and the source.
     ///
     /// The store must take at least one record. Where record 0 is there or can't be loaded, the source is as it was.
-    /// The contract lets a create look for a key more than once, where the last look decides. It lets an append load
-    /// slots past the end of the list. Records and law are the same then.
+    /// Record 0 is loaded once, and no other.
     pub fn create_telling<P: TreeProgress>(
         alloc: Global,
         version: Version,
         spec: Spec,
         mut store: S,
         mut random: R,
-        progress: &P,
+        progress: KeyProgress<'_, P>,
     ) -> Result<Self, Refused<(S, R), SignFault>>
         requires room { 1 ≤ S.most store }
+        requires progress { progress.spec ≡ spec }
         ensures { Creates S.Store R.Source version spec store random result }
     {
-        let made = create_key(alloc, version, &spec, &mut store, &mut random, progress);
+        let top = progress.top_maker();
+        let made = create_key(alloc, version, &spec, &mut store, &mut random, top);
         Signer::holding(alloc, store, random, made)
     }
 
@@ -262,6 +290,13 @@ impl<S: Store, R: Source> Signer<S, R> {
         }
     }
 
+    /// The types of the key's trees.
+    pub fn spec(&self) -> Spec
+        ensures { (key : K) → the_key self.now.records ≡ Some key → result ≡ types_of key.secret }
+    {
+        types_of(&self.ledger.key().secret)
+    }
+
     /// The public key of record 0. It takes no memory.
     pub fn public_key(&self) -> AnyPublic
         ensures { public_of_key (the_key self.now.records) ≡ Some result }
@@ -283,6 +318,8 @@ impl<S: Store, R: Source> Signer<S, R> {
         ensures open { OnOk result (self.now.is_open ≡ true) }
         ensures stays { OnOk result (has_moved self.now.records ≡ false) }
         ensures refused { IfErr result (λ fault. Hinders self.now.is_open (has_moved self.now.records) fault) }
+        ensures early { IfErr result (λ fault. is_unprepared is_before_caches fault ≡ true) }
+        ensures early_repeat { IfErr result (λ fault. is_unprepared is_before_repeat fault ≡ true) }
     {
         if !self.is_open {
             return Err(SignFault::Stopped);

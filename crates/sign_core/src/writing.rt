@@ -13,6 +13,7 @@ use state_file::Secret;
 // Gives `out` the length of a signature of the key.
 pub(crate) fn make_room(secret: &Secret, out: &mut Vec<u8>) -> Result<(), SignFault>
     ensures room { OnOk result (length out.new.items ≡ signature_size secret.now) }
+    ensures reserved { OnOk result (signature_size secret.now ≤ vec_capacity out.new) }
     ensures refused { IfErr result (λ fault. fault ≡ SignFault.OutOfMemory) }
     // Memory is requested only where there is no room for it yet.
     ensures full { OnErr result (vec_capacity out.old < signature_size secret.now) }

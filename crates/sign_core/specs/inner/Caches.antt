@@ -1,6 +1,10 @@
--- What a cache keeps of a secret's tree.
-use Rattle.std.specs.Prelude.{◌≡◌, ℕ}
+-- What a cache keeps of a secret's tree, and which caches a step makes or leaves.
+use Rattle.std.specs.Prelude.{◌≡◌, ℕ, ◌<◌, ◌≤◌, List, Some}
 use Rattle.merkle.specs.Tree.{Joins, Leaves}
+use Rattle.state_file.specs.declared.record.Record.{Record}
+use Rattle.sign_core.specs.Caches.{Cached, HasLevel, cache_at}
+use Rattle.sign_core.specs.Records.{current}
+use Rattle.sign_core.specs.Textbook.{Trees, secret_at}
 
 -- A cache of a secret's tree has the tree's height, leaves and joins.
 pub record IsTreeCache (height : ℕ) (leaves : Leaves) (joins : Joins) (kept_height : ℕ) (kept_leaves : Leaves)
@@ -8,3 +12,20 @@ pub record IsTreeCache (height : ℕ) (leaves : Leaves) (joins : Joins) (kept_he
   pub same_height : kept_height ≡ height
   pub same_leaves : kept_leaves ≡ leaves
   pub same_joins : kept_joins ≡ joins
+
+-- The cache of a level's current tree is there, if the tree's record stands before this place.
+abbrev pub HasOwn : Trees → List Record → (level before : ℕ) → Cached → Type 0
+HasOwn trees records level before cached = (tree : ℕ) → current level records ≡ Some tree → tree < before
+    → HasLevel cached level (secret_at trees records tree)
+
+-- It is missing.
+pub record LacksOwn (trees : Trees) (records : List Record) (level before : ℕ) (cached : Cached) : Type 0 where
+  pub tree : ℕ
+  pub is_current : current level records ≡ Some tree
+  pub earlier : tree < before
+  pub lacks : HasLevel cached level (secret_at trees records tree) → ⊥
+
+-- The caches of the levels down to this one stay, and an XMSS tree's.
+pub record KeepsDownTo (level : ℕ) (old new : Cached) : Type 0 where
+  pub levels : (k : ℕ) → k ≤ level → cache_at new.levels k ≡ cache_at old.levels k
+  pub xmss : new.xmss ≡ old.xmss

@@ -9,11 +9,6 @@ use Rattle.state_file.specs.MigrateFault.{is_failed_migration}
 use Rattle.state_file.specs.Slot.{file_version}
 use Rattle.state_file.specs.Store.{IsRecordAt}
 use Rattle.state_file.specs.declared.disk.Disk as disk
-use Rattle.state_file.specs.declared.file.opening.OpenFault.{OpenFault}
-use Rattle.state_file.specs.declared.file.opening.OpenFault.TheVariants.{NoKey as OpenNoKey}
-use Rattle.state_file.specs.declared.file.opening.OpenFault.TheVariants.{NotKeyFile as OpenNotKeyFile}
-use Rattle.state_file.specs.declared.file.opening.OpenFault.TheVariants.{Version as OpenVersion, Damaged as OpenDamaged}
-use Rattle.state_file.specs.declared.file.opening.OpenFault.TheVariants.{DeviceFailed as OpenFailed}
 use Rattle.state_file.specs.declared.migration.MigrateFault.{MigrateFault}
 use Rattle.state_file.specs.declared.migration.MigrateFault.TheVariants.{NoKey, NotKeyFile, Version as VersionFault}
 use Rattle.state_file.specs.declared.migration.MigrateFault.TheVariants.{Damaged, Illegal, DeviceFailed, OutOfMemory}
@@ -77,14 +72,6 @@ RefusesOld (Illegal k) = Unit {0}
 RefusesOld DeviceFailed = Unit {0}
 RefusesOld OutOfMemory = Unit {0}
 RefusesOld _ = ⊥
-
--- what is answered where the old place isn't opened
-abbrev pub opening_fault : OpenFault → MigrateFault
-opening_fault OpenNoKey = NoKey
-opening_fault OpenNotKeyFile = NotKeyFile
-opening_fault OpenVersion = VersionFault
-opening_fault (OpenDamaged k) = Damaged k
-opening_fault OpenFailed = DeviceFailed
 
 -- Unless the device failed, a disk's content is what it was, all of it synced.
 abbrev pub Keeps : {A : Type 0} → (content : List ℕ) → (after : DiskState) → Result A MigrateFault → Type 0

@@ -26,11 +26,7 @@ use Rattle.sign_core.specs.inner.Ledger.{LacksRoom}
 use Rattle.sign_core.specs.Ledger.{Table, TakesMemory}
 use Rattle.sign_core.specs.Signer.{View, is_random_failed, UsesMemory, unreadable_slot, state_of, is_store_failed}
 use Rattle.sign_core.specs.Signer.{is_out_of_memory, is_device_failed, LeavesOld, Ends, IsAnswered, random_of_result}
-use Rattle.sign_core.specs.Signer.{store_of_result}
-
-abbrev pub is_stopped : SignFault → Bool
-is_stopped Stopped = true
-is_stopped _ = false
+use Rattle.sign_core.specs.Signer.{is_stopped, store_of_result}
 
 abbrev pub is_no_memory : SignFault → Bool
 is_no_memory NoMemoryToOpen = true
@@ -85,6 +81,7 @@ pub record LooksForKey {S A : Type 0} (g : store.Ghosts S) (old new : S) (answer
   pub moments : LeavesOld g old new
   pub refusals : Counts is_out_of_memory (g.refusals old) (g.refusals new) answer
   pub unreadable : Collects unreadable_slot (g.unreadable old) (g.unreadable new) answer
+  pub asked : AddsLoad is_stopped 0 (g.loads old) (g.loads new) answer
   pub honest : g.honest new ≡ g.honest old
   pub most : g.most new ≡ g.most old
   pub stays : g.stopped old ≡ true → new ≡ old

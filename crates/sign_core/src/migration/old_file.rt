@@ -1,11 +1,14 @@
 //! The file that a migration finds at the old place.
 
 ghost use Rattle.std.specs.Prelude.{◌≡◌, ◌∷◌, [], false, slice_get, IsTrue, IfErr, IfOk, Some};
-ghost use Rattle.state_file.specs.FileStore.{disk_of, has_stopped, records_of};
+ghost use Rattle.state_file.specs.FileStore.{disk_of, has_stopped, outcome_of, records_of};
 ghost use Rattle.state_file.specs.declared.record.Record.TheVariants.{Key as KeyRecord};
 ghost use Rattle.sign_core.specs.inner.OldFile.{FindsRecord, JudgesRecords, OpensOld, ReadsRecords};
-ghost use Rattle.sign_core.specs.inner.OldFile.{RefusesOld, RefusesRecords, TakesUpNext, opening_fault};
+ghost use Rattle.sign_core.specs.inner.OldFile.{RefusesOld, RefusesRecords, TakesUpNext};
+ghost use Rattle.sign_core.specs.Alarm.{TellsBehind};
+ghost use Rattle.sign_core.specs.OldFile.{opening_fault};
 
+use crate::alarm::{Alarm, tell_behind};
 use crate::ledger::{Ledger, LedgerFault};
 use state_file::{
     Disk, FileStore, MigrateFault, OpenFault, Record, Refused, Store, StoreFault, Version,
@@ -117,12 +120,14 @@ fn fault_of(fault: OpenFault) -> MigrateFault
 }
 
 /// Opens the old place, if it has legal records of version 1. Whether they are legal (44) and memory (46) come before
-/// their version (42).
-pub(crate) fn open_old<D: Disk + Drop>(
+/// their version (42). `alarm` is told if it has bytes behind its last record.
+pub(crate) fn open_old<D: Disk + Drop, A: Alarm>(
     alloc: Global,
     old: D,
+    alarm: &mut A,
 ) -> Result<FileStore<D>, Refused<D, MigrateFault>>
-    ensures { OpensOld D.Disk old result }
+    ensures opens { OpensOld D.Disk old result }
+    ensures tells { TellsBehind D.Disk old opening_fault (outcome_of result) (A.slots alarm.old) (A.slots alarm.new) }
 {
     let mut store = match FileStore::open(old) {
         Ok(store) => store,
@@ -133,6 +138,7 @@ pub(crate) fn open_old<D: Disk + Drop>(
             });
         }
     };
+    tell_behind(&store, alarm);
     match judge(alloc, &mut store) {
         Ok(()) => Ok(store),
         Err(fault) => Err(Refused {

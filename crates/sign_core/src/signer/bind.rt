@@ -1,21 +1,25 @@
 //! A new name: room for its records and signature, its new trees, its binding, and its signature.
 
 ghost use Rattle.std.specs.Prelude.{◌≡◌, ◌<◌, ◌-◌, [], None, Some, true, false, length, vec_capacity};
-ghost use Rattle.std.specs.Prelude.{◌+◌, OnOk};
+ghost use Rattle.std.specs.Prelude.{◌+◌, IfErr, OnOk};
 ghost use Rattle.state_file.specs.Laws.{levels_of, bottom_of};
 ghost use Rattle.sign_core.specs.Records.{binding_at, free_at, has_moved, is_long};
 ghost use Rattle.sign_core.specs.inner.Request.{Prepares};
 ghost use Rattle.sign_core.specs.inner.Signing.{BindsBelow, BindsNext, CanBind, DrawsTree, Extends};
 ghost use Rattle.sign_core.specs.inner.Signing.{IsReady, Stands};
-ghost use Rattle.sign_core.specs.Signing.{KeepsCapacity, UnderKey, answered_value};
+ghost use Rattle.sign_core.specs.Caches.{HasAll};
+ghost use Rattle.sign_core.specs.inner.Caches.{KeepsDownTo};
+ghost use Rattle.sign_core.specs.Signer.{is_before_caches};
+ghost use Rattle.sign_core.specs.Signing.{IsPrepared, KeepsCapacity, UnderKey, answered_value, is_unprepared};
 
 use super::Signer;
 use crate::caches::TreeRequest;
 use crate::fault::SignFault;
 use crate::key_trees::SecretTrees;
 use crate::ledger::{Binding, Ledger};
-use crate::progress::TreeProgress;
+use crate::progress::{KeyProgress, TreeProgress};
 use crate::source::{Source, draw};
+use crate::trees::Tree;
 use crate::writing::make_room;
 use lmots::LmOts;
 use lms::LmsPublic;
@@ -49,14 +53,18 @@ impl<S: Store, R: Source> Signer<S, R> {
         &mut self,
         level: u8,
         out: &mut Vec<u8>,
-        progress: &P,
+        progress: &KeyProgress<'_, P>,
     ) -> Result<(), SignFault>
         requires open { self.old.is_open ≡ true }
         requires goes_on { has_moved self.old.records ≡ false }
         requires level { UnderKey self.old.records (λ key. level < levels_of key.secret) }
+        requires free { UnderKey self.old.records (λ key. 0 < free_at key.secret self.old.records level) }
         ensures room { UnderKey self.old.records (Prepares (S.most self.old.store) level self.old self.new
             (vec_capacity out.old) (length out.new.items) result) }
         ensures capacity { KeepsCapacity self.old.records (vec_capacity out.old) (vec_capacity out.new) }
+        ensures refused { IfErr result (λ fault. is_unprepared is_before_caches fault ≡ true) }
+        ensures prepared { OnOk result (UnderKey self.old.records (λ key. IsPrepared key self.old.records (Some level)
+            (length self.old.records) self.new.cached (vec_capacity out.new))) }
     {
         let wanted = self.ledger.key().secret.levels() - level;
         if u64::from(self.ledger.len()) + u64::from(wanted) > u64::from(self.store.limit()) {
@@ -68,21 +76,30 @@ impl<S: Store, R: Source> Signer<S, R> {
             .map_err(|_| SignFault::OutOfMemory)?;
         let count = self.ledger.len();
         let trees = SecretTrees::of(&self.ledger.key().secret);
-        let tree = self.ledger.current(level);
-        let (place, leaf) = tree.map_or((0, 0), |tree| (tree.place, tree.next));
+        let Some(Tree { place, next: leaf }) = self.ledger.current(level) else {
+            unreachable!()
+        };
         self.caches
             .keep_trees(&trees, &self.ledger, level, place, leaf, count, progress)
     }
 
     // Begins and records a tree below the current tree of a level, whose next leaf signs it.
     #[inline(never)]
-    fn extend<P: TreeProgress>(&mut self, level: u8, progress: &P) -> Result<(), SignFault>
+    fn extend<P: TreeProgress>(
+        &mut self,
+        level: u8,
+        progress: &KeyProgress<'_, P>,
+    ) -> Result<(), SignFault>
         requires ready { IsReady (S.most self.old.store) 1 self.old }
         requires below { UnderKey self.old.records (λ key. level + 1 < levels_of key.secret) }
         requires stands { UnderKey self.old.records (Stands self.old.records level) }
         ensures step { UnderKey self.old.records
             (Extends S.Store R.Source (level + 1) self.old self.new (answered_value result [])) }
         ensures stands { OnOk result (UnderKey self.new.records (Stands self.new.records (level + 1))) }
+        ensures keeps { KeepsDownTo level self.old.cached self.new.cached }
+        ensures caches { OnOk result (UnderKey self.old.records (λ key.
+            HasAll key self.old.records level self.old.cached
+            → HasAll key self.new.records (level + 1) self.new.cached)) }
     {
         let Some(parent) = self.ledger.current(level) else {
             unreachable!()
@@ -118,8 +135,9 @@ impl<S: Store, R: Source> Signer<S, R> {
         requires fits { UnderKey self.old.records (λ key. is_long key name.now ≡ false) }
         requires free { UnderKey self.old.records (λ key.
             0 < free_at key.secret self.old.records (bottom_of key.secret)) }
-        ensures { UnderKey self.old.records (BindsNext S.Store R.Source M.Message name.now self.old self.new
+        ensures step { UnderKey self.old.records (BindsNext S.Store R.Source M.Message name.now self.old self.new
             message.old message.new result) }
+        ensures cached { self.new.cached ≡ self.old.cached }
     {
         let secret = &self.ledger.key().secret;
         let trees = SecretTrees::of(secret);
@@ -151,14 +169,18 @@ impl<S: Store, R: Source> Signer<S, R> {
         name: &Name,
         message: &mut M,
         out: &mut [u8],
-        progress: &P,
+        progress: &KeyProgress<'_, P>,
     ) -> Result<(), SignFault>
         requires can { UnderKey self.old.records (λ key. CanBind (S.most self.old.store) (levels_of key.secret - level)
             name.now (length out.old) self.old) }
         requires stands { UnderKey self.old.records (Stands self.old.records level) }
-        ensures { UnderKey self.old.records (λ key. BindsBelow S.Store R.Source M.Message name.now
+        ensures step { UnderKey self.old.records (λ key. BindsBelow S.Store R.Source M.Message name.now
             (bottom_of key.secret - level) self.old self.new message.old message.new
             (answered_value result out.new) key) }
+        ensures keeps { KeepsDownTo level self.old.cached self.new.cached }
+        ensures caches { OnOk result (UnderKey self.old.records (λ key.
+            HasAll key self.old.records level self.old.cached
+            → HasAll key self.new.records (bottom_of key.secret) self.new.cached)) }
     {
         let levels = self.ledger.key().secret.levels();
         if level + 1 < levels {

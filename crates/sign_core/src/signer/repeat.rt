@@ -1,16 +1,17 @@
 //! The signature of a bound name, again.
 
-ghost use Rattle.std.specs.Prelude.{◌≡◌, None, Some, length, vec_capacity, IfErr, OnOk};
+ghost use Rattle.std.specs.Prelude.{◌≡◌, List, ℕ, None, Some, length, vec_capacity, IfErr, OnOk};
 ghost use Rattle.sign_core.specs.Signer.{KeepsForRepeat, is_before_repeat, is_fault, signature_size, state_of};
-ghost use Rattle.sign_core.specs.inner.Signing.{IsSomeBinding, RepeatsBinding};
-ghost use Rattle.sign_core.specs.Signing.{KeepsCapacity, answered_value};
+ghost use Rattle.sign_core.specs.inner.Signing.{IsBindingOf, IsSomeBinding, RepeatsBinding};
+ghost use Rattle.sign_core.specs.Records.{binding_at};
+ghost use Rattle.sign_core.specs.Signing.{KeepsCapacity, MakesCaches, UnderKey, answered_value};
 
 use super::Signer;
 use crate::caches::{Caches, TreeRequest};
 use crate::fault::SignFault;
 use crate::key_trees::SecretTrees;
 use crate::ledger::{Binding, Ledger};
-use crate::progress::TreeProgress;
+use crate::progress::{KeyProgress, TreeProgress};
 use crate::source::Source;
 use crate::writing::{make_room, write_chain};
 use arrayvec::ArrayVec;
@@ -35,7 +36,7 @@ impl SecretTrees {
         caches: &mut Caches,
         binding: &Binding,
         out: &mut [u8],
-        progress: &P,
+        progress: &KeyProgress<'_, P>,
     ) -> Result<(), u32>
         requires trees { MakesTrees ledger.now.key.secret self.now }
         requires kept { IsSomeBinding ledger.now.records binding.now }
@@ -81,13 +82,16 @@ impl<S: Store, R: Source> Signer<S, R> {
         binding: &Binding,
         message: &mut M,
         out: &mut Vec<u8>,
-        progress: &P,
+        progress: &KeyProgress<'_, P>,
     ) -> Result<(), SignFault>
         requires kept { IsSomeBinding self.old.records binding.now }
         ensures step { RepeatsBinding M.Message (state_of self.old) self.old.cached binding.now message.old message.new
             (vec_capacity out.old) (answered_value result out.new.items) }
         ensures capacity { KeepsCapacity self.old.records (vec_capacity out.old) (vec_capacity out.new) }
         ensures keeps { KeepsForRepeat self.old self.new (is_fault is_before_repeat result) }
+        ensures caches { UnderKey self.old.records (λ key. (name : List ℕ)
+            → IsBindingOf self.old.records binding.now key name → MakesCaches key self.old.records
+            (binding_at self.old.records name) self.new.cached (vec_capacity out.new) result) }
     {
         let secret = &self.ledger.key().secret;
         let trees = SecretTrees::of(secret);

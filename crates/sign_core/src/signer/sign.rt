@@ -2,12 +2,12 @@
 
 ghost use Rattle.std.specs.Prelude.{◌≡◌, ◌<◌, [], None, Some, vec_capacity, IfErr, IsSome, OnErr, OnOk, ◌≤◌, ◌↔◌};
 ghost use Rattle.typecodes.specs.declared.secret.XmssSecret.{XmssSecret as X};
-ghost use Rattle.sign_core.specs.Caches.{HasCurrent};
+ghost use Rattle.sign_core.specs.Caches.{HasAll, HasCurrent};
 ghost use Rattle.sign_core.specs.Textbook.{Trees, trees_of};
-ghost use Rattle.state_file.specs.Laws.{levels_of};
+ghost use Rattle.state_file.specs.Laws.{bottom_of, levels_of};
 ghost use Rattle.sign_core.specs.Records.{binding_at};
 ghost use Rattle.sign_core.specs.Signer.{KeepsForRepeat, Signs, is_before_repeat, is_fault};
-ghost use Rattle.sign_core.specs.Signing.{IsXmssKey, KeepsCapacity, UnderKey, answered_value};
+ghost use Rattle.sign_core.specs.Signing.{IsXmssKey, KeepsCapacity, MakesCaches, UnderKey, answered_value};
 ghost use Rattle.typecodes.specs.Message.{Digests};
 ghost use Rattle.sign_core.specs.inner.Signing.{DrawsRandomizer};
 
@@ -15,7 +15,7 @@ use super::Signer;
 use crate::fault::SignFault;
 use crate::key_trees::SecretTrees;
 use crate::ledger::Ledger;
-use crate::progress::TreeProgress;
+use crate::progress::{KeyProgress, TreeProgress};
 use crate::source::{Source, draw};
 use lmots::LmOts;
 use merkle::Silent;
@@ -107,8 +107,9 @@ impl<S: Store, R: Source> Signer<S, R> {
     ///
     /// Once the binding's append has answered Ok, `sign` answers Ok. It draws I, SEED and C for each new tree and C for
     /// the binding; for XMSS it draws nothing. The message is read to its end, or can't be read (27), or is as it was.
-    /// A message takes no memory, however long it is (`tests/run` counts the growths). No clause says which caches
-    /// there are after 28, 29, an Ok or a failure. That 29 comes before 28, where both apply, is tested.
+    /// A message takes no memory, however long it is (`tests/run` counts the growths). After 28, Ok and later failures
+    /// but 29, `out` has room for a signature, and the caches are there that the request needed. After the Ok of a new
+    /// name each current tree has its cache. No clause says which caches there are after 29.
     pub fn sign<M: Message>(
         &mut self,
         name: &Name,
@@ -122,9 +123,14 @@ impl<S: Store, R: Source> Signer<S, R> {
         // A request for a bound name changes only caches, and with 21 and 27 not even these.
         ensures repeat { IsSome (binding_at self.old.records name.now) →
             KeepsForRepeat self.old self.new (is_fault is_before_repeat result) }
+        ensures caches { UnderKey self.old.records (λ key. MakesCaches key self.old.records
+            (binding_at self.old.records name.now) self.new.cached (vec_capacity out.new) result) }
+        ensures signed { OnOk result (UnderKey self.old.records (λ key. binding_at self.old.records name.now ≡ None
+            → HasAll key self.new.records (bottom_of key.secret) self.new.cached)) }
     {
-        let signed = self.sign_into(name, message, out, &Silent::new());
-        cleared_at_fault(signed, out)
+        let silent = Silent::new();
+        let progress = KeyProgress::of(&self.spec(), &silent);
+        self.sign_telling(name, message, out, &progress)
     }
 
     /// As `sign`, telling the progress of each tree that is made: a current or new one, or for a bound name an earlier
@@ -134,7 +140,7 @@ impl<S: Store, R: Source> Signer<S, R> {
         name: &Name,
         message: &mut M,
         out: &mut Vec<u8>,
-        progress: &P,
+        progress: &KeyProgress<'_, P>,
     ) -> Result<(), SignFault>
         ensures step { Signs S.Store R.Source M.Message self.old self.new name.now message.old message.new
             (vec_capacity out.old) (answered_value result out.new.items) }
@@ -142,6 +148,10 @@ impl<S: Store, R: Source> Signer<S, R> {
         ensures capacity { KeepsCapacity self.old.records (vec_capacity out.old) (vec_capacity out.new) }
         ensures repeat { IsSome (binding_at self.old.records name.now) →
             KeepsForRepeat self.old self.new (is_fault is_before_repeat result) }
+        ensures caches { UnderKey self.old.records (λ key. MakesCaches key self.old.records
+            (binding_at self.old.records name.now) self.new.cached (vec_capacity out.new) result) }
+        ensures signed { OnOk result (UnderKey self.old.records (λ key. binding_at self.old.records name.now ≡ None
+            → HasAll key self.new.records (bottom_of key.secret) self.new.cached)) }
     {
         let signed = self.sign_into(name, message, out, progress);
         cleared_at_fault(signed, out)
@@ -149,21 +159,25 @@ impl<S: Store, R: Source> Signer<S, R> {
 
     // As `sign_telling`, without clearing `out` on error.
     //
-    // Not inlined into its two callers. Nor are the steps that make trees or hold a chain: these run one after the
-    // other, and in one function their frames would add up. Nor `bind` and `extend`, since `bind_below` calls itself.
+    // Not inlined. Nor are the steps that make trees or hold a chain: these run one after the other, and in one
+    // function their frames would add up. Nor `bind` and `extend`, since `bind_below` calls itself.
     #[inline(never)]
     fn sign_into<M: Message, P: TreeProgress>(
         &mut self,
         name: &Name,
         message: &mut M,
         out: &mut Vec<u8>,
-        progress: &P,
+        progress: &KeyProgress<'_, P>,
     ) -> Result<(), SignFault>
         ensures step { Signs S.Store R.Source M.Message self.old self.new name.now message.old message.new
             (vec_capacity out.old) (answered_value result out.new.items) }
         ensures capacity { KeepsCapacity self.old.records (vec_capacity out.old) (vec_capacity out.new) }
         ensures repeat { IsSome (binding_at self.old.records name.now) →
             KeepsForRepeat self.old self.new (is_fault is_before_repeat result) }
+        ensures caches { UnderKey self.old.records (λ key. MakesCaches key self.old.records
+            (binding_at self.old.records name.now) self.new.cached (vec_capacity out.new) result) }
+        ensures signed { OnOk result (UnderKey self.old.records (λ key. binding_at self.old.records name.now ≡ None
+            → HasAll key self.new.records (bottom_of key.secret) self.new.cached)) }
     {
         // 26, 31
         self.check_open()?;

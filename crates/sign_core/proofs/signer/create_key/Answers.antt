@@ -25,7 +25,7 @@ pub returns-in_err-map_err-clause-makes : goal.returns-in_err-map_err-clause-mak
 returns-in_err-map_err-clause-makes g c =
     let answer : c.from_residual-in_err-map_err.result ≡ Err c.in_err-map_err.field-0.0 = search rules in
     let key = new_key c.args.version c.in_ok-secret.secret in
-    let made : c.copied.result ≡ key = c.copied.ensures ∙ ap (λ r. record { version = c.args.version; secret = c.in_ok-secret.secret; root = r }) c.root_of.ensures in
+    let made : c.copied.result ≡ key = c.copied.ensures ∙ ap (λ r. record { version = c.args.version; secret = c.in_ok-secret.secret; root = r }) c.root_of-root.ensures in
     let old = c.load_first.new.store in
     let running : g.S.Store.stopped old ≡ false = c.in_ok-load_first.ensures.stopped ∙ c.in_ok-load_first.ensures.finds.0 in
     let room : length (g.S.Store.list old) < g.S.Store.most old =
@@ -41,8 +41,8 @@ returns-in_err-map_err-clause-makes g c =
 pub returns-clause-makes : goal.returns-clause-makes
 returns-clause-makes g c =
     let key = new_key c.args.version c.in_ok-secret.secret in
-    let rooted : record { version = c.args.version; secret = c.in_ok-secret.secret; root = c.root_of.result } ≡ key =
-    ap (λ r. record { version = c.args.version; secret = c.in_ok-secret.secret; root = r }) c.root_of.ensures in
+    let rooted : record { version = c.args.version; secret = c.in_ok-secret.secret; root = c.root_of-root.result } ≡ key =
+    ap (λ r. record { version = c.args.version; secret = c.in_ok-secret.secret; root = r }) c.root_of-root.ensures in
     let old = c.load_first.new.store in
     let running : g.S.Store.stopped old ≡ false = c.in_ok-load_first.ensures.stopped ∙ c.in_ok-load_first.ensures.finds.0 in
     let room : length (g.S.Store.list old) < g.S.Store.most old =

@@ -3,7 +3,9 @@ use Rattle.std.proofs.lemmas.Option.{same_Some}
 use Rattle.state_file.specs.Laws.{bottom_of, levels_of}
 use Rattle.state_file.specs.declared.record.Key.{Key}
 use Rattle.state_file.specs.declared.record.Record.TheVariants.{Bound as BoundRecord}
+use Rattle.state_file.specs.declared.record.Record.{Record}
 use Rattle.sign_core.specs.declared.fault.SignFault.{SignFault}
+use Rattle.sign_core.specs.Caches.{Cached, HasAll}
 use Rattle.sign_core.specs.Signing.{answered_value}
 use Rattle.sign_core.specs.Records.{is_long, the_key}
 use Rattle.sign_core.specs.inner.Links.{MakesTrees}
@@ -13,6 +15,7 @@ use Rattle.sign_core.proofs.Adding.{levels_range}
 use Rattle.sign_core.proofs.Binding.{bound_last, never_damaged, sound_last, written_last}
 use Rattle.sign_core.proofs.ChainParts.{same_key}
 use Rattle.sign_core.proofs.BindsBelow.{Recorded, at_end, binds_below_after, binds_below_refused, is_recorded, key_after, ready_after, unbound_after}
+use Rattle.sign_core.proofs.KeptCaches.{anyway, has_bound, keeps_below, keeps_same, on_ok}
 use Rattle.sign_core.proofs.Stays.{key_stays, some_keyed}
 use Rattle.sign_core.proofs.signer.Signer.+bind_below.Goals as goal
 
@@ -22,8 +25,8 @@ overflow_add-level g t c =
     let within_limit = (levels_range _ _ _ c.key.ensures.sizes c.key.ensures.first c.levels-levels.ensures).1 in
     omega (arith, (c.requires.stands c.key.result.now own).inside, within_limit, c.levels-levels.ensures)
 
-pub returns-in_err-extend : goal.returns-in_err-extend
-returns-in_err-extend g t c key keyed =
+pub returns-in_err-extend-clause-step : goal.returns-in_err-extend-clause-step
+returns-in_err-extend-clause-step g t c key keyed =
     let a = c.args in
     let own : the_key a.self.now.records ≡ Some c.key.result.now = ap (λ w. the_key w.records) (sym c.self.view_is) ∙ c.key.ensures.first in
     let same : c.key.result.now ≡ key = same_Some _ _ (sym own ∙ keyed) in
@@ -92,8 +95,8 @@ bind_below-requires g t c κs within =
       ),
     )
 
-pub returns-then-level-levels : goal.returns-then-level-levels
-returns-then-level-levels g t c key keyed =
+pub returns-then-level-levels-clause-step : goal.returns-then-level-levels-clause-step
+returns-then-level-levels-clause-step g t c key keyed =
     let a = c.args in
     let own : the_key a.self.now.records ≡ Some c.key.result.now = ap (λ w. the_key w.records) (sym c.self.view_is) ∙ c.key.ensures.first in
     let same : c.key.result.now ≡ key = same_Some _ _ (sym own ∙ keyed) in
@@ -112,10 +115,10 @@ returns-then-level-levels g t c key keyed =
     subst (λ (n : ℕ). BindsBelow g.S.Store g.R.Source g.M.Message a.name.now n a.self.now c.bind_below.new.self a.message.now c.bind_below.new.message
     (answered_value c.bind_below.result c.bind_below.new.out) key) wanted
     (binds_below_after g.S.Store g.R.Source g.M.Message a.name.now key below (a.level + 1) a.self.now c.extend.new.self c.bind_below.new.self
-    a.message.now c.bind_below.new.message (answered_value c.bind_below.result c.bind_below.new.out) at running first (c.bind_below.ensures key next))
+    a.message.now c.bind_below.new.message (answered_value c.bind_below.result c.bind_below.new.out) at running first (c.bind_below.ensures.step key next))
 
-pub returns-in_err-binding : goal.returns-in_err-binding
-returns-in_err-binding g t c key keyed =
+pub returns-in_err-binding-clause-step : goal.returns-in_err-binding-clause-step
+returns-in_err-binding-clause-step g t c key keyed =
     let a = c.args in
     let own : the_key a.self.now.records ≡ Some c.key.result.now = ap (λ w. the_key w.records) (sym c.self.view_is) ∙ c.key.ensures.first in
     let levels : levels_of c.key.result.now.secret ≡ levels_of key.secret = ap (λ k. levels_of k.secret) (same_Some _ _ (sym own ∙ keyed)) in
@@ -125,7 +128,7 @@ returns-in_err-binding g t c key keyed =
     let failed : c.from_residual-in_err-binding.result ≡ Err fault = search rules in
     at_end g.S.Store g.R.Source g.M.Message a.name.now _ _ _ _ _ key _ _ bottom
     (subst (λ (x : Result (List ℕ) SignFault). BindsBelow g.S.Store g.R.Source g.M.Message a.name.now 0 a.self.now c.bind.new.self a.message.now
-    c.bind.new.message x key) (ap (λ r. answered_value r a.out.now) (sym failed)) (c.in_err-binding.ensures key keyed))
+    c.bind.new.message x key) (ap (λ r. answered_value r a.out.now) (sym failed)) (c.in_err-binding.ensures.step key keyed))
 
 pub write_bound-requires-clause-trees : goal.write_bound-requires-clause-trees
 write_bound-requires-clause-trees g t c = subst (λ (k : Key). MakesTrees k.secret c.of.result) c.key-2.ensures.key c.of.ensures
@@ -135,7 +138,7 @@ write_bound-requires-clause-kept g t c other others =
     let a = c.args in
     let L = c.self-2.inside.ledger in
     let own : the_key a.self.now.records ≡ Some c.key.result.now = ap (λ w. the_key w.records) (sym c.self.view_is) ∙ c.key.ensures.first in
-    let (bound, binds_below, last) = c.in_ok-binding.ensures c.key.result.now own in
+    let (bound, binds_below, last) = c.in_ok-binding.ensures.step c.key.result.now own in
     let next : the_key c.bind.new.self.records ≡ Some c.key.result.now =
     ap the_key last.grown ∙ key_stays a.self.now.records (BoundRecord bound ∷ []) c.key.result.now own in
     let records = ap (λ w. w.records) c.self-2.view_is in
@@ -149,15 +152,15 @@ write_bound-requires-clause-room g t c =
     let a = c.args in
     let L = c.self-2.inside.ledger in
     let own : the_key a.self.now.records ≡ Some c.key.result.now = ap (λ w. the_key w.records) (sym c.self.view_is) ∙ c.key.ensures.first in
-    let (bound, binds_below, last) = c.in_ok-binding.ensures c.key.result.now own in
+    let (bound, binds_below, last) = c.in_ok-binding.ensures.step c.key.result.now own in
     let next : the_key c.bind.new.self.records ≡ Some c.key.result.now =
     ap the_key last.grown ∙ key_stays a.self.now.records (BoundRecord bound ∷ []) c.key.result.now own in
     let same : c.key.result.now ≡ L.key = same_key c.bind.new.self.records c.key.result.now L.key next
     (ap (λ w. the_key w.records) (sym c.self-2.view_is) ∙ c.self-2.invariant.1) in
     subst (λ (k : Key). length a.out.now ≡ signature_size k.secret) same ((c.requires.can c.key.result.now own).room c.key.result.now own)
 
-pub returns : goal.returns
-returns g t c key keyed =
+pub returns-clause-step : goal.returns-clause-step
+returns-clause-step g t c key keyed =
     let a = c.args in
     let whole = c.self-2.inside in
     let L = whole.ledger in
@@ -166,7 +169,7 @@ returns g t c key keyed =
     let low : levels_of key.secret ≤ a.level + 1 = omega (arith, levels, c.if-level-levels.false, c.levels-levels.ensures) in
     let stands = c.requires.stands key keyed in
     let bottom : a.level ≡ bottom_of key.secret = omega (arith, low, stands.inside) in
-    let (bound, binds_below, last) = c.in_ok-binding.ensures key keyed in
+    let (bound, binds_below, last) = c.in_ok-binding.ensures.step key keyed in
     let records = ap (λ w. w.records) c.self-2.view_is in
     let next : the_key c.bind.new.self.records ≡ Some key = ap the_key last.grown ∙ key_stays a.self.now.records (BoundRecord bound ∷ []) key keyed in
     let same : key ≡ L.key = same_key c.bind.new.self.records key L.key next (ap (λ w. the_key w.records) (sym c.self-2.view_is) ∙ c.self-2.invariant.1) in
@@ -183,3 +186,41 @@ returns g t c key keyed =
     (at_end g.S.Store g.R.Source g.M.Message a.name.now _ _ _ _ _ key _ _ bottom
     (subst (λ b. BindsBelow g.S.Store g.R.Source g.M.Message a.name.now 0 a.self.now c.bind.new.self a.message.now c.bind.new.message (Ok b) key) (sym signs)
     binds_below)))
+
+pub returns-in_err-extend-clause-keeps : goal.returns-in_err-extend-clause-keeps
+returns-in_err-extend-clause-keeps g t c = c.in_err-extend.ensures.keeps
+
+pub returns-then-level-levels-clause-keeps : goal.returns-then-level-levels-clause-keeps
+returns-then-level-levels-clause-keeps g t c =
+    keeps_below c.args.level c.args.self.now.cached c.extend.new.self.cached c.bind_below.new.self.cached c.in_ok-extend.ensures.keeps
+    c.bind_below.ensures.keeps
+
+pub returns-in_err-binding-clause-keeps : goal.returns-in_err-binding-clause-keeps
+returns-in_err-binding-clause-keeps g t c = keeps_same c.args.level _ _ c.in_err-binding.ensures.cached
+
+pub returns-clause-keeps : goal.returns-clause-keeps
+returns-clause-keeps g t c =
+    keeps_same c.args.level _ _ (c.write_bound.ensures.caches ∙ ap (λ w. w.cached) c.self-2.view_is ∙ c.in_ok-binding.ensures.cached)
+
+pub returns-then-level-levels-clause-caches : goal.returns-then-level-levels-clause-caches
+returns-then-level-levels-clause-caches g t c =
+    let a = c.args in
+    on_ok c.bind_below.result (λ rest key keyed all.
+    let after : Recorded g.S.Store a.self.now c.extend.new.self =
+    is_recorded g.S.Store g.R.Source (a.level + 1) a.self.now c.extend.new.self key (c.in_ok-extend.ensures.step key keyed) in
+    rest key (key_after g.S.Store a.self.now c.extend.new.self key after keyed) (c.in_ok-extend.ensures.caches key keyed all))
+    c.bind_below.ensures.caches
+
+pub returns-clause-caches : goal.returns-clause-caches
+returns-clause-caches g t c = anyway c.map_err.result (λ key keyed all.
+    let a = c.args in
+    let whole = c.self-2.inside in
+    let own : the_key a.self.now.records ≡ Some c.key.result.now = ap (λ w. the_key w.records) (sym c.self.view_is) ∙ c.key.ensures.first in
+    let levels : levels_of c.key.result.now.secret ≡ levels_of key.secret = ap (λ k. levels_of k.secret) (same_Some _ _ (sym own ∙ keyed)) in
+    let low : levels_of key.secret ≤ a.level + 1 = omega (arith, levels, c.if-level-levels.false, c.levels-levels.ensures) in
+    let bottom : a.level ≡ bottom_of key.secret = omega (arith, low, (c.requires.stands key keyed).inside) in
+    let (bound, binds_below, last) = c.in_ok-binding.ensures.step key keyed in
+    let view = ap (λ y. view_of whole.store whole.random whole.ledger y whole.is_open) c.write_bound.ensures.caches ∙ c.self-2.view_is in
+    let after = has_bound key a.self.now.records a.level bound a.self.now.cached keyed all in
+    subst (λ w. HasAll key w.records (bottom_of key.secret) w.cached) (sym view)
+    (subst (λ (x : List Record × ℕ × Cached). HasAll key x.0 x.1 x.2) (λ i. (sym last.grown i, bottom i, sym c.in_ok-binding.ensures.cached i)) after))

@@ -45,8 +45,8 @@ unreachable-requires g c =
 pub digest-requires : goal.digest-requires
 digest-requires g c = subst (λ (k : Key). MakesTrees k.secret c.of-trees.result) c.key.ensures.key c.of-trees.ensures
 
-pub returns-in_err-randomizer : goal.returns-in_err-randomizer
-returns-in_err-randomizer g c key keyed =
+pub returns-in_err-randomizer-clause-step : goal.returns-in_err-randomizer-clause-step
+returns-in_err-randomizer-clause-step g c key keyed =
     let v = c.args.self.now in
     let i = c.self.inside in
     let K = i.ledger.key in
@@ -68,8 +68,8 @@ returns-in_err-randomizer g c key keyed =
     c.args.message.now key c.in_err-randomizer.field-0.0 opened (c.self.invariant.0.tied opened) refl
     (λ left honest running since. g.met.S.Store.leaves_nothing_else i.store left honest running since) (c.in_err-randomizer.ensures key.secret trees)))
 
-pub returns-in_err-digest : goal.returns-in_err-digest
-returns-in_err-digest g c key keyed =
+pub returns-in_err-digest-clause-step : goal.returns-in_err-digest-clause-step
+returns-in_err-digest-clause-step g c key keyed =
     let v = c.args.self.now in
     let i = c.self.inside in
     let K = i.ledger.key in
@@ -127,8 +127,8 @@ add-requires-clause-counted g c =
 pub add-requires-clause-room : goal.add-requires-clause-room
 add-requires-clause-room g c takes = subst (λ w. 0 < w.spare) (sym c.self.view_is) (omega (arith, c.requires.ready.room))
 
-pub returns-in_err-add : goal.returns-in_err-add
-returns-in_err-add g c key keyed =
+pub returns-in_err-add-clause-step : goal.returns-in_err-add-clause-step
+returns-in_err-add-clause-step g c key keyed =
     let v = c.args.self.now in
     let i = c.self.inside in
     let K = i.ledger.key in
@@ -166,8 +166,8 @@ returns-in_err-add g c key keyed =
     c.digest.new.message key c.add.new.self bound text c.add.result _ opened drawn whole is c.add.ensures.adds
     (ap (λ a. answered_value a sig) (sym c.in_err-add.was))))
 
-pub returns : goal.returns
-returns g c key keyed =
+pub returns-clause-step : goal.returns-clause-step
+returns-clause-step g c key keyed =
     let v = c.args.self.now in
     let i = c.self.inside in
     let K = i.ledger.key in

@@ -1,4 +1,4 @@
-use Rattle.std.proofs.Common.{rules, ◌≡◌, ◌∙◌, ℕ, ◌+◌, true, false, List, [], ◌∷◌, ◌++◌, Some, Err, refl, sym, ap, subst, arith}
+use Rattle.std.proofs.Common.{rules, ◌≡◌, ◌∙◌, ℕ, ◌+◌, true, false, List, [], ◌∷◌, ◌++◌, Some, Err, refl, sym, ap, subst, arith, add-one}
 use Rattle.lmots.specs.Key.{message_digest_of}
 use Rattle.lms.specs.Secret.{rooted_public, root_of_secret}
 use Rattle.typecodes.specs.declared.secret.LmsSecret.{LmsSecret}
@@ -10,9 +10,10 @@ use Rattle.state_file.specs.declared.record.Record.{Record}
 use Rattle.state_file.specs.declared.record.Record.TheVariants.{Extend as ExtendRecord}
 use Rattle.sign_core.specs.declared.fault.SignFault.{SignFault}
 use Rattle.sign_core.specs.declared.fault.SignFault.TheVariants.{OutOfMemory}
-use Rattle.sign_core.specs.Caches.{Cached}
+use Rattle.sign_core.specs.Caches.{Cached, HasAll, HasLevel}
 use Rattle.sign_core.specs.Signing.{answered_value}
 use Rattle.sign_core.specs.Records.{has_moved, the_key}
+use Rattle.sign_core.specs.inner.Caches.{KeepsDownTo}
 use Rattle.sign_core.specs.inner.Links.{MakesTrees, chain_trees}
 use Rattle.sign_core.specs.Signer.{View, view_of}
 use Rattle.sign_core.specs.inner.Signing.{Extends, Stands}
@@ -21,6 +22,7 @@ use Rattle.sign_core.proofs.Appended.{added_records}
 use Rattle.sign_core.proofs.ChainParts.{same_key}
 use Rattle.sign_core.proofs.CurrentChain.{has_free, not_free}
 use Rattle.sign_core.proofs.Extends.{Rests, drawn_below, undrawn, ungrown}
+use Rattle.sign_core.proofs.KeptCaches.{begun_secret, has_begun, keeps_begun, keeps_same}
 use Rattle.sign_core.proofs.Signs.{is_none}
 use Rattle.sign_core.proofs.StandingChain.{can_extend, entry_is, if_added, no_chain, stands_below}
 use Rattle.sign_core.proofs.Stays.{key_stays}
@@ -53,6 +55,13 @@ overflow_add-below g c =
     let kept : the_key c.args.self.now.records ≡ Some i.ledger.key = ap (λ w. the_key w.records) (sym c.self.view_is) ∙ c.self.invariant.1 in
     let most = (levels_range i.ledger.records i.ledger.key (levels_of i.ledger.key.secret) c.self.invariant.0.sizes c.self.invariant.1 refl).1 in
     omega (arith, c.requires.below i.ledger.key kept, most)
+
+pub new-asked-requires : goal.new-asked-requires
+new-asked-requires g c =
+    let i = c.self.inside in
+    let kept : the_key c.args.self.now.records ≡ Some i.ledger.key = ap (λ w. the_key w.records) (sym c.self.view_is) ∙ c.self.invariant.1 in
+    let most = (levels_range i.ledger.records i.ledger.key (levels_of i.ledger.key.secret) c.self.invariant.0.sizes c.self.invariant.1 refl).1 in
+    record { within_limit = omega (arith, c.requires.below i.ledger.key kept, most) }
 
 pub returns-in_err-secret-clause-step : goal.returns-in_err-secret-clause-step
 returns-in_err-secret-clause-step g c key keyed =
@@ -194,3 +203,53 @@ returns-clause-stands g c =
     let still : the_key c.add.new.self.records ≡ Some K = ap the_key grown ∙ key_stays i.ledger.records (ExtendRecord extend ∷ []) K c.self.invariant.1 in
     subst (Stands c.add.new.self.records (a.level + 1)) (same_key c.add.new.self.records K key still keyed)
     (subst (λ (l : List Record). Stands l (a.level + 1) K) (sym (grown ∙ ap (λ e. i.ledger.records ++ e ∷ []) entry)) after))
+
+pub returns-in_err-secret-clause-keeps : goal.returns-in_err-secret-clause-keeps
+returns-in_err-secret-clause-keeps g c = keeps_same c.args.level _ _ (ap (λ w. w.cached) c.self.view_is)
+
+pub returns-in_err-root-clause-keeps : goal.returns-in_err-root-clause-keeps
+returns-in_err-root-clause-keeps g c = keeps_same c.args.level _ _ (c.in_err-root.ensures.stays ∙ ap (λ w. w.cached) c.self.view_is)
+
+pub returns-clause-keeps : goal.returns-clause-keeps
+returns-clause-keeps g c =
+    subst (λ (x : Cached × Cached). KeepsDownTo c.args.level x.0 x.1) (λ i. (ap (λ w. w.cached) c.self.view_is i, sym c.add.ensures.cached i))
+    (keeps_begun c.args.level c.new-asked.result.level c.self.inside.caches c.begin.new.self (omega (arith, c.new-asked.ensures.level)) c.begin.ensures.others c.begin.ensures.xmss)
+
+pub returns-clause-caches : goal.returns-clause-caches
+returns-clause-caches g c =
+    let a = c.args in
+    let i = c.self.inside in
+    let K = i.ledger.key in
+    let T = chain_trees c.in-Chain.chain in
+    let secret = c.in_ok-secret.secret in
+    let kept : the_key a.self.now.records ≡ Some K = ap (λ w. the_key w.records) (sym c.self.view_is) ∙ c.self.invariant.1 in
+    let these = subst (MakesTrees K.secret) c.in-Chain.is (subst (λ (k : Key). MakesTrees k.secret c.of.result) c.key.ensures.key c.of.ensures) in
+    let stands = subst (λ w. Stands w.records a.level K) (sym c.self.view_is) (c.requires.stands K kept) in
+    let has = has_free K.secret i.ledger.records a.level c.current.result c.in-Some.parent c.current.ensures c.in-Some.is stands.free in
+    let extend : Extend = record {
+      level = a.level + 1;
+      parent_leaf = c.in-Some.parent.next;
+      identifier = secret.identifier;
+      seed = secret.seed;
+      randomizer = c.in_ok-secret.randomizer;
+      digest = c.message_digest-digest.result;
+      root = c.in_ok-root.root;
+    } in
+    let there = subst (λ (x : ℕ × LmsSecret). HasLevel c.begin.new.self x.0 x.1)
+    (λ j. (
+      (c.new-asked.ensures.level ∙ add-one a.level) j,
+      (c.new-asked.ensures.secret
+          ∙ sym (begun_secret T i.ledger.records extend secret refl refl (c.in_ok-secret.ensures.4 ∙ c.pair.ensures))) j,
+    )) c.in_ok-root.ensures.there in
+    let keeps = keeps_begun a.level c.new-asked.result.level i.caches c.begin.new.self (omega (arith, c.new-asked.ensures.level)) c.begin.ensures.others c.begin.ensures.xmss in
+    if_added c.add.result (λ x is key keyed all.
+    let grown : c.add.new.self.records ≡ i.ledger.records ++ ExtendRecord extend ∷ [] =
+    added_records g.S.Store (view_of i.store c.draw_tree.new.random i.ledger c.begin.new.self i.is_open) c.add.new.self (ExtendRecord extend) c.add.result x
+    c.add.ensures.adds is in
+    let own : K ≡ key = same_key a.self.now.records K key kept keyed in
+    let before : HasAll K i.ledger.records a.level i.caches = subst (λ w. HasAll K w.records a.level w.cached) (sym c.self.view_is)
+    (subst (λ (k : Key). HasAll k a.self.now.records a.level a.self.now.cached) (sym own) all) in
+    let after = has_begun K T i.ledger.records a.level c.in-Some.parent.place extend i.caches c.begin.new.self these c.self.invariant.1 (add-one a.level)
+    has.current_is keeps there before in
+    subst (λ (y : Key × List Record × ℕ × Cached). HasAll y.0 y.1 y.2 y.3)
+    (λ j. (own j, sym grown j, sym (add-one a.level) j, sym c.add.ensures.cached j)) after)

@@ -1,19 +1,21 @@
-use Rattle.std.proofs.Common.{rules, ◌≡◌, ◌∙◌, ℕ, ◌-◌, List, Some, Err, sym, ap, subst, arith}
+use Rattle.std.proofs.Common.{rules, ◌≡◌, ◌∙◌, ◌≤◌, ℕ, ◌-◌, List, Some, Err, refl, sym, ap, subst, arith}
 use Rattle.std.specs.Prelude.{length, vec_capacity}
 use Rattle.std.proofs.lemmas.List.{take_at}
 use Rattle.state_file.specs.Laws.{bottom_of}
 use Rattle.state_file.specs.declared.record.Key.{Key}
 use Rattle.state_file.specs.declared.record.Record.{Record}
+use Rattle.sign_core.specs.declared.fault.SignFault.TheVariants.{Changed}
 use Rattle.sign_core.specs.declared.ledger.Binding.{Binding}
-use Rattle.sign_core.specs.Caches.{Cached, LacksCache}
+use Rattle.sign_core.specs.Caches.{Cached, HasCaches, LacksCache}
 use Rattle.sign_core.specs.Records.{the_key}
-use Rattle.sign_core.specs.Signer.{signature_size, state_of}
-use Rattle.sign_core.specs.inner.Links.{MakesTrees}
-use Rattle.sign_core.specs.Signing.{UnderKey}
+use Rattle.sign_core.specs.Signer.{is_before_repeat, signature_size, state_of}
+use Rattle.sign_core.specs.inner.Links.{IsTreeAt, MakesTrees}
+use Rattle.sign_core.specs.Signing.{IsPrepared, UnderKey, is_unprepared}
 use Rattle.sign_core.specs.inner.Signing.{IsBindingOf, Repeats}
 use Rattle.sign_core.specs.Textbook.{damaged_at}
 use Rattle.sign_core.proofs.Capacities.{capacity_grows, capacity_stays}
 use Rattle.sign_core.proofs.ChainParts.{same_key}
+use Rattle.sign_core.proofs.KeptCaches.{bound_stands, made_bound, refused_bound}
 use Rattle.sign_core.proofs.LedgerReading.{key_levels}
 use Rattle.sign_core.proofs.Repeats.{changed, damaged, fault_of, found_chain, found_digest, found_kept, found_signature, is_found, lacks_cache, lacks_room, linked_ok, given_back, same_size, signed, unread}
 use Rattle.sign_core.proofs.signer.Signer.repeat.Goals as goal
@@ -181,3 +183,82 @@ pub returns-clause-capacity : goal.returns-clause-capacity
 returns-clause-capacity g c =
     capacity_grows _ c.key.result.now _ _ (ap (λ w. the_key w.records) (sym c.self.view_is) ∙ c.key.ensures.first)
     c.make_room.ensures.capacity c.make_room.ensures.most
+
+-- ---- the caches that it makes
+
+pub keep_trees-requires-clause-keyed : goal.keep_trees-requires-clause-keyed
+keep_trees-requires-clause-keyed g c = c.key.ensures.first ∙ ap Some c.key.ensures.key
+
+pub keep_trees-requires-clause-stands : goal.keep_trees-requires-clause-stands
+keep_trees-requires-clause-stands g c =
+    let K = c.key.result.now in
+    let L = c.self.inside.ledger.records in
+    let keyed : the_key c.args.self.now.records ≡ Some K = ap (λ w. the_key w.records) (sym c.self.view_is) ∙ c.key.ensures.first in
+    let (name, kept) = c.requires.kept K keyed in
+    subst (λ n. IsTreeAt L n c.args.binding.now.tree) (ap (λ n. n - 1) (sym c.levels-bottom.ensures))
+    (bound_stands K c.of-trees.result L name c.args.binding.now c.of-trees.ensures c.key.ensures.legal c.key.ensures.first
+    (subst (λ w. IsBindingOf w.records c.args.binding.now K name) (sym c.self.view_is) kept))
+
+pub returns-in_err-digest-clause-caches : goal.returns-in_err-digest-clause-caches
+returns-in_err-digest-clause-caches g c key keyed name kept =
+    let v = c.args.self.now in
+    let b = c.args.binding.now in
+    let answer : c.from_residual.result ≡ Err c.in_err-digest.field-0.0 = search rules in
+    refused_bound key v.records name b _ _ c.from_residual.result c.in_err-digest.field-0.0 (is_found key v.records name b kept) answer
+    (ap (is_unprepared is_before_repeat) c.in_err-digest.ensures.fault)
+
+pub returns-then-ne-clause-caches : goal.returns-then-ne-clause-caches
+returns-then-ne-clause-caches g c key keyed name kept =
+    let v = c.args.self.now in
+    let b = c.args.binding.now in
+    refused_bound key v.records name b _ _ (Err Changed) Changed (is_found key v.records name b kept) refl refl
+
+pub returns-in_err-make_room-clause-caches : goal.returns-in_err-make_room-clause-caches
+returns-in_err-make_room-clause-caches g c key keyed name kept =
+    let v = c.args.self.now in
+    let b = c.args.binding.now in
+    let answer : c.from_residual-in_err-make_room.result ≡ Err c.in_err-make_room.field-0.0 = search rules in
+    refused_bound key v.records name b _ _ c.from_residual-in_err-make_room.result c.in_err-make_room.field-0.0 (is_found key v.records name b kept) answer
+    (ap (is_unprepared is_before_repeat) c.in_err-make_room.ensures.refused)
+
+pub returns-in_err-keep_trees-clause-caches : goal.returns-in_err-keep_trees-clause-caches
+returns-in_err-keep_trees-clause-caches g c key keyed name kept =
+    let v = c.args.self.now in
+    let b = c.args.binding.now in
+    let answer : c.from_residual-in_err-keep_trees.result ≡ Err c.in_err-keep_trees.field-0.0 = search rules in
+    refused_bound key v.records name b _ _ c.from_residual-in_err-keep_trees.result c.in_err-keep_trees.field-0.0 (is_found key v.records name b kept) answer
+    (ap (is_unprepared is_before_repeat) c.in_err-keep_trees.ensures.fault)
+
+pub returns-in_err-map_err-clause-caches : goal.returns-in_err-map_err-clause-caches
+returns-in_err-map_err-clause-caches g c key keyed name kept =
+    let v = c.args.self.now in
+    let b = c.args.binding.now in
+    let own_is = same_key v.records c.key.result.now key (ap (λ w. the_key w.records) (sym c.self.view_is) ∙ c.key.ensures.first) keyed in
+    let own = sym c.key.ensures.key ∙ own_is in
+    let records = ap (λ w. w.records) c.self.view_is in
+    let bottom : c.levels-bottom.result - 1 ≡ bottom_of key.secret =
+    ap (λ n. n - 1) c.levels-bottom.ensures ∙ ap (λ (k : Key). bottom_of k.secret) own_is in
+    let prepared : IsPrepared key v.records (Some (bottom_of key.secret)) b.place c.keep_trees.new.self (vec_capacity c.make_room.new.out) = record {
+      room = subst (λ (k : Key). signature_size k.secret ≤ vec_capacity c.make_room.new.out) own_is c.in_ok-make_room.ensures.reserved;
+      caches = subst (λ (x : Key × List Record × ℕ). HasCaches x.0 x.1 (Some x.2) b.place c.keep_trees.new.self) (λ i. (own i, records i, bottom i))
+          c.in_ok-keep_trees.ensures.kept;
+    } in
+    made_bound key v.records name b _ _ c.from_residual-in_err-map_err.result (is_found key v.records name b kept)
+    (subst (λ x. IsPrepared key v.records (Some (bottom_of key.secret)) b.place x (vec_capacity c.make_room.new.out)) (sym c.write_bound.ensures.caches) prepared)
+
+pub returns-clause-caches : goal.returns-clause-caches
+returns-clause-caches g c key keyed name kept =
+    let v = c.args.self.now in
+    let b = c.args.binding.now in
+    let own_is = same_key v.records c.key.result.now key (ap (λ w. the_key w.records) (sym c.self.view_is) ∙ c.key.ensures.first) keyed in
+    let own = sym c.key.ensures.key ∙ own_is in
+    let records = ap (λ w. w.records) c.self.view_is in
+    let bottom : c.levels-bottom.result - 1 ≡ bottom_of key.secret =
+    ap (λ n. n - 1) c.levels-bottom.ensures ∙ ap (λ (k : Key). bottom_of k.secret) own_is in
+    let prepared : IsPrepared key v.records (Some (bottom_of key.secret)) b.place c.keep_trees.new.self (vec_capacity c.make_room.new.out) = record {
+      room = subst (λ (k : Key). signature_size k.secret ≤ vec_capacity c.make_room.new.out) own_is c.in_ok-make_room.ensures.reserved;
+      caches = subst (λ (x : Key × List Record × ℕ). HasCaches x.0 x.1 (Some x.2) b.place c.keep_trees.new.self) (λ i. (own i, records i, bottom i))
+          c.in_ok-keep_trees.ensures.kept;
+    } in
+    made_bound key v.records name b _ _ _ (is_found key v.records name b kept)
+    (subst (λ x. IsPrepared key v.records (Some (bottom_of key.secret)) b.place x (vec_capacity c.make_room.new.out)) (sym c.write_bound.ensures.caches) prepared)

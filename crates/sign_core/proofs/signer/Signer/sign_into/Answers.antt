@@ -1,17 +1,21 @@
-use Rattle.std.proofs.Common.{rules, ◌≡◌, ◌∙◌, Err, true, false, ap, sym, subst, ◌<◌, ◌-◌, None, Some, length, arith}
+use Rattle.std.proofs.Common.{List, rules, ◌≡◌, ◌∙◌, Err, true, false, ap, refl, sym, subst, ◌<◌, ◌-◌, None, Some, length, arith}
 use Rattle.std.specs.Prelude.{vec_capacity}
 use Rattle.std.proofs.lemmas.List.{take_at}
 use Rattle.state_file.specs.Laws.{bottom_of, levels_of}
 use Rattle.state_file.specs.declared.record.Key.{Key}
+use Rattle.state_file.specs.declared.record.Record.{Record}
+use Rattle.sign_core.specs.Caches.{HasAll}
 use Rattle.sign_core.specs.Ledger.{binding_kept, kept_of}
 use Rattle.sign_core.specs.Records.{binding_at, deepest, is_long, the_key}
-use Rattle.sign_core.specs.Signer.{IsSigner, KeepsForRepeat, Signs, is_before_repeat, view_of}
-use Rattle.sign_core.specs.Signing.{UnderKey, answered_value}
+use Rattle.sign_core.specs.Signer.{IsSigner, KeepsForRepeat, Signs, is_before_caches, is_before_repeat, view_of}
+use Rattle.sign_core.specs.Signing.{IsPrepared, UnderKey, answered_value, is_unprepared}
 use Rattle.sign_core.specs.Textbook.{damaged_at, current_at}
-use Rattle.sign_core.specs.declared.fault.SignFault.TheVariants.{Damaged}
+use Rattle.sign_core.specs.declared.fault.SignFault.TheVariants.{Damaged, LongName}
+use Rattle.sign_core.specs.inner.Caches.{KeepsDownTo}
 use Rattle.sign_core.specs.inner.Links.{MakesTrees}
 use Rattle.sign_core.specs.inner.Signing.{CanBind, BindsBelow, IsBindingOf, Stands}
 use Rattle.sign_core.proofs.ChainParts.{same_key}
+use Rattle.sign_core.proofs.KeptCaches.{anyway, made_new, never_bound, on_ok, prepared_later, refused_early, refused_new}
 use Rattle.sign_core.proofs.Leaves.{deepest_is}
 use Rattle.sign_core.proofs.LedgerReading.{key_levels}
 use Rattle.sign_core.proofs.Refusals.{same_kind}
@@ -233,7 +237,7 @@ returns-clause-step g c =
     (answered_value c.bind_below.result c.bind_below.new.out) here
     (subst (λ w. UnderKey w.records (λ key. BindsBelow g.S.Store g.R.Source g.M.Message c.args.name.now
     (bottom_of key.secret - c.in_ok-level.level) w c.bind_below.new.self c.args.message.now c.bind_below.new.message
-    (answered_value c.bind_below.result c.bind_below.new.out) key)) same c.bind_below.ensures key still)
+    (answered_value c.bind_below.result c.bind_below.new.out) key)) same c.bind_below.ensures.step key still)
     made.does.0.is_open (deepest_is key.secret v.records c.in_ok-level.level at).0 in
     let fits : length c.bind_below.new.out ≡ c.prepare.new.out.len = search rules in
     subst (λ xs. Signs g.S.Store g.R.Source g.M.Message v c.bind_below.new.self c.args.name.now c.args.message.now c.bind_below.new.message
@@ -241,3 +245,110 @@ returns-clause-step g c =
     (binds_signs g.S.Store g.R.Source g.M.Message v mid c.bind_below.new.self c.args.name.now c.args.message.now c.bind_below.new.message
     (vec_capacity c.args.out.now) c.in_ok-level.level key (answered_value c.bind_below.result c.bind_below.new.out) keyed c.in_ok-check_open.ensures.open c.in_ok-check_open.ensures.stays
     unbound (short key keyed) at made.keeps made.spare made.does.0 binds)
+
+-- ---- the caches that it makes
+
+pub prepare-requires-clause-free : goal.prepare-requires-clause-free
+prepare-requires-clause-free g c key keyed =
+    let v = c.args.self.now in
+    let i = c.self.inside.ledger in
+    let own : i.key ≡ key = same_key v.records i.key key (ap (λ w. the_key w.records) (sym c.self.view_is) ∙ c.self.invariant.1) keyed in
+    let some = some_level c.deepest.result c.in_ok-level.level (sym c.ok_or.ensures.value ∙ c.in_ok-level.was) in
+    let at : deepest key.secret v.records ≡ Some c.in_ok-level.level = subst (λ (k : Key). deepest k.secret v.records ≡ Some c.in_ok-level.level) own
+    (ap (λ w. deepest i.key.secret w.records) (sym c.self.view_is) ∙ sym c.deepest.ensures ∙ some) in
+    (deepest_is key.secret v.records c.in_ok-level.level at).1
+
+pub returns-in_err-check_open-clause-caches : goal.returns-in_err-check_open-clause-caches
+returns-in_err-check_open-clause-caches g c key keyed =
+    let v = c.args.self.now in
+    let answer : c.from_residual.result ≡ Err c.in_err-check_open.field-0.0 = search rules in
+    refused_early key v.records _ _ _ c.from_residual.result c.in_err-check_open.field-0.0 answer c.in_err-check_open.ensures.early
+    c.in_err-check_open.ensures.early_repeat
+
+pub returns-in-Some-clause-caches : goal.returns-in-Some-clause-caches
+returns-in-Some-clause-caches g c other others =
+    let v = c.args.self.now in
+    let key = c.self.inside.ledger.key in
+    let keyed = ap (λ w. the_key w.records) (sym c.self.view_is) ∙ c.self.invariant.1 in
+    let own : key ≡ other = same_key v.records key other keyed others in
+    let is : IsBindingOf v.records c.in-Some.binding key c.args.name.now =
+    ap (λ w. binding_kept key.secret w.records c.args.name.now) (sym c.self.view_is) ∙ sym c.find.ensures ∙ c.in-Some.is in
+    c.repeat.ensures.caches other others c.args.name.now (subst (λ (k : Key). IsBindingOf v.records c.in-Some.binding k c.args.name.now) own is)
+
+pub returns-then-as_bytes-from-clause-caches : goal.returns-then-as_bytes-from-clause-caches
+returns-then-as_bytes-from-clause-caches g c key keyed =
+    let v = c.args.self.now in
+    let unbound = none_mapped (kept_of c.self.inside.ledger.key.secret v.records) (binding_at v.records c.args.name.now)
+    (ap (λ w. binding_kept c.self.inside.ledger.key.secret w.records c.args.name.now) (sym c.self.view_is) ∙ sym c.find.ensures ∙ is_none c.find.result c.in_default.not-Some) in
+    refused_new key v.records (binding_at v.records c.args.name.now) _ _ (Err LongName) LongName unbound refl refl
+
+pub returns-in_err-level-clause-caches : goal.returns-in_err-level-clause-caches
+returns-in_err-level-clause-caches g c key keyed =
+    let v = c.args.self.now in
+    let unbound = none_mapped (kept_of c.self.inside.ledger.key.secret v.records) (binding_at v.records c.args.name.now)
+    (ap (λ w. binding_kept c.self.inside.ledger.key.secret w.records c.args.name.now) (sym c.self.view_is) ∙ sym c.find.ensures ∙ is_none c.find.result c.in_default.not-Some) in
+    let (none, is) = none_fault c.deepest.result c.in_err-level.field-0.0 (sym c.ok_or.ensures.value ∙ c.in_err-level.was) in
+    let answer : c.from_residual-in_err-level.result ≡ Err c.in_err-level.field-0.0 = search rules in
+    refused_new key v.records (binding_at v.records c.args.name.now) _ _ c.from_residual-in_err-level.result c.in_err-level.field-0.0 unbound answer
+    (ap (is_unprepared is_before_caches) is)
+
+pub returns-in_err-prepare-clause-caches : goal.returns-in_err-prepare-clause-caches
+returns-in_err-prepare-clause-caches g c key keyed =
+    let v = c.args.self.now in
+    let unbound = none_mapped (kept_of c.self.inside.ledger.key.secret v.records) (binding_at v.records c.args.name.now)
+    (ap (λ w. binding_kept c.self.inside.ledger.key.secret w.records c.args.name.now) (sym c.self.view_is) ∙ sym c.find.ensures ∙ is_none c.find.result c.in_default.not-Some) in
+    let answer : c.from_residual-in_err-prepare.result ≡ Err c.in_err-prepare.field-0.0 = search rules in
+    refused_new key v.records (binding_at v.records c.args.name.now) _ _ c.from_residual-in_err-prepare.result c.in_err-prepare.field-0.0 unbound answer
+    c.in_err-prepare.ensures.refused
+
+pub returns-in_err-map_err-clause-caches : goal.returns-in_err-map_err-clause-caches
+returns-in_err-map_err-clause-caches g c key keyed =
+    let v = c.args.self.now in
+    let unbound = none_mapped (kept_of c.self.inside.ledger.key.secret v.records) (binding_at v.records c.args.name.now)
+    (ap (λ w. binding_kept c.self.inside.ledger.key.secret w.records c.args.name.now) (sym c.self.view_is) ∙ sym c.find.ensures ∙ is_none c.find.result c.in_default.not-Some) in
+    let some = some_level c.deepest.result c.in_ok-level.level (sym c.ok_or.ensures.value ∙ c.in_ok-level.was) in
+    let own = same_key v.records c.self.inside.ledger.key key (ap (λ w. the_key w.records) (sym c.self.view_is) ∙ c.self.invariant.1) keyed in
+    let at : deepest key.secret v.records ≡ Some c.in_ok-level.level = subst (λ (k : Key). deepest k.secret v.records ≡ Some c.in_ok-level.level) own
+    (ap (λ w. deepest c.self.inside.ledger.key.secret w.records) (sym c.self.view_is) ∙ sym c.deepest.ensures ∙ some) in
+    let whole = c.self-2.inside in
+    let same = ap (λ x. view_of whole.store whole.random whole.ledger x whole.is_open) c.check_current.ensures.caches ∙ c.self-2.view_is in
+    made_new key v.records (binding_at v.records c.args.name.now) c.in_ok-level.level _ _ c.from_residual-in_err-map_err.result unbound at
+    (subst (λ w. IsPrepared key v.records (Some c.in_ok-level.level) (length v.records) w.cached (vec_capacity c.prepare.new.out)) (sym same)
+    (c.in_ok-prepare.ensures.prepared key keyed))
+
+pub returns-clause-caches : goal.returns-clause-caches
+returns-clause-caches g c key keyed =
+    let v = c.args.self.now in
+    let unbound = none_mapped (kept_of c.self.inside.ledger.key.secret v.records) (binding_at v.records c.args.name.now)
+    (ap (λ w. binding_kept c.self.inside.ledger.key.secret w.records c.args.name.now) (sym c.self.view_is) ∙ sym c.find.ensures ∙ is_none c.find.result c.in_default.not-Some) in
+    let some = some_level c.deepest.result c.in_ok-level.level (sym c.ok_or.ensures.value ∙ c.in_ok-level.was) in
+    let own = same_key v.records c.self.inside.ledger.key key (ap (λ w. the_key w.records) (sym c.self.view_is) ∙ c.self.invariant.1) keyed in
+    let at : deepest key.secret v.records ≡ Some c.in_ok-level.level = subst (λ (k : Key). deepest k.secret v.records ≡ Some c.in_ok-level.level) own
+    (ap (λ w. deepest c.self.inside.ledger.key.secret w.records) (sym c.self.view_is) ∙ sym c.deepest.ensures ∙ some) in
+    let whole = c.self-2.inside in
+    let same = ap (λ x. view_of whole.store whole.random whole.ledger x whole.is_open) c.check_current.ensures.caches ∙ c.self-2.view_is in
+    made_new key v.records (binding_at v.records c.args.name.now) c.in_ok-level.level _ _ _ unbound at
+    (prepared_later key v.records c.in_ok-level.level (length v.records) c.prepare.new.self.cached c.bind_below.new.self.cached _
+    (c.in_ok-prepare.ensures.prepared key keyed)
+    (subst (λ w. KeepsDownTo c.in_ok-level.level w.cached c.bind_below.new.self.cached) same c.bind_below.ensures.keeps))
+
+pub returns-in-Some-clause-signed : goal.returns-in-Some-clause-signed
+returns-in-Some-clause-signed g c = anyway c.repeat.result (λ key keyed none.
+    let v = c.args.self.now in
+    let own = c.self.inside.ledger.key in
+    let is : IsBindingOf v.records c.in-Some.binding own c.args.name.now =
+    ap (λ w. binding_kept own.secret w.records c.args.name.now) (sym c.self.view_is) ∙ sym c.find.ensures ∙ c.in-Some.is in
+    absurd (never_bound own v.records c.args.name.now c.in-Some.binding is none))
+
+pub returns-clause-signed : goal.returns-clause-signed
+returns-clause-signed g c = on_ok c.bind_below.result (λ rest key keyed none.
+    let v = c.args.self.now in
+    let mid = c.prepare.new.self in
+    let made = c.in_ok-prepare.ensures.room key keyed in
+    let whole = c.self-2.inside in
+    let same = ap (λ x. view_of whole.store whole.random whole.ledger x whole.is_open) c.check_current.ensures.caches ∙ c.self-2.view_is in
+    let all : HasAll key mid.records c.in_ok-level.level mid.cached = subst (λ (l : List Record). HasAll key l c.in_ok-level.level mid.cached)
+    (sym made.keeps.records) (c.in_ok-prepare.ensures.prepared key keyed).caches in
+    subst (λ w. UnderKey w.records (λ k. HasAll k w.records c.in_ok-level.level w.cached
+    → HasAll k c.bind_below.new.self.records (bottom_of k.secret) c.bind_below.new.self.cached)) same rest key (ap the_key made.keeps.records ∙ keyed) all)
+    c.bind_below.ensures.caches

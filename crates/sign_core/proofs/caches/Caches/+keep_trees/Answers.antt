@@ -1,0 +1,66 @@
+use Rattle.std.proofs.Common.{◌≡◌, ◌∙◌, Some, ap, subst, sym, arith}
+use Rattle.sign_core.specs.Caches.{cache_at}
+use Rattle.sign_core.specs.Textbook.{trees_of}
+use Rattle.sign_core.specs.inner.Links.{MakesTrees, chain_trees}
+use Rattle.sign_core.proofs.KeptCaches.{kept_level, lacks_level, on_err, on_ok}
+use Rattle.sign_core.proofs.LinkParts.{IsUnder, is_under, top_level}
+use Rattle.sign_core.proofs.Signs.{is_none}
+use Rattle.sign_core.proofs.caches.Caches.+keep_trees.Goals.{In-Some, in-Some+in_ok-keep_trees, in_default}
+use Rattle.sign_core.proofs.caches.Caches.+keep_trees.Goals as goal
+
+-- an Extend's tree stands under another
+under : (g : _) (t : _) (c : In-Some g t) → IsUnder (chain_trees c.in-Chain.trees) c.args.ledger.now.records c.args.level c.args.place c.in-Some.made
+under g t c =
+    let a = c.args in
+    let r = c.requires in
+    is_under a.ledger.now.key (chain_trees c.in-Chain.trees) a.ledger.now.records a.level a.place c.in-Some.made r.legal r.keyed
+    (subst (MakesTrees a.ledger.now.key.secret) c.in-Chain.is r.trees) r.stands (sym c.made.ensures ∙ c.in-Some.is)
+
+pub overflow_sub-level : goal.overflow_sub-level
+overflow_sub-level g t c = (under g t (goal.at.overflow_sub-level g t c).In-Some).some
+
+pub keep_trees-requires : goal.keep_trees-requires
+keep_trees-requires g t c κs within =
+    let r = c.requires in
+    let below = under g t (goal.at.keep_trees-requires g t c).In-Some in
+    (omega (arith, c.decreases, below.some), (within, (r.legal, (r.keyed, (r.trees, (omega (arith, r.within_limit), below.parent))))))
+
+pub returns-clause-kept : goal.returns-clause-kept
+returns-clause-kept g t c =
+    let a = c.args in
+    let l = a.ledger.now in
+    let T = chain_trees c.in-Chain.trees in
+    let these : trees_of l.key.secret ≡ Some T = subst (MakesTrees l.key.secret) c.in-Chain.is c.requires.trees in
+    elim c.match-made.branch [
+      | in-Some+in_ok-keep_trees w ↦
+          on_ok c.keep_current.result
+          (kept_level l.key T l.records a.level a.before w.keep_trees.new.self c.keep_current.new.self these (λ some. w.in_ok-keep_trees.ensures.kept)
+          (λ k other. c.keep_current.ensures.others k other ∙ ap (λ x. cache_at x.levels k) w.self-is))
+          c.keep_current.ensures.there
+      | in_default w ↦
+          let top = top_level l.records a.level a.place c.requires.stands (sym c.made.ensures ∙ is_none c.made.result w.in_default.not-Some) in
+          on_ok c.keep_current.result
+          (kept_level l.key T l.records a.level a.before a.self.now c.keep_current.new.self these (λ some. absurd (omega (arith, some, top)))
+          (λ k other. c.keep_current.ensures.others k other ∙ ap (λ x. cache_at x.levels k) w.self-is))
+          c.keep_current.ensures.there
+    ]
+
+pub returns-clause-lacking : goal.returns-clause-lacking
+returns-clause-lacking g t c =
+    let a = c.args in
+    let l = a.ledger.now in
+    let T = chain_trees c.in-Chain.trees in
+    let these : trees_of l.key.secret ≡ Some T = subst (MakesTrees l.key.secret) c.in-Chain.is c.requires.trees in
+    elim c.match-made.branch [
+      | in-Some+in_ok-keep_trees w ↦
+          let below = (is_under l.key T l.records a.level a.place w.in-Some.made c.requires.legal c.requires.keyed these c.requires.stands
+          (sym c.made.ensures ∙ w.in-Some.is)).some in
+          on_err c.keep_current.result
+          (lacks_level l.key T l.records a.level a.before a.self.now c.match-made.self these
+          (ap (λ x. cache_at x.levels a.level) w.self-is ∙ w.keep_trees.ensures.others a.level (omega (arith, below))))
+          c.keep_current.ensures.lacking
+      | in_default w ↦
+          on_err c.keep_current.result
+          (lacks_level l.key T l.records a.level a.before a.self.now c.match-made.self these (ap (λ x. cache_at x.levels a.level) w.self-is))
+          c.keep_current.ensures.lacking
+    ]
