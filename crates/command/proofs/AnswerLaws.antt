@@ -55,5 +55,5 @@ pub laws : ListingLaw → AnswerLaws
 laws law = record {
   lower = line_is_lower;
   help = help_has_no_answer;
-  listing = λ a b same. ap (option_map listing_lines) (law a b same);
+  listing = λ a b behind same. ap (option_map (λ shown. listing_lines shown behind)) (law a b same);
 }

@@ -13,6 +13,7 @@ pub mod KeyLines
 pub mod LevelText
 pub mod Reading
 pub mod Offsets
+pub mod PartCalls
 pub mod Pairs
 pub mod PairsReading
 pub mod PairTexts
@@ -27,3 +28,4 @@ pub mod Numbers
 pub mod ProgressLaws
 pub mod SigningReads
 pub mod ServeLines
+pub mod Alarms

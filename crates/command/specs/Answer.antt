@@ -1,5 +1,5 @@
 -- The line that reports each answer, and the exit status.
-use Rattle.std.specs.Prelude.{ℕ, List, codes, decimal, ◌++◌, Result, Ok, Err, ◌≡◌, ◌⊎◌}
+use Rattle.std.specs.Prelude.{ℕ, List, codes, decimal, ◌++◌, Option, Result, Ok, Err, ◌≡◌, ◌⊎◌}
 use Rattle.command.specs.declared.answer.Done.{Done}
 use Rattle.command.specs.declared.answer.Done.TheVariants.{Audited, Checked, Listed, Migrated, Published, Retired}
 use Rattle.command.specs.declared.answer.Done.TheVariants.{Signed, Verified}
@@ -21,7 +21,7 @@ use Rattle.command.specs.Refusal.{refusal_line}
 use Rattle.state_file.specs.Slot.{version_code}
 use Rattle.typecodes.specs.Spec.{spec_text}
 use Rattle.key_audit.specs.Listing.{Shown, names_among, shown_of_listing}
-use Rattle.command.specs.Output.{Taken, WritesText, Fails, entry_lines, level_lines, moved_line}
+use Rattle.command.specs.Output.{Taken, WritesText, Fails, behind_line, entry_lines, level_lines, moved_line}
 
 -- the lines of a report, after the bytes of the public key
 abbrev pub report_lines : (public : List ℕ) → Report → List ℕ
@@ -30,12 +30,13 @@ report_lines public report =
     ++ codes "\ntag ") ++ encode_lower report.tag) ++ codes "\n") ++ level_lines 0 report.left.items
     ++ moved_line report.moved
 
--- the key's spec, the version of the file, the free leaves of each level, the number of names, and each record
-abbrev pub listing_lines : Shown → List ℕ
-listing_lines shown =
-    ((((((((codes "spec " ++ spec_text shown.spec) ++ codes "\nformat ") ++ decimal (version_code shown.version))
+-- the key's spec, the version of the file, the free leaves of each level, the number of names, each record, and the
+-- last one's slot if bytes stand behind it
+abbrev pub listing_lines : Shown → (behind : Option ℕ) → List ℕ
+listing_lines shown behind =
+    (((((((((codes "spec " ++ spec_text shown.spec) ++ codes "\nformat ") ++ decimal (version_code shown.version))
     ++ codes "\n") ++ level_lines 0 shown.left) ++ codes "names ") ++ decimal (names_among shown.entries))
-    ++ codes "\n") ++ entry_lines 0 shown.entries
+    ++ codes "\n") ++ entry_lines 0 shown.entries) ++ behind_line behind
 
 abbrev pub done_lines : Done → List ℕ
 done_lines Verified = codes "verified\n"
@@ -43,7 +44,7 @@ done_lines (Retired upto) = codes "retired upto " ++ decimal upto ++ codes "\n"
 done_lines (Published public) = codes "public " ++ encode_lower public.items ++ codes "\n"
 done_lines (Signed name size) = codes "signed " ++ name ++ codes " " ++ decimal size ++ codes " bytes\n"
 done_lines (Audited public report) = report_lines public.items report
-done_lines (Listed listing) = listing_lines (shown_of_listing listing)
+done_lines (Listed listing) = listing_lines (shown_of_listing listing) listing.behind
 done_lines (Checked count) = codes "given " ++ decimal count ++ codes " signatures, no leaf twice\n"
 done_lines (Migrated count) = codes "migrated " ++ decimal count ++ codes " records\n"
 

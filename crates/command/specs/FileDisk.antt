@@ -1,14 +1,15 @@
 -- How a disk reads and writes a file of the machine: each call may do only a part of what is requested.
-use Rattle.std.specs.Prelude.{ℕ, List, ◌≡◌, ◌+◌, ◌-◌, [], ◌∷◌, ◌++◌, ◌≤◌, ◌^◌, ◌⊎◌, length, drop, Result, Ok, Err}
-use Rattle.std.specs.IoError.{error_kind}
-use Rattle.std.specs.declared.io.Error.{Error}
+use Rattle.std.specs.Prelude.{ℕ, Bool, List, ◌≡◌, ◌+◌, ◌-◌, [], ◌∷◌, ◌++◌, ◌≤◌, ◌^◌, ◌⊎◌, length, drop, Result, Ok, Err}
 use Rattle.std.specs.declared.io.ErrorKind.{ErrorKind}
+use Rattle.state_file.specs.Disk.{DiskState}
 use Rattle.state_file.specs.declared.disk.DiskFault.{DiskFault}
 use Rattle.state_file.specs.declared.disk.DiskFault.TheVariants.{Failed, PastEnd, OutOfMemory}
 use Rattle.typecodes.specs.Message.{GivesAll, GivesText, ReadFails, Transition, size_of}
 use Rattle.command.specs.declared.file_disk.FileDisk.{FileDisk}
+use Rattle.command.specs.declared.offset_file.OffsetFile as offset_file
 use Rattle.command.specs.declared.refusal.Refusal.{Refusal}
 use Rattle.command.specs.declared.refusal.Refusal.TheVariants.{FileFailed, Locked}
+use Rattle.command.specs.declared.state.StateAlarm.{StateAlarm}
 use Rattle.command.specs.Trace.{Happening, measured, read_at, synced, written_at}
 
 abbrev pub file_of : {F : Type 0} → FileDisk F → F
@@ -21,6 +22,23 @@ failures_of disk = disk.failures
 -- reads past the end among them
 abbrev pub past_ends_of : {F : Type 0} → FileDisk F → ℕ
 past_ends_of disk = disk.past_ends
+
+-- whether the disk's file is honest, and its state, moment and leavings
+abbrev pub honest_of : {F : Type 0} → offset_file.Ghosts F → FileDisk F → Bool
+honest_of f disk = f.honest disk.file
+
+abbrev pub state_of : {F : Type 0} → offset_file.Ghosts F → FileDisk F → DiskState
+state_of f disk = f.state disk.file
+
+abbrev pub moment_of : {F : Type 0} → offset_file.Ghosts F → FileDisk F → ℕ
+moment_of f disk = f.moment disk.file
+
+abbrev pub left_since_of : {F : Type 0} → offset_file.Ghosts F → FileDisk F → ℕ → List ℕ → Type 0
+left_since_of f disk = f.left_since disk.file
+
+-- the slots that an alarm was told of, the last one first
+abbrev pub slots_of : StateAlarm → List ℕ
+slots_of alarm = alarm.slots
 
 -- The state file can't be opened (53), or is locked (54).
 abbrev pub IsStateRefusal : Refusal → Type 0
@@ -43,11 +61,6 @@ OpensState path (Err refusal) = IsStateRefusal refusal
 abbrev pub OpensUnlocked : (path : List ℕ) → Result OpenedState Refusal → Type 0
 OpensUnlocked path (Ok file) = file ≡ opened_at path
 OpensUnlocked path (Err refusal) = refusal ≡ FileFailed
-
--- the answer, with only the kind of its error
-abbrev pub kept : {A : Type 0} → Result A Error → Result A ErrorKind
-kept (Ok value) = Ok value
-kept (Err error) = Err (error_kind error)
 
 -- ---- a part of the bytes, and then the rest
 

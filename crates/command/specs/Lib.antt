@@ -4,6 +4,7 @@ pub mod Argument
 pub mod Audit
 pub mod AuditGiven
 pub mod FileDisk
+pub mod OffsetFile
 pub mod FileId
 pub mod Files
 pub mod KeyFile

@@ -4,7 +4,7 @@ use Rattle.std.specs.List.{fold}
 use Rattle.std.specs.Io.KnownBytes.{Appends}
 use Rattle.command.specs.declared.output.Part.{Part}
 use Rattle.command.specs.declared.output.Part.TheVariants.{Text, Number, Bytes, Hex, Levels, Moved as MovedPart}
-use Rattle.command.specs.declared.output.Part.TheVariants.{Spec, Entries}
+use Rattle.command.specs.declared.output.Part.TheVariants.{Spec, Entries, Behind}
 use Rattle.hex.specs.Hex.{encode_lower}
 use Rattle.key_audit.specs.declared.listing.Entry.{Entry}
 use Rattle.key_audit.specs.declared.listing.Entry.TheVariants.{Key, Tree, Name, Retired, Moved}
@@ -22,6 +22,11 @@ level_lines first (left ∷ below) = level_line first left ++ level_lines (first
 abbrev pub moved_line : Option ℕ → List ℕ
 moved_line None = []
 moved_line (Some version) = codes "moved " ++ decimal version ++ codes "\n"
+
+-- the last record's slot, if bytes stand behind it
+abbrev pub behind_line : Option ℕ → List ℕ
+behind_line None = []
+behind_line (Some slot) = codes "behind " ++ decimal slot ++ codes "\n"
 
 abbrev pub entry_text : Entry → List ℕ
 entry_text Key = codes " key"
@@ -48,6 +53,7 @@ part_text (Levels left) = level_lines 0 left.now
 part_text (MovedPart version) = moved_line version
 part_text (Spec spec) = spec_text spec.now
 part_text (Entries entries) = entry_lines 0 entries.now
+part_text (Behind slot) = behind_line slot
 
 abbrev pub text_of : List Part → List ℕ
 text_of parts = fold (λ text part. text ++ part_text part) [] parts

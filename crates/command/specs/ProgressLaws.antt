@@ -31,7 +31,7 @@ pub record LineLaws : Type 0 where
   pub left : (spent made leaves seconds : ℕ)
       → (seconds_left spent made leaves ≤ seconds) ↔ (spent * (leaves - made) / made ≤ 1000 * seconds)
   pub nothing_left : (spent leaves : ℕ) → seconds_left spent leaves leaves ≡ 0
-  -- it leaves a blank on a line of so many columns, or is the shortest there is
+  -- it leaves a blank on a line of `columns`, or is the shortest there is
   pub fits : (has_blocks : Bool) (columns level made leaves seconds : ℕ)
       → (characters (line_text has_blocks columns level made leaves seconds) < columns)
       ⊎ (line_text has_blocks columns level made leaves seconds ≡ codes "   " ++ short_text made leaves seconds)

@@ -5,3 +5,4 @@ pub mod Line
 pub mod ListingText
 pub mod RandomFile
 pub mod Sign
+pub mod StateFile

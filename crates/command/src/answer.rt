@@ -109,8 +109,8 @@ fn print_report<'a, O: Output>(
 }
 
 fn print_listing<O: Output>(listing: &Listing, output: &mut O) -> io::Result<()>
-    ensures { Prints (listing_lines (shown_of_listing listing.now)) (taken O.contents O.failures output.old)
-        (taken O.contents O.failures output.new) result }
+    ensures { Prints (listing_lines (shown_of_listing listing.now) listing.now.behind)
+        (taken O.contents O.failures output.old) (taken O.contents O.failures output.new) result }
 {
     let names = count_names(listing.entries.as_slice());
     output.print(&[
@@ -124,6 +124,7 @@ fn print_listing<O: Output>(listing: &Listing, output: &mut O) -> io::Result<()>
         Part::Number(names as u64),
         Part::Text("\n"),
         Part::Entries(listing.entries.as_slice()),
+        Part::Behind(listing.behind),
     ])
 }
 

@@ -93,7 +93,8 @@ impl<'a> Audit<'a> {
             self.now.state.now self.now.anchor result (D.trace folder.old) (D.trace folder.new) }
     {
         let disk = folder.open_state_to_read(self.state)?;
-        let (disk, audited) = key_file::audit(alloc, disk, self.anchor);
+        let mut alarm = folder.alarm(self.state);
+        let (disk, audited) = key_file::audit(alloc, disk, self.anchor, &mut alarm);
         folder.close_state(disk);
         answer_to(audited)
     }

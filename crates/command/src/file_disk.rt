@@ -1,55 +1,16 @@
-//! A disk over a file of the machine.
+//! A disk over an open file.
 
-ghost use Rattle.std.specs.Prelude.{◌≡◌, ◌++◌, ◌∷◌, ◌<◌, ◌≤◌, [], ℕ, List, false, length, ⊤};
-ghost use Rattle.std.specs.Io.{ReadsAtMost, WritesAtMost};
-ghost use Rattle.state_file.specs.Disk.{Counts, is_failure, is_past_end, settled};
-ghost use Rattle.typecodes.specs.Message.{read_outcome};
-ghost use Rattle.command.specs.Trace.{Happening, measured, read_at, synced, written_at};
-ghost use Rattle.command.specs.FileDisk.{Measures, ReadsAt, SyncsAll, WritesAt, kept};
-ghost use Rattle.command.specs.inner.FileDisk.{never};
+ghost use Rattle.std.specs.Prelude.{◌≡◌, ◌+◌, ◌<◌, ◌≤◌, ℕ, List, IsTrue, length};
+ghost use Rattle.std.specs.Prelude.{IfOk, OnOk, slice_range};
+ghost use Rattle.state_file.specs.Disk.{CallsDisk, Counts, IsSteady, MayLeave, Syncs, WritesBytes};
+ghost use Rattle.state_file.specs.Disk.{is_failure, is_past_end};
+ghost use Rattle.command.specs.FileDisk.{Measures, ReadsAt, SyncsAll, WritesAt};
+ghost use Rattle.command.specs.inner.FileDisk.{DiskMeasures, DiskReads, DiskSyncs, DiskWrites};
 
+use crate::offset_file::OffsetFile;
 use state_file::{Disk, DiskFault};
 use std::io;
-use std::io::ErrorKind;
 use typecodes::{Count, Message, Sink, read_full, write_all};
-
-/// A file read and written at offsets. Each method makes one call of the system, and notes it. Reading an open gate of
-/// a file that isn't locked may take a second call, for the length: a gate opened since the length was last asked reads
-/// as closed.
-pub trait OffsetFile {
-    // what happened to it, in order
-    ghost trace: { Self → List Happening };
-
-    /// Its length in bytes.
-    fn len(&mut self) -> io::Result<u64>
-        ensures { trace self.new ≡ trace self.old ++ measured (kept result) ∷ [] };
-
-    /// Reads into the buffer from offset `at` on, as `Read::read` does.
-    fn read_at(&mut self, at: u64, into: &mut [u8]) -> io::Result<usize>
-        ensures bound { ReadsAtMost result into.new }
-        ensures trace { trace self.new ≡ trace self.old
-            ++ read_at at (length into.old) (read_outcome result into.new) ∷ [] };
-
-    /// Writes a beginning of these bytes at offset `at`, as `Write::write` does.
-    fn write_at(&mut self, at: u64, bytes: &[u8]) -> io::Result<usize>
-        ensures bound { WritesAtMost result bytes.now }
-        ensures trace { trace self.new ≡ trace self.old
-            ++ written_at at bytes.now (read_outcome result bytes.now) ∷ [] };
-
-    /// Syncs the content and the length.
-    fn sync(&mut self) -> io::Result<()>
-        ensures { trace self.new ≡ trace self.old ++ synced (kept result) ∷ [] };
-}
-
-/// The answer, with only the kind of its error.
-pub fn kind_kept<T: Copy>(answer: &io::Result<T>) -> Result<T, ErrorKind>
-    ensures { result ≡ kept answer.now }
-{
-    match answer {
-        Ok(value) => Ok(*value),
-        Err(error) => Err(error.kind()),
-    }
-}
 
 // A file from an offset on; each call begins where the last one ended.
 #[derive(Drop)]
@@ -64,7 +25,7 @@ impl<F: OffsetFile> Message for AtOffset<'_, F> {
 
     ghost remaining = { λ _. None };
 
-    ghost request = { ReadsNext F.trace };
+    ghost request = { ReadsNext F.OffsetFile };
 
     fn read_into(&mut self, buffer: &mut [u8]) -> io::Result<usize> {
         let n = self.file.read_at(self.at, buffer)?;
@@ -79,7 +40,7 @@ impl<F: OffsetFile> Sink for AtOffset<'_, F> {
 
     ghost contents = { λ _. None };
 
-    ghost transition = { WritesNext F.trace };
+    ghost transition = { WritesNext F.OffsetFile };
 
     fn write_from(&mut self, bytes: &[u8]) -> io::Result<usize> {
         let n = self.file.write_at(self.at, bytes)?;
@@ -88,8 +49,15 @@ impl<F: OffsetFile> Sink for AtOffset<'_, F> {
     }
 }
 
+fn length_of<F: OffsetFile>(file: &mut F) -> Result<u64, DiskFault>
+    ensures { DiskMeasures F.OffsetFile result file.old file.new }
+{
+    file.len().map_err(|_| DiskFault::Failed)
+}
+
 fn fill_at<F: OffsetFile>(file: &mut F, at: u64, into: &mut [u8]) -> Result<(), DiskFault>
-    ensures { ReadsAt at into.new result (F.trace file.old) (F.trace file.new) }
+    requires { 0 < length into.old }
+    ensures { DiskReads F.OffsetFile at into.new result file.old file.new }
 {
     if at.checked_add(into.len() as u64).is_none() {
         return Err(DiskFault::PastEnd);
@@ -105,7 +73,7 @@ fn fill_at<F: OffsetFile>(file: &mut F, at: u64, into: &mut [u8]) -> Result<(), 
 }
 
 fn write_all_at<F: OffsetFile>(file: &mut F, at: u64, bytes: &[u8]) -> Result<(), DiskFault>
-    ensures { WritesAt at bytes.now result (F.trace file.old) (F.trace file.new) }
+    ensures { DiskWrites F.OffsetFile at bytes.now result file.old file.new }
 {
     if at.checked_add(bytes.len() as u64).is_none() {
         return Err(DiskFault::Failed);
@@ -116,8 +84,13 @@ fn write_all_at<F: OffsetFile>(file: &mut F, at: u64, bytes: &[u8]) -> Result<()
     }
 }
 
-/// A disk over a file of the machine. Contracts say which calls are made. That it is honest, so that synced bytes stay,
-/// can't be known of such a file, and no contract says it.
+fn sync_file<F: OffsetFile>(file: &mut F) -> Result<(), DiskFault>
+    ensures { DiskSyncs F.OffsetFile result file.old file.new }
+{
+    file.sync().map_err(|_| DiskFault::Failed)
+}
+
+/// A disk over a file. Contracts say which calls are made. It is honest exactly where the file is.
 #[derive(Drop)]
 pub struct FileDisk<F> {
     file: F,
@@ -163,49 +136,75 @@ fn counted_refusal<T>(
 
 impl<F: OffsetFile> Disk for FileDisk<F> {
     ghost use Rattle.command.specs.FileDisk.{failures_of, file_of, past_ends_of};
+    ghost use Rattle.command.specs.FileDisk.{honest_of, left_since_of, moment_of, state_of};
 
-    ghost state = { λ _. settled [] };
+    ghost state = { state_of F.OffsetFile };
 
-    ghost moment = { λ _. 0 };
+    ghost moment = { moment_of F.OffsetFile };
 
-    ghost left_since = { λ _ _ _. ⊤ };
+    ghost left_since = { left_since_of F.OffsetFile };
 
     ghost failures = { failures_of };
 
     ghost past_ends = { past_ends_of };
 
-    ghost honest = { λ _. false };
+    ghost honest = { honest_of F.OffsetFile };
 
-    ghost gives_bytes = { λ _ is_honest. never is_honest };
+    ghost gives_bytes = { λ disk is_honest. F.gives_bytes (file_of disk) is_honest };
 
-    ghost shows = { λ _ is_honest. never is_honest };
+    ghost shows = { λ disk is_honest. F.shows (file_of disk) is_honest };
 
-    ghost counts_now = { λ _ _ _ is_honest _ _. never is_honest };
+    ghost counts_now = { λ disk t c is_honest early left. F.counts_now (file_of disk) t c is_honest early left };
 
-    ghost only_now = { λ _ _ is_honest _. never is_honest };
+    ghost only_now = { λ disk c is_honest since. F.only_now (file_of disk) c is_honest since };
 
     fn len(&mut self) -> Result<u64, DiskFault>
         ensures measures { Measures result (F.trace (file_of self.old)) (F.trace (file_of self.new)) }
-        ensures failures { Counts is_failure (failures_of self.old) (failures_of self.new) result }
+        ensures length { IsTrue (F.honest (file_of self.old)) → IsSteady (F.state (file_of self.old)) →
+            IfOk result (λ n. n ≡ length (F.state (file_of self.old)).content) }
+        ensures wavers { IsTrue (F.honest (file_of self.old)) →
+            IfOk result (λ n. (c : List ℕ) × MayLeave (F.state (file_of self.old)) c × (n ≡ length c)) }
+        ensures keeps_state { IsTrue (F.honest (file_of self.old)) →
+            F.state (file_of self.new) ≡ F.state (file_of self.old) }
         ensures past_ends { past_ends_of self.new ≡ past_ends_of self.old }
+        ensures call { CallsDisk (honest_of F.OffsetFile) (state_of F.OffsetFile) (moment_of F.OffsetFile)
+            (left_since_of F.OffsetFile) failures_of self.old self.new result }
     {
-        let answer = self.file.len().map_err(|_| DiskFault::Failed);
+        let answer = length_of(&mut self.file);
         counted_refusal(answer, &mut self.failures, &mut self.past_ends)
     }
 
     fn read_at(&mut self, at: u64, into: &mut [u8]) -> Result<(), DiskFault>
+        requires { 0 < length into.old }
         ensures reads { ReadsAt at into.new result (F.trace (file_of self.old)) (F.trace (file_of self.new)) }
-        ensures failures { Counts is_failure (failures_of self.old) (failures_of self.new) result }
+        ensures within { IsTrue (F.honest (file_of self.old)) → IsSteady (F.state (file_of self.old)) →
+            OnOk result (at + length into.old ≤ length (F.state (file_of self.old)).content) }
+        ensures bytes { IsTrue (F.honest (file_of self.old)) → IsSteady (F.state (file_of self.old)) →
+            OnOk result (into.new ≡ slice_range (F.state (file_of self.old)).content at (at + length into.old)) }
+        ensures past_end { IsTrue (F.honest (file_of self.old)) → IsSteady (F.state (file_of self.old)) →
+            result ≡ Err DiskFault.PastEnd →
+            length (F.state (file_of self.old)).content < at + length into.old }
+        ensures wavers { IsTrue (F.honest (file_of self.old)) →
+            OnOk result ((c : List ℕ) × MayLeave (F.state (file_of self.old)) c ×
+            (at + length into.old ≤ length c) × (into.new ≡ slice_range c at (at + length into.old))) }
         ensures past_ends { Counts is_past_end (past_ends_of self.old) (past_ends_of self.new) result }
+        ensures keeps_state { IsTrue (F.honest (file_of self.old)) →
+            F.state (file_of self.new) ≡ F.state (file_of self.old) }
+        ensures call { CallsDisk (honest_of F.OffsetFile) (state_of F.OffsetFile) (moment_of F.OffsetFile)
+            (left_since_of F.OffsetFile) failures_of self.old self.new result }
     {
         let answer = fill_at(&mut self.file, at, into);
         counted_refusal(answer, &mut self.failures, &mut self.past_ends)
     }
 
     fn write_at(&mut self, at: u64, bytes: &[u8]) -> Result<(), DiskFault>
+        requires { 0 < length bytes.now }
         ensures writes { WritesAt at bytes.now result (F.trace (file_of self.old)) (F.trace (file_of self.new)) }
-        ensures failures { Counts is_failure (failures_of self.old) (failures_of self.new) result }
+        ensures written { IsTrue (F.honest (file_of self.old)) →
+            WritesBytes at bytes.now (F.state (file_of self.old)) (F.state (file_of self.new)) result }
         ensures past_ends { past_ends_of self.new ≡ past_ends_of self.old }
+        ensures call { CallsDisk (honest_of F.OffsetFile) (state_of F.OffsetFile) (moment_of F.OffsetFile)
+            (left_since_of F.OffsetFile) failures_of self.old self.new result }
     {
         let answer = write_all_at(&mut self.file, at, bytes);
         counted_refusal(answer, &mut self.failures, &mut self.past_ends)
@@ -213,10 +212,13 @@ impl<F: OffsetFile> Disk for FileDisk<F> {
 
     fn sync(&mut self) -> Result<(), DiskFault>
         ensures syncs { SyncsAll result (F.trace (file_of self.old)) (F.trace (file_of self.new)) }
-        ensures failures { Counts is_failure (failures_of self.old) (failures_of self.new) result }
+        ensures synced { IsTrue (F.honest (file_of self.old)) →
+            Syncs (F.state (file_of self.old)) (F.state (file_of self.new)) result }
         ensures past_ends { past_ends_of self.new ≡ past_ends_of self.old }
+        ensures call { CallsDisk (honest_of F.OffsetFile) (state_of F.OffsetFile) (moment_of F.OffsetFile)
+            (left_since_of F.OffsetFile) failures_of self.old self.new result }
     {
-        let answer = self.file.sync().map_err(|_| DiskFault::Failed);
+        let answer = sync_file(&mut self.file);
         counted_refusal(answer, &mut self.failures, &mut self.past_ends)
     }
 }

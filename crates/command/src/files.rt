@@ -18,7 +18,7 @@ ghost use Rattle.command.specs.declared.trace.Role.{Role as FileRole};
 
 use crate::refusal::Refusal;
 use crate::trace::{Role, Traced};
-use sign_core::{AnyPublic, KeyFault, Source};
+use sign_core::{Alarm, AnyPublic, KeyFault, Source};
 use state_file::Disk;
 use std::alloc::{AllocError, Global};
 use std::convert::Infallible;
@@ -91,6 +91,9 @@ pub trait SignerFolder<'a>: LineFiles<'a> + Outlet {
     /// The source over a file of random bytes.
     type Random: Source + Drop;
 
+    /// What warns the user of a state file.
+    type Alarm: Alarm + Drop;
+
     // opening the state file at this path may give this disk
     ghost is_opened: { List ℕ → Self.Disk → Type 0 };
 
@@ -132,6 +135,10 @@ pub trait SignerFolder<'a>: LineFiles<'a> + Outlet {
         ensures content { KeepsOtherContents path.now (Self.content self.old) (Self.content self.new) }
         ensures opened { IfOk result (is_opened path.now) }
         ensures err { IfErr result IsStateRefusal };
+
+    /// What warns the user of the state file at this path. It was told of nothing yet.
+    fn alarm(&self, path: &'a str) -> Self::Alarm
+        ensures { Self.Alarm.slots result ≡ [] };
 
     /// Closes a state file, which frees its lock, if it has one. `is_closed` says nothing of the files of a `Machine`.
     /// Nothing says that the files of `audit-given` are closed.

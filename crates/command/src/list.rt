@@ -58,7 +58,8 @@ impl<'a> ListState<'a> {
             self.now.state.now result (D.trace folder.old) (D.trace folder.new) }
     {
         let disk = folder.open_state_unlocked(self.state)?;
-        let (disk, listed) = key_file::list(alloc, disk);
+        let mut alarm = folder.alarm(self.state);
+        let (disk, listed) = key_file::list(alloc, disk, &mut alarm);
         folder.close_state(disk);
         answer_to(listed)
     }

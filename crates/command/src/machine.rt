@@ -12,7 +12,7 @@ use crate::key_start::has_key;
 use crate::random_file::RandomFile;
 use crate::refusal::Refusal;
 use crate::standard::Standard;
-use crate::state::{Access, StateFile};
+use crate::state::{Access, StateAlarm, StateFile};
 use crate::target::{NotReplaced, Target, replace};
 use crate::trace::{Event, Role, Trace, Traced};
 use sign_core::RngSource;
@@ -334,6 +334,8 @@ impl<'a, R: Files<File = File>> SignerFolder<'a> for Machine<'a, R> {
 
     type Random = RngSource<RandomFile<MachineFile<'a>>>;
 
+    type Alarm = StateAlarm<'a>;
+
     // nothing happened to it yet; no more is known of a disk over a file of the machine
     ghost is_opened = { λ path disk. file_of disk ≡ opened_at path };
 
@@ -402,6 +404,10 @@ impl<'a, R: Files<File = File>> SignerFolder<'a> for Machine<'a, R> {
                 Err(refusal)
             }
         }
+    }
+
+    fn alarm(&self, path: &'a str) -> StateAlarm<'a> {
+        StateAlarm::new(self.standard, path)
     }
 
     fn close_state(&mut self, disk: FileDisk<StateFile<'a>>) {

@@ -19,9 +19,9 @@
 //! - the answer: `answer`, `refusal`, `listing_text` and `hex_text`, written to `output`
 //! - a signer: `key_file` over the disk of a state file, `signing` over any store
 //! - files: `files` has the traits, `trace` what contracts see of the calls
-//! - the machine: `machine`, `standard` (its streams, and what is said of failed calls), `state`, `file_disk` and
-//!   `random_file`; `file_id` (which file a path leads to), `target` (how a file is written), `key_start` (whether it
-//!   has a key)
+//! - the machine: `machine`, `standard` (its streams, and what is said of failed calls), `state`, `offset_file`,
+//!   `file_disk` and `random_file`; `file_id` (which file a path leads to), `target` (how a file is written),
+//!   `key_start` (whether it has a key)
 //! - `progress`: the line that a terminal shows of long work, in the `foreground` alone
 #![tactic(auto)]
 
@@ -44,6 +44,7 @@ mod machine;
 mod make;
 mod migrate;
 mod number;
+mod offset_file;
 mod output;
 mod program;
 mod progress;

@@ -85,7 +85,8 @@ impl<'a> Migrate<'a> {
     {
         match folder.open_or_make_state(self.new, NewContent::Records) {
             Ok(new) => {
-                let (old, new, migrated) = key_file::migrate(alloc, old, new);
+                let mut alarm = folder.alarm(self.old);
+                let (old, new, migrated) = key_file::migrate(alloc, old, new, &mut alarm);
                 folder.close_state(new);
                 folder.close_state(old);
                 answer_to(migrated)

@@ -2,8 +2,8 @@
 
 ghost use Rattle.std.specs.Prelude.{◌≡◌, ℕ, OnOk};
 ghost use Rattle.std.specs.Io.KnownBytes.{Appends};
-ghost use Rattle.command.specs.Output.{CountsFailure, Prints, level_line, level_lines, part_text, taken_of};
-ghost use Rattle.command.specs.Output.{moved_line, text_of};
+ghost use Rattle.command.specs.Output.{CountsFailure, Prints, behind_line, level_line, level_lines, part_text};
+ghost use Rattle.command.specs.Output.{moved_line, taken_of, text_of};
 
 use crate::hex_text::write_hex;
 use crate::listing_text::{write_entries, write_spec};
@@ -31,6 +31,8 @@ pub enum Part<'a> {
     Spec(&'a Spec),
     /// A line for each of a key's records; record 0 is the first.
     Entries(&'a [Entry]),
+    /// A line with the last record's slot, if bytes stand behind it; nothing for None.
+    Behind(Option<u32>),
 }
 
 /// A writer of the program's texts. As a `Write` it takes the replies of `serve`, which aren't texts.
@@ -110,6 +112,7 @@ fn write_part<W: Write>(writer: &mut W, part: &Part<'_>) -> io::Result<()>
         Part::Moved(version) => write_moved(writer, *version),
         Part::Spec(spec) => write_spec(writer, spec),
         Part::Entries(entries) => write_entries(writer, entries),
+        Part::Behind(slot) => write_behind(writer, *slot),
     }
 }
 
@@ -140,6 +143,17 @@ fn write_moved<W: Write>(writer: &mut W, version: Option<u16>) -> io::Result<()>
     };
     writer.write_all("moved ".as_bytes())?;
     writer.write_fmt(u64::from(version))?;
+    writer.write_all("\n".as_bytes())
+}
+
+fn write_behind<W: Write>(writer: &mut W, slot: Option<u32>) -> io::Result<()>
+    ensures { OnOk result (Appends (W.contents writer.old) (W.contents writer.new) (behind_line slot)) }
+{
+    let Some(slot) = slot else {
+        return Ok(());
+    };
+    writer.write_all("behind ".as_bytes())?;
+    writer.write_fmt(u64::from(slot))?;
     writer.write_all("\n".as_bytes())
 }
 

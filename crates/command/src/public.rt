@@ -64,7 +64,8 @@ impl<'a> Public<'a> {
             self.now.state.now self.now.public.now result (D.trace folder.old) (D.trace folder.new) }
     {
         let disk = folder.open_state_unlocked(self.state)?;
-        let (disk, audited) = key_file::audit(alloc, disk, None);
+        let mut alarm = folder.alarm(self.state);
+        let (disk, audited) = key_file::audit(alloc, disk, None, &mut alarm);
         let published = publish_audited(folder, self.public, audited);
         folder.close_state(disk);
         answer_to(published)

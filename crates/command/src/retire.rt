@@ -82,7 +82,8 @@ impl<'a> Retire<'a> {
             result (D.trace folder.old) (D.trace folder.new) }
     {
         let disk = folder.open_state(self.state)?;
-        let (disk, retired) = key_file::retire(alloc, disk, self.upto);
+        let mut alarm = folder.alarm(self.state);
+        let (disk, retired) = key_file::retire(alloc, disk, self.upto, &mut alarm);
         folder.close_state(disk);
         match retired {
             Ok(()) => Ok(Done::Retired(self.upto)),

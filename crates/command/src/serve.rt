@@ -101,7 +101,10 @@ impl<'a> Serve<'a> {
             result.1 (D.trace folder.old) (D.trace folder.new) }
     {
         match folder.open_random(self.random) {
-            Ok(random) => key_file::serve(alloc, disk, random, input, output, progress),
+            Ok(random) => {
+                let mut alarm = folder.alarm(self.state);
+                key_file::serve(alloc, disk, random, input, output, &mut alarm, progress)
+            }
             Err(refusal) => (disk, Err(refusal)),
         }
     }

@@ -129,6 +129,7 @@ impl<'a> Sign<'a> {
         match self.open_files(folder) {
             Ok((message, random)) => {
                 let mut message = message;
+                let mut alarm = folder.alarm(self.state);
                 sign_file(
                     alloc,
                     folder,
@@ -137,6 +138,7 @@ impl<'a> Sign<'a> {
                     name,
                     &mut message,
                     self.out,
+                    &mut alarm,
                     progress,
                 )
             }
@@ -166,6 +168,7 @@ fn sign_file<'a, D: SignerFolder<'a>, P: TreeProgress>(
     name: &Name,
     message: &mut D::File,
     out: &str,
+    alarm: &mut D::Alarm,
     progress: &P,
 ) -> (D::Disk, Result<usize, Refusal>)
     requires { D.File.role message.old ≡ Role.Message }
@@ -181,6 +184,7 @@ fn sign_file<'a, D: SignerFolder<'a>, P: TreeProgress>(
         name,
         message,
         &mut signature,
+        alarm,
         progress,
     );
     match signed {
@@ -198,6 +202,7 @@ fn read_and_sign<'a, D: SignerFolder<'a>, P: TreeProgress>(
     name: &Name,
     message: &mut D::File,
     signature: &mut Vec<u8>,
+    alarm: &mut D::Alarm,
     progress: &P,
 ) -> (D::Disk, Result<(), Refusal>)
     requires { D.File.role message.old ≡ Role.Message }
@@ -216,6 +221,7 @@ fn read_and_sign<'a, D: SignerFolder<'a>, P: TreeProgress>(
         name,
         &mut reader,
         signature,
+        alarm,
         progress,
     );
     let FileReader { folder, .. } = reader;

@@ -163,6 +163,17 @@ impl Standard {
         let _ = line.pass_on();
     }
 
+    /// Warns on standard error that bytes stand behind the last record, in this slot, of the state file at this path.
+    pub fn warn_behind(&self, path: &str, slot: u32) {
+        let mut found = ArrayString::<64>::new();
+        let _ = write!(found, "bytes stand behind the last record (slot {slot})");
+        self.tell_reason(
+            path,
+            found.as_str(),
+            "the file seems cut short or damaged; don't sign, compare it with an anchor",
+        );
+    }
+
     /// Whether a line of progress is on the screen.
     pub fn has_line(&self) -> bool {
         self.has_line.get()

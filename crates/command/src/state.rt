@@ -3,15 +3,18 @@
 ghost use Rattle.std.specs.Prelude.{◌≡◌, ◌++◌, ◌∷◌, [], List, length, IfErr};
 ghost use Rattle.std.specs.Io.{ReadsAtMost};
 ghost use Rattle.typecodes.specs.Message.{read_outcome};
-ghost use Rattle.command.specs.FileDisk.{OpensState, OpensUnlocked, kept};
+ghost use Rattle.command.specs.FileDisk.{OpensState, OpensUnlocked};
+ghost use Rattle.command.specs.OffsetFile.{kept};
 ghost use Rattle.command.specs.Trace.{Happening, measured, read_at, synced, written_at};
 
-use crate::file_disk::{OffsetFile, kind_kept};
 use crate::file_id::FileId;
 use crate::files::NewContent;
+use crate::offset_file::{OffsetFile, kind_kept};
 use crate::refusal::Refusal;
 use crate::standard::Standard;
 use crate::trace::{Event, Trace};
+use sign_core::Alarm;
+use state_file::SlotList;
 use std::fs::{File, Files, OpenOptions, Permissions, TryLockError};
 use std::io::ErrorKind;
 use std::marker::Model;
@@ -268,6 +271,40 @@ impl<'a> StateFile<'a> {
     }
 }
 
+/// Warns of a state file, on standard error.
+#[derive(Drop)]
+pub struct StateAlarm<'a> {
+    standard: &'a Standard,
+    path: &'a str,
+    slots: SlotList,
+}
+
+impl<'a> StateAlarm<'a> {
+    ghost use Rattle.command.specs.FileDisk.{slots_of};
+
+    /// The alarm of the state file at this path.
+    pub fn new(standard: &'a Standard, path: &'a str) -> Self
+        ensures { slots_of result ≡ [] }
+    {
+        StateAlarm {
+            standard,
+            path,
+            slots: SlotList::new(),
+        }
+    }
+}
+
+impl Alarm for StateAlarm<'_> {
+    ghost use Rattle.command.specs.FileDisk.{slots_of};
+
+    ghost slots = { slots_of };
+
+    fn bytes_behind(&mut self, slot: u32) {
+        self.standard.warn_behind(self.path, slot);
+        self.slots.push(slot);
+    }
+}
+
 fn open_regular<R: Files<File = File>>(
     rt: &R,
     standard: &Standard,
@@ -296,7 +333,30 @@ fn not_regular(standard: &Standard, path: &str) -> Refusal
 }
 
 impl OffsetFile for StateFile<'_> {
+    ghost use Rattle.state_file.specs.Disk.{settled};
+    ghost use Rattle.command.specs.inner.StateFile.{never};
+    ghost use Rattle.std.specs.Prelude.{false, ⊤};
+
     ghost trace = { λ file. file.happenings };
+
+    ghost state = { λ _. settled [] };
+
+    ghost moment = { λ _. 0 };
+
+    ghost left_since = { λ _ _ _. ⊤ };
+
+    // No contract of the standard library says what a file of the machine holds.
+    ghost honest = { λ _. false };
+
+    ghost gives_bytes = { λ _ is_honest. never is_honest };
+
+    ghost has_length = { λ _ is_honest. never is_honest };
+
+    ghost shows = { λ _ is_honest. never is_honest };
+
+    ghost counts_now = { λ _ _ _ is_honest _ _. never is_honest };
+
+    ghost only_now = { λ _ _ is_honest _. never is_honest };
 
     fn len(&mut self) -> io::Result<u64> {
         let answer = match self.file.metadata() {

@@ -9,9 +9,9 @@ use Rattle.state_file.specs.declared.record.Record.TheVariants as entry
 use Rattle.state_file.specs.declared.record.Secret.{Secret}
 use Rattle.state_file.specs.declared.record.Secret.TheVariants.{Lms, Hss, Xmss}
 use Rattle.state_file.specs.Laws.{bottom_of, leaves_at, levels_of}
-use Rattle.sign_core.specs.Records.{current, free_at, free_counts, in_tree, last_extend, makes, reached_number, reached_numbers, reaches, same_tree, under}
+use Rattle.sign_core.specs.Records.{current, free_at, free_counts, in_tree, last_extend, makes, reached_number, reached_numbers, reaches, same_tree, under, types_of}
 use Rattle.sign_core.proofs.Found.{next_of}
-use Rattle.key_audit.specs.Listing.{ListingLaw, entry_of, shown_of_records, shown_of, types_of, without_secret, without_seeds}
+use Rattle.key_audit.specs.Listing.{ListingLaw, entry_of, shown_of_records, shown_of, without_secret, without_seeds}
 
 -- ---- a secret
 

@@ -1,6 +1,6 @@
 -- What a listing answers at each of its ends.
 use Rattle.std.proofs.Common.{◌≡◌, ℕ, Bool, false, List, [], ◌∷◌, Some, None, Ok, Err, Result, refl, ap, ◌∙◌, map}
-use Rattle.std.specs.Prelude.{option_map}
+use Rattle.std.specs.Prelude.{IfOk, option_map}
 use Rattle.state_file.specs.declared.disk.Disk as disk
 use Rattle.state_file.specs.declared.record.Key.{Key}
 use Rattle.state_file.specs.declared.record.Record.{Record}
@@ -10,13 +10,14 @@ use Rattle.state_file.specs.Disk.{Counts}
 use Rattle.state_file.specs.FileStore.{disk_of, records_of}
 use Rattle.state_file.specs.Laws.{IsLegal}
 use Rattle.state_file.specs.Store.{Collects}
-use Rattle.sign_core.specs.Records.{free_counts, the_key}
+use Rattle.sign_core.specs.Alarm.{slot_behind}
+use Rattle.sign_core.specs.Records.{free_counts, the_key, types_of}
 use Rattle.key_audit.specs.declared.listing.Listing.{Listing}
 use Rattle.key_audit.specs.declared.report.AuditFault.{AuditFault}
 use Rattle.key_audit.specs.declared.report.AuditFault.TheVariants.{Stopped, NoKey, Damaged, Illegal, DeviceFailed, OutOfMemory, AnchorCount, AnchorTag}
 use Rattle.key_audit.specs.Audit.{Judges, ReadsStore, is_device_failed, is_fault, is_stopped, unreadable_slot}
 use Rattle.key_audit.specs.inner.Listing.{ListsRecords}
-use Rattle.key_audit.specs.Listing.{AnswersListing, Lists, entry_of, shown_of_listing, shown_of_records, shown_of, types_of}
+use Rattle.key_audit.specs.Listing.{AnswersListing, Lists, entry_of, shown_of_listing, shown_of_records, shown_of}
 use Rattle.key_audit.specs.inner.Loading.{AreLoaded, StopsLoading}
 use Rattle.key_audit.proofs.Audits.{refused_alike}
 use Rattle.key_audit.proofs.Loads.{answered, kept_by}
@@ -89,17 +90,19 @@ module _ {D : Type 0} (d : disk.Ghosts D) where
     same_count = refl;
     same = λ honest. refl;
     answers = stops_judged (d.honest (disk_of old)) (records_of old) fault stops;
+    behind = tt;
   }
 
   -- they were, and this is answered
   pub listed : {A : Type 0} (old new : FileStore D d) (x : A) (records : List Record) (answer : Result Listing AuditFault)
       → ReadsStore d old new (Ok x) → AreLoaded (d.honest (disk_of old)) (records_of old) records → ListsRecords records answer
-      → Lists d old new answer
-  listed old new x records answer reads are lists =
+      → IfOk answer (λ listing. listing.behind ≡ slot_behind old) → Lists d old new answer
+  listed old new x records answer reads are lists behind =
       let fine = no_failure records answer lists in record {
         store = answered d old new answer (kept_by d old new x reads) reads.was_stopped fine.not_stopped fine.not_failed fine.none fine.no_slot;
         loaded = records;
         same_count = are.same_count;
         same = are.same;
         answers = lists_answered (d.honest (disk_of old)) records answer lists;
+        behind = behind;
       }

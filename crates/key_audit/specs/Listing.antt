@@ -1,6 +1,6 @@
 -- What a listing of a state file says of its records. Nothing of it is secret.
 use Rattle.std.specs.Prelude.{◌≡◌, ℕ, ◌+◌, List, [], ◌∷◌, length, map, option_map, Bool, Option, Some, Result, Ok, Err}
-use Rattle.std.specs.Prelude.{IsTrue, None}
+use Rattle.std.specs.Prelude.{IfOk, IsTrue, None}
 use Rattle.state_file.specs.declared.disk.Disk as disk
 use Rattle.state_file.specs.declared.record.Key.{Key}
 use Rattle.state_file.specs.declared.record.Record.{Record}
@@ -12,8 +12,8 @@ use Rattle.state_file.specs.declared.store.file_store.FileStore.{FileStore}
 use Rattle.state_file.specs.FileStore.{disk_of, records_of}
 use Rattle.state_file.specs.Laws.{IsLegal}
 use Rattle.typecodes.specs.declared.spec.Spec.{Spec}
-use Rattle.typecodes.specs.declared.spec.Spec.TheVariants as spec
-use Rattle.sign_core.specs.Records.{free_counts, the_key}
+use Rattle.sign_core.specs.Alarm.{slot_behind}
+use Rattle.sign_core.specs.Records.{free_counts, the_key, types_of}
 use Rattle.key_audit.specs.declared.listing.Entry.{Entry}
 use Rattle.key_audit.specs.declared.listing.Entry.TheVariants.{Key as KeyEntry, Tree, Name, Retired, Moved}
 use Rattle.key_audit.specs.declared.listing.Listing.{Listing}
@@ -21,11 +21,6 @@ use Rattle.key_audit.specs.declared.report.AuditFault.{AuditFault}
 use Rattle.key_audit.specs.Audit.{Judges, ReadsStore}
 
 -- ---- what records show
-
-abbrev pub types_of : Secret → Spec
-types_of (Lms secret) = spec.Lms secret.pair
-types_of (Hss levels identifier seed) = spec.Hss levels
-types_of (Xmss secret) = spec.Xmss secret.tree
 
 -- a record's entry: of a Key nothing; of an Extend its level and the leaf above that signs it; of a Bound its name,
 -- leaf and digest
@@ -83,7 +78,7 @@ AnswersListing honest records (Ok listing) =
 AnswersListing honest records (Err fault) = Judges honest records None (Err fault)
 
 -- A listing reads the store and shows what it loads: as many records as the store has, and over an honest disk the same
--- ones.
+-- ones. It says whether bytes stand behind the last one.
 pub record Lists {D : Type 0} (d : disk.Ghosts D) (old new : FileStore D d) (answer : Result Listing AuditFault)
     : Type 0 where
   pub store : ReadsStore d old new answer
@@ -91,6 +86,7 @@ pub record Lists {D : Type 0} (d : disk.Ghosts D) (old new : FileStore D d) (ans
   pub same_count : length loaded ≡ length (records_of old)
   pub same : IsTrue (d.honest (disk_of old)) → loaded ≡ records_of old
   pub answers : AnswersListing (d.honest (disk_of old)) loaded answer
+  pub behind : IfOk answer (λ listing. listing.behind ≡ slot_behind old)
 
 -- ---- secrets
 

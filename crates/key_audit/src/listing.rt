@@ -18,6 +18,8 @@ pub struct Listing {
     pub left: ArrayVec<u32, 8>,
     /// An entry for each record, in their order.
     pub entries: Vec<Entry>,
+    /// The last record's slot, if the file has bytes behind what an append can leave: it seems cut short or damaged.
+    pub behind: Option<u32>,
 }
 
 /// A record, without anything secret.

@@ -58,7 +58,7 @@ fn only(used: LeafUse) -> ArrayVec<LeafUse, 8>
 fn lms_use(key: &LmsPublic, signature: &LmsSigView<'_>, message: &[u8]) -> LeafUse
     ensures { result ≡ kept_use (spec.lms_use key.now message.now (lms_signature_of signature.now)) }
 {
-    let leaf = signature.q();
+    let leaf = signature.index();
     let one_time = LmOts {
         identifier: key.identifier,
         leaf,
@@ -76,13 +76,9 @@ fn hss_uses(top: &LmsPublic, signature: &HssSigView<'_>, message: &[u8]) -> Arra
     let mut uses = ArrayVec::new();
     let mut key = *top;
     for level in 0..signature.levels() - 1 {
-        match signature.signed_key(level) {
-            Some(signed) => {
-                uses.push(lms_use(&key, &signed.signature, signed.key_bytes));
-                key = signed.key;
-            }
-            None => unreachable!(),
-        }
+        let next = signature.key(level + 1);
+        uses.push(lms_use(&key, &signature.level(level), &next.to_bytes()));
+        key = next;
     }
     uses.push(lms_use(&key, &signature.bottom(), message));
     uses

@@ -2,25 +2,15 @@
 
 ghost use Rattle.std.specs.Prelude.{◌≡◌, ◌<◌, IfErr, IfOk, length, map, option_map};
 ghost use Rattle.sign_core.specs.Records.{the_key};
-ghost use Rattle.key_audit.specs.Listing.{Lists, entry_of, types_of};
+ghost use Rattle.key_audit.specs.Listing.{Lists, entry_of};
 ghost use Rattle.key_audit.specs.inner.Listing.{ListsRecords};
 
 use crate::file::loading::{load_records, replay};
 use crate::listing::{Entry, Listing};
 use crate::report::AuditFault;
-use state_file::{Disk, FileStore, Key, Record, Secret};
+use sign_core::{slot_behind, types_of};
+use state_file::{Disk, FileStore, Key, Record};
 use std::alloc::{AllocError, Global};
-use typecodes::Spec;
-
-fn types_of(secret: &Secret) -> Spec
-    ensures { result ≡ types_of secret.now }
-{
-    match secret {
-        Secret::Lms(secret) => Spec::Lms(secret.pair),
-        Secret::Hss { levels, .. } => Spec::Hss(levels.copied()),
-        Secret::Xmss(secret) => Spec::Xmss(secret.tree),
-    }
-}
 
 // The key, with which legal records begin.
 fn key_of(records: &[Record]) -> Option<&Key>
@@ -43,8 +33,13 @@ fn entries_of(alloc: Global, records: &[Record]) -> Result<Vec<Entry>, AllocErro
     Ok(entries)
 }
 
-fn list_records(alloc: Global, records: &[Record]) -> Result<Listing, AuditFault>
-    ensures { ListsRecords records.now result }
+fn list_records(
+    alloc: Global,
+    records: &[Record],
+    behind: Option<u32>,
+) -> Result<Listing, AuditFault>
+    ensures lists { ListsRecords records.now result }
+    ensures behind { IfOk result (λ listing. listing.behind ≡ behind) }
 {
     let ledger = replay(alloc, records)?;
     let entries = entries_of(alloc, records).map_err(|_| AuditFault::OutOfMemory)?;
@@ -54,14 +49,16 @@ fn list_records(alloc: Global, records: &[Record]) -> Result<Listing, AuditFault
             version: key.version,
             left: ledger.left(),
             entries,
+            behind,
         }),
         // Legal records begin with a Key.
         None => unreachable!(),
     }
 }
 
-/// Lists a state file without changing it: types, version, free leaves of each level, and an entry for each record. No
-/// secret has a part in it (`listing_law`). The faults are those of an audit without an anchor:
+/// Lists a state file without changing it: types, version, free leaves of each level, an entry for each record, and
+/// whether bytes stand behind the last one. No secret has a part in it (`listing_law`). The faults are those of an
+/// audit without an anchor:
 ///
 /// - 26 `Stopped`: a call on the store failed before.
 /// - 43 `Damaged(k)`, 45 `DeviceFailed`, 46 `OutOfMemory`: record k couldn't be loaded; the disk failed; memory was
@@ -71,6 +68,7 @@ fn list_records(alloc: Global, records: &[Record]) -> Result<Listing, AuditFault
 pub fn list<D: Disk + Drop>(alloc: Global, store: &mut FileStore<D>) -> Result<Listing, AuditFault>
     ensures { Lists D.Disk store.old store.new result }
 {
+    let behind = slot_behind(store);
     let records = load_records(alloc, store)?;
-    list_records(alloc, &records)
+    list_records(alloc, &records, behind)
 }

@@ -1,6 +1,12 @@
-use Rattle.std.proofs.Common.{inr}
+use Rattle.std.proofs.Common.{inl, inr, refl}
 use Rattle.command.proofs.key_file.audit.Goals as goal
 
-pub returns-in-Ok : goal.returns-in-Ok
-returns-in-Ok g c =
+pub returns-in-Ok-clause-audits : goal.returns-in-Ok-clause-audits
+returns-in-Ok-clause-audits g c =
     inr (c.in-Ok.store, c.audit.new.store, c.audit.result, c.in-Ok.ensures, c.audit.ensures, c.reported-audited.ensures, c.into_disk.ensures)
+
+pub returns-in-Ok-clause-tells : goal.returns-in-Ok-clause-tells
+returns-in-Ok-clause-tells g c = inr (c.in-Ok.store, c.in-Ok.ensures, c.tell_behind.ensures)
+
+pub returns-in-Err-clause-tells : goal.returns-in-Err-clause-tells
+returns-in-Err-clause-tells g c = inl (c.in-Err.refused.fault, refl, c.in-Err.ensures.fault, refl)

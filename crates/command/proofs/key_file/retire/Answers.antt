@@ -1,14 +1,19 @@
 use Rattle.std.proofs.Common.{◌∙◌, ap, inr}
 use Rattle.state_file.specs.FileStore.{disk_of}
+use Rattle.command.specs.declared.refusal.Refusal.TheVariants.{Opening}
+use Rattle.sign_core.proofs.Told.{told_then}
 use Rattle.command.proofs.key_file.retire.Goals as goal
 
-pub returns-in-Ok : goal.returns-in-Ok
-returns-in-Ok g c =
+pub returns-in-Ok-clause-retires : goal.returns-in-Ok-clause-retires
+returns-in-Ok-clause-retires g c =
     inr (
       c.new.result,
       c.in-Ok.signer,
       c.retire-retired.new.signer,
-      c.in-Ok.ensures,
+      c.in-Ok.ensures.opens,
       c.retire-retired.ensures,
       c.into_disk.ensures ∙ ap disk_of c.into_store.ensures,
     )
+
+pub returns-in-Ok-clause-tells : goal.returns-in-Ok-clause-tells
+returns-in-Ok-clause-tells g c = told_then g.D.Disk c.args.disk Opening c.in-Ok.signer _ _ _ c.in-Ok.ensures.tells

@@ -1,7 +1,12 @@
 use Rattle.std.proofs.Common.{◌∙◌, ap, inr}
 use Rattle.state_file.specs.FileStore.{disk_of}
+use Rattle.command.specs.declared.refusal.Refusal.TheVariants.{Opening}
+use Rattle.sign_core.proofs.Told.{told_then}
 use Rattle.command.proofs.key_file.sign.Goals as goal
 
-pub returns-in-Ok : goal.returns-in-Ok
-returns-in-Ok g c =
-    inr (c.in-Ok.signer, c.sign_with-signed.new.signer, c.in-Ok.ensures, c.sign_with-signed.ensures, c.into_disk.ensures ∙ ap disk_of c.into_store.ensures)
+pub returns-in-Ok-clause-signs : goal.returns-in-Ok-clause-signs
+returns-in-Ok-clause-signs g c =
+    inr (c.in-Ok.signer, c.sign_with-signed.new.signer, c.in-Ok.ensures.opens, c.sign_with-signed.ensures, c.into_disk.ensures ∙ ap disk_of c.into_store.ensures)
+
+pub returns-in-Ok-clause-tells : goal.returns-in-Ok-clause-tells
+returns-in-Ok-clause-tells g c = told_then g.D.Disk c.args.disk Opening c.in-Ok.signer _ _ _ c.in-Ok.ensures.tells

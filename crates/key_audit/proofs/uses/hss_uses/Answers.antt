@@ -19,14 +19,14 @@ loop-level-preserved c =
     let top = c.args.top.now in
     let s = signature_of c.args.signature.now in
     let i = c.loop-level.level in
-    let inside : i < length s.signed = omega (arith, c.in-Some.ensures.is_some.0 refl) in
-    let next : c.in-Some.signed.key ≡ key_at top s (i + 1) = c.in-Some.ensures.key top in
+    let inside : i < length s.signed = omega (arith, c.levels-level-end.ensures.value, c.loop-level-test.true) in
+    let next : c.key-next.result ≡ key_at top s (i + 1) = c.key-next.ensures.value top in
     record {
       items = c.push.ensures.items
           ∙ ap (λ u. c.loop-level.uses.items ++ u ∷ []) c.lms_use.ensures
-          ∙ level_added top c.args.message.now s i c.loop-level.uses.items c.loop-level.key c.in-Some.signed.key_bytes.now _ c.loop-level.invariant
-          (c.in-Some.signed.spelled ∙ ap public_bytes next ∙ message_at-above top c.args.message.now s i inside)
-          c.in-Some.ensures.signature;
+          ∙ level_added top c.args.message.now s i c.loop-level.uses.items c.loop-level.key c.to_bytes.result _ c.loop-level.invariant
+          (c.to_bytes.ensures.bytes ∙ ap public_bytes next ∙ message_at-above top c.args.message.now s i inside)
+          c.level.ensures.value;
       key_is = next;
       within = omega (arith, inside);
     }
@@ -47,5 +47,5 @@ returns c =
     ∙ ap (λ u. c.loop-level.uses.items ++ u ∷ []) c.lms_use-2.ensures
     ∙ level_added top message s i c.loop-level.uses.items c.loop-level.key message _ c.loop-level.invariant
     (message_at-bottom message s ∙ ap (message_at message s) (sym last))
-    (c.bottom.ensures ∙ signature_at-bottom s i last)
+    (c.bottom.ensures.value ∙ signature_at-bottom s i last)
     ∙ ap (λ n. map (hss_use_at top message s) (range_with_len 0 (n + 1))) last

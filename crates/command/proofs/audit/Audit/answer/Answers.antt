@@ -8,7 +8,7 @@ returns g c =
       c.audit-disk.result.0,
       c.audit-disk.result.1,
       c.in_ok-disk.ensures.opened,
-      c.audit-disk.ensures,
+      c.audit-disk.ensures.audits,
       c.close_state.ensures.closed,
       c.answer_to.ensures,
       c.close_state.ensures.trace ∙ c.in_ok-disk.ensures.trace,

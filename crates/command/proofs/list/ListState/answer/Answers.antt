@@ -8,7 +8,7 @@ returns g c =
       c.list-disk.result.0,
       c.list-disk.result.1,
       c.in_ok-disk.ensures.opened,
-      c.list-disk.ensures,
+      c.list-disk.ensures.lists,
       c.close_state.ensures.closed,
       c.answer_to.ensures,
       c.close_state.ensures.trace ∙ c.in_ok-disk.ensures.trace,
