@@ -16,7 +16,8 @@
 static uint8_t stack[STACK_BYTES] __attribute__((aligned(4096)));
 static uint8_t public_key[HBS_XMSS_KEY_BYTES + 1], message[1 << 16], signature[HBS_MOST_SIGNATURE_BYTES + 1];
 static size_t key_length, message_length, signature_length;
-static uint8_t prefix[HBS_PREFIX_BYTES];
+static uint8_t prefix[HBS_PREFIX_BYTES], root[HBS_ROOT_BYTES];
+static hbs_message pieces;
 static const uint8_t digest[HBS_DIGEST_BYTES] = {1};
 static volatile uint64_t answer;
 
@@ -24,6 +25,20 @@ static void nothing(void) { answer = 0; }
 
 static void verify(void) {
     answer = hbs_verify(public_key, key_length, message, message_length, signature, signature_length);
+}
+
+static void computed_root(void) {
+    answer = hbs_root(public_key, key_length, message, message_length, signature, signature_length, root);
+}
+
+static void begin(void) {
+    answer = hbs_begin(&pieces, public_key, key_length, signature, signature_length);
+}
+
+static void add(void) { hbs_add(&pieces, message, message_length); }
+
+static void end(void) {
+    answer = hbs_end(&pieces, public_key, key_length, signature, signature_length);
 }
 
 static void message_prefix(void) {
@@ -70,6 +85,11 @@ int main(int count, char **words) {
     none = written_by(nothing);
     printf("hbs_verify %zu\n", written_by(verify) - none);
     if (answer != HBS_VERIFIED) return 1;
+    printf("hbs_begin %zu\n", written_by(begin) - none);
+    printf("hbs_add %zu\n", written_by(add) - none);
+    printf("hbs_end %zu\n", written_by(end) - none);
+    if (answer != HBS_VERIFIED) return 1;
+    printf("hbs_root %zu\n", written_by(computed_root) - none);
     printf("hbs_message_prefix %zu\n", written_by(message_prefix) - none);
     printf("hbs_verify_digest %zu\n", written_by(verify_digest) - none);
     return 0;

@@ -1,22 +1,30 @@
 /*
  * Verifies hash-based signatures: LMS and HSS (RFC 8554) and XMSS (RFC 8391), all with SHA-256.
  *
- * The library is libhbs_verify.a, which boot/build makes for x86-64 and aarch64. It has no data, no globals and no
- * allocator, and calls memcpy, memmove and memset at most. docs/VERIFYING.md says how it is linked and what it costs.
+ * The library is libhbs_verify.a, which boot/build makes for x86-64, aarch64, armv7-A, Cortex-M and RISC-V. It has no
+ * data, no globals and no allocator, and calls memcpy, memmove and memset at most, on Arm by the names of its run-time
+ * ABI, and on Cortex-M0 a division. docs/VERIFYING.md says how it is linked and what it costs.
  *
  * What every call asks for. Nothing checks it, as in C:
- *   - A pointer is not null, also where its length is 0.
- *   - As many bytes as its length says can be read there: 32 at `digest`. 128 can be read and written at `prefix`. A
- *     length is below 2^63.
- *   - No alignment: any address will do. The processor has to take unaligned loads and stores from this memory. On
- *     aarch64 it does where the MMU is on, the memory is Normal, and SCTLR_EL1.A is 0.
+ *   - As many bytes as its length says can be read at a pointer: 32 at `digest`. 128 can be read and written at
+ *     `prefix`, and 32 at `root`. A length is below 2^63.
+ *   - No alignment of bytes: any address will do. Some archives load and store numbers there, which the processor has
+ *     to take: x86_64, cortex-m3 and cortex-m33, where CCR.UNALIGN_TRP is 0, and aarch64, where the MMU is on, the
+ *     memory is Normal, and SCTLR_EL1.A is 0. The others don't. An hbs_message has the alignment that C gives it.
  *   - Nobody writes the memory while a call runs: no other thread or processor, no interrupt, no device. What is
  *     verified in memory that others can write is worth nothing. Copy it first, and use the copy.
- *   - What is written (`prefix`) overlaps nothing that is read. What is only read may overlap.
- *   - The stack has the room that docs/VERIFYING.md names. On x86-64 the registers of SSE2 are used, and the 128 bytes
- *     below the stack pointer, so that interrupts have a stack of their own. On aarch64 those of SIMD are used.
- *   - The calling convention is that of the System V ABI on x86-64, and AAPCS64, little-endian, on aarch64. There x18
- *     is written over as any register is that a call need not keep.
+ *   - What is written (`prefix`, `root`, an hbs_message) overlaps nothing that is read. What is only read may overlap.
+ *   - The stack has the room that docs/VERIFYING.md names. Nothing below the stack pointer is used, so interrupts may
+ *     use the same stack.
+ *   - On x86-64 the registers of SSE2 are used, and on aarch64 those of SIMD; in aarch64-strict none of these.
+ *   - The calling convention is that of the System V ABI on x86-64, whatever the compiler's own is: HBS_CALL says so.
+ *     On aarch64 it is AAPCS64, little-endian. There x18 is written over as any register is that a call need not keep.
+ *     On 32 bits it is AAPCS with numbers in integer registers, and the psABI of RISC-V for ilp32; on RISC-V of 64 bits
+ *     lp64.
+ *
+ * Address 0 is null, also where the processor has memory there. A null pointer is refused (7), except for a message of
+ * no bytes. A message that begins at address 0 can be verified in pieces: hbs_add of a copy of its first byte, and then
+ * of the rest, from address 1 on. Better copy all of it, verify the copy and start the copy.
  *
  * Threads: a call uses its arguments and its stack alone. Any number of calls may run side by side.
  *
@@ -24,25 +32,46 @@
  * the upper 32 bits have its detail. docs/REFUSALS.md says which refusal comes first.
  *
  *   number                   detail                       meaning
- *    0                       0 (see hbs_message_prefix)   the signature is valid for this message under this key
+ *    0 HBS_VERIFIED          0                            the signature is valid for this message under this key
  *    1 HBS_TRUNCATED         place                        a field does not fit into the bytes that are left
  *    2 HBS_UNKNOWN_TYPE      place                        a type's code names none
  *    3 HBS_LEVEL_COUNT       place                        a number of levels is not 1 to 8
  *    4 HBS_LEAF_OUT_OF_RANGE place                        the index names no leaf of the tree
  *    5 HBS_TRAILING          place                        bytes follow the end of the signature
  *    6 HBS_KEY_LENGTH        length of the key            the public key has not 56, 60 or 68 bytes
+ *    7 HBS_NULL              0                            a pointer is null
+ *    8 HBS_CHANGED           0                            hbs_end has another key or signature than hbs_begin
+ *    9 HBS_READY             0, or bytes of a prefix      no refusal, and no verdict: of hbs_root, hbs_begin and
+ *                                                         hbs_message_prefix
  *   10 HBS_TYPE_MISMATCH     level                        the types of the signature are not its key's
  *   11 HBS_LEVEL_MISMATCH    0                            the signature has not as many levels as the key
  *   12 HBS_ROOT_MISMATCH     level                        the signature does not lead to its key's root
  *
  * A place is in bytes from the beginning of the key or the signature. Level 0 is the top one, and the only one of LMS
- * and XMSS. A length of 2^32 or more is given as 2^32 - 1. Every answer other than 0 means: do not start it.
+ * and XMSS. A length of 2^32 or more is given as 2^32 - 1. Every answer other than 0 means: do not start it. Compilers
+ * warn where an answer is not used (HBS_MUST_CHECK).
  */
 #ifndef HBS_VERIFY_H
 #define HBS_VERIFY_H
 
 #include <stddef.h>
 #include <stdint.h>
+
+/* The calling convention of every call here. Compilers for UEFI and Windows have another one of their own. */
+#if defined(__x86_64__) && (defined(__GNUC__) || defined(__clang__))
+#define HBS_CALL __attribute__((sysv_abi))
+#elif defined(_M_X64)
+#error "a compiler for x86-64 has to know __attribute__((sysv_abi))"
+#else
+#define HBS_CALL
+#endif
+
+/* What an answer is for. */
+#if defined(__GNUC__) || defined(__clang__)
+#define HBS_MUST_CHECK __attribute__((warn_unused_result))
+#else
+#define HBS_MUST_CHECK
+#endif
 
 #ifdef __cplusplus
 extern "C" {
@@ -56,6 +85,11 @@ extern "C" {
 /* The most bytes that a signature has: HSS with eight levels of H25/W1 (RFC 8554 6.2). A longer one is refused. */
 #define HBS_MOST_SIGNATURE_BYTES 74988
 
+/* The bytes of a root, and the place of a public key's own among its bytes. */
+#define HBS_ROOT_BYTES 32
+#define HBS_ROOT_PLACE(public_key_length) \
+    ((public_key_length) == HBS_XMSS_KEY_BYTES ? 4u : (public_key_length) - HBS_ROOT_BYTES)
+
 /* The bytes at `prefix` of hbs_message_prefix, and those of a digest of SHA-256. */
 #define HBS_PREFIX_BYTES 128
 #define HBS_DIGEST_BYTES 32
@@ -67,6 +101,9 @@ extern "C" {
 #define HBS_LEAF_OUT_OF_RANGE 4
 #define HBS_TRAILING 5
 #define HBS_KEY_LENGTH 6
+#define HBS_NULL 7
+#define HBS_CHANGED 8
+#define HBS_READY 9
 #define HBS_TYPE_MISMATCH 10
 #define HBS_LEVEL_MISMATCH 11
 #define HBS_ROOT_MISMATCH 12
@@ -78,29 +115,81 @@ extern "C" {
 /*
  * 0 exactly where `signature` is a valid signature of `message` under `public_key`. Otherwise the first refusal.
  */
-uint64_t hbs_verify(const uint8_t *public_key, size_t public_key_length,
-                    const uint8_t *message, size_t message_length,
-                    const uint8_t *signature, size_t signature_length);
+HBS_MUST_CHECK HBS_CALL uint64_t hbs_verify(const uint8_t *public_key, size_t public_key_length,
+                                            const uint8_t *message, size_t message_length,
+                                            const uint8_t *signature, size_t signature_length);
 
 /*
- * For a message that is not in one piece, or is hashed by hardware: writes the bytes that are hashed before it. They
- * are 54 for LMS and HSS (RFC 8554 4.5) and 128 for XMSS (RFC 8391 4.1.9).
- *
- * `prefix` has HBS_PREFIX_BYTES. Where the number is 0, the detail is how many of them, from the first on, are to be
- * hashed. Otherwise it is the refusal of the key or the signature that is known without any hash, 1 to 6 or 11, and
- * `prefix` has nothing of use. A number of 0 says nothing of the signature's validity.
+ * A message in pieces, and what is known of it so far. It is the caller's memory, and the library's to read and write.
  */
-uint64_t hbs_message_prefix(const uint8_t *public_key, size_t public_key_length,
-                            const uint8_t *signature, size_t signature_length,
-                            uint8_t *prefix);
+typedef struct {
+    uint32_t hash[8];
+    uint8_t block[64];
+    uint64_t length;
+    uint8_t prefix[128];
+    uint64_t prefix_length;
+} hbs_message;
+
+/*
+ * Begins a message for a key and a signature. HBS_READY, which says nothing of validity, or the refusal that is known
+ * without any hash, 1 to 6 or 11.
+ */
+HBS_MUST_CHECK HBS_CALL uint64_t hbs_begin(hbs_message *message,
+                                           const uint8_t *public_key, size_t public_key_length,
+                                           const uint8_t *signature, size_t signature_length);
+
+/*
+ * Adds a piece to the message. Bytes that others can change may be read once here, and again where they are used: copy
+ * a piece, add the copy and use the copy.
+ */
+HBS_CALL void hbs_add(hbs_message *message, const uint8_t *piece, size_t piece_length);
+
+/*
+ * The answer of hbs_verify for all bytes that were added: 0 exactly where the signature is valid for them. The key and
+ * the signature are those of hbs_begin. Otherwise, and where no message is begun or a piece was null, the answer is
+ * HBS_CHANGED, or an early refusal. The message stays, so that hbs_end can be called again.
+ */
+HBS_MUST_CHECK HBS_CALL uint64_t hbs_end(const hbs_message *message,
+                                         const uint8_t *public_key, size_t public_key_length,
+                                         const uint8_t *signature, size_t signature_length);
+
+/*
+ * For a loader that fears forced faults: computes the root to which the signature leads, and compares it with none.
+ *
+ * `root` has HBS_ROOT_BYTES, and overlaps nothing that is read. The caller fills it with other bytes than the key's
+ * root. After the call it has the key's root exactly where the signature is valid for the message. So the caller's own
+ * comparison of `root` with the bytes from HBS_ROOT_PLACE on of the key decides, and can be made twice. Read the key's
+ * address again before it (volatile): a skip may let the call return with wrong registers. Of HSS each level signs the
+ * next one's key as it was computed, so the message decides the root.
+ *
+ * The answer decides nothing. It is HBS_READY where a root was written. Otherwise it is a refusal as hbs_verify has,
+ * but of HSS that of the lowest level that is refused, and `root` is as it was.
+ */
+HBS_CALL uint64_t hbs_root(const uint8_t *public_key, size_t public_key_length,
+                           const uint8_t *message, size_t message_length,
+                           const uint8_t *signature, size_t signature_length,
+                           uint8_t *root);
+
+/*
+ * For a message that is hashed by hardware: writes the bytes that are hashed before it. They are 54 for LMS and HSS
+ * (RFC 8554 4.5) and 128 for XMSS (RFC 8391 4.1.9).
+ *
+ * `prefix` has HBS_PREFIX_BYTES. Where the number is HBS_READY, the detail is how many of them, from the first on, are
+ * to be hashed, and nothing is said of the signature's validity. Otherwise it is the refusal of the key or the
+ * signature that is known without any hash, 1 to 6 or 11, and `prefix` has zeros.
+ */
+HBS_MUST_CHECK HBS_CALL uint64_t hbs_message_prefix(const uint8_t *public_key, size_t public_key_length,
+                                                    const uint8_t *signature, size_t signature_length,
+                                                    uint8_t *prefix);
 
 /*
  * `digest` has HBS_DIGEST_BYTES: the SHA-256 of these bytes followed by the message. The answer is that of hbs_verify
  * for every message with this digest. Nothing is kept between the calls: key and signature are judged again, in whole.
+ * A digest that comes with the message says nothing of it: hash the message.
  */
-uint64_t hbs_verify_digest(const uint8_t *public_key, size_t public_key_length,
-                           const uint8_t *signature, size_t signature_length,
-                           const uint8_t *digest);
+HBS_MUST_CHECK HBS_CALL uint64_t hbs_verify_digest(const uint8_t *public_key, size_t public_key_length,
+                                                   const uint8_t *signature, size_t signature_length,
+                                                   const uint8_t *digest);
 
 #ifdef __cplusplus
 }

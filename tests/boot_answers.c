@@ -1,8 +1,8 @@
 /*
  * The answers of include/hbs_verify.h for the files of each input line: a public key, a message and a signature, with
- * tabs between them. A line of output has the answers of hbs_verify, hbs_message_prefix and hbs_verify_digest as
- * number:detail, and the prefix in hex. The digest is the SHA-256 of prefix and message, or zeros where the prefix is
- * refused.
+ * tabs between them. A line of output has the answers of hbs_verify, hbs_message_prefix, hbs_verify_digest and hbs_root
+ * as number:detail, the prefix in hex, and the root. The digest is the SHA-256 of prefix and message, or zeros where
+ * the prefix is refused. Prefix and root were filled with bytes ee.
  */
 #include <stdio.h>
 #include <stdlib.h>
@@ -32,6 +32,10 @@ static content content_of(const char *path) {
     return it;
 }
 
+static void print_bytes(const uint8_t *bytes, size_t count) {
+    for (size_t i = 0; i < count; i++) printf("%02x", bytes[i]);
+}
+
 static void print(uint64_t answer) { printf("%u:%u ", (unsigned)HBS_NUMBER(answer), (unsigned)HBS_DETAIL(answer)); }
 
 int main(void) {
@@ -41,15 +45,17 @@ int main(void) {
         const content message = content_of(strtok(NULL, "\t\n"));
         const content signature = content_of(strtok(NULL, "\t\n"));
         uint8_t *prefix = malloc(HBS_PREFIX_BYTES), *digest = calloc(1, HBS_DIGEST_BYTES);
+        uint8_t *root = malloc(HBS_ROOT_BYTES);
         size_t length = 0;
         uint64_t answer;
         sha256 hash;
-        if (!prefix || !digest) return 2;
+        if (!prefix || !digest || !root) return 2;
         memset(prefix, 0xee, HBS_PREFIX_BYTES);
+        memset(root, 0xee, HBS_ROOT_BYTES);
         print(hbs_verify(key.bytes, key.length, message.bytes, message.length, signature.bytes, signature.length));
         answer = hbs_message_prefix(key.bytes, key.length, signature.bytes, signature.length, prefix);
         print(answer);
-        if (HBS_NUMBER(answer) == HBS_VERIFIED) {
+        if (HBS_NUMBER(answer) == HBS_READY) {
             length = HBS_DETAIL(answer);
             start(&hash);
             add(&hash, prefix, length);
@@ -57,7 +63,10 @@ int main(void) {
             finish(&hash, digest);
         }
         print(hbs_verify_digest(key.bytes, key.length, signature.bytes, signature.length, digest));
-        for (size_t i = 0; i < HBS_PREFIX_BYTES; i++) printf("%02x", prefix[i]);
+        print(hbs_root(key.bytes, key.length, message.bytes, message.length, signature.bytes, signature.length, root));
+        print_bytes(prefix, HBS_PREFIX_BYTES);
+        putchar(' ');
+        print_bytes(root, HBS_ROOT_BYTES);
         putchar('\n');
         fflush(stdout);
         free(key.bytes);
@@ -65,6 +74,7 @@ int main(void) {
         free(signature.bytes);
         free(prefix);
         free(digest);
+        free(root);
     }
     return 0;
 }

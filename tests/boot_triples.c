@@ -5,8 +5,9 @@
  *     boot_triples COUNT (PUBLIC MESSAGE SIGNATURE) ..
  *
  * A part ends where an unreadable page begins, begins where one ends, or has memory of its own size that the address
- * sanitizer watches. For each fifth triple the library also answers by the message's digest. It prints how many triples
- * had each number, and each triple whose answers differ.
+ * sanitizer watches. For each fifth triple the library also answers by the message's digest, for another fifth in
+ * pieces, and for another one by the root. It prints how many triples had each number, and each triple whose answers
+ * differ.
  */
 #define _DEFAULT_SOURCE
 #include <stdio.h>
@@ -150,13 +151,51 @@ static uint64_t by_digest(const content *it, uint8_t *end) {
     const uint64_t before = hbs_message_prefix(key.bytes, key.length, signature.bytes, signature.length, prefix);
     uint64_t answer;
     sha256 hash;
-    if (HBS_NUMBER(before) != HBS_VERIFIED) return is_early(before) ? before : UINT64_MAX;
+    if (HBS_NUMBER(before) != HBS_READY) return is_early(before) ? before : UINT64_MAX;
     start(&hash);
     add(&hash, prefix, (size_t)HBS_DETAIL(before));
     add(&hash, message.bytes, message.length);
     finish(&hash, digest);
     answer = hbs_verify_digest(key.bytes, key.length, signature.bytes, signature.length, digest);
     return is_early(answer) ? UINT64_MAX : answer;
+}
+
+/*
+ * The library's answer for the message in pieces of changing lengths, or its refusal before any piece. UINT64_MAX where
+ * a refusal comes too early or too late.
+ */
+static uint64_t in_pieces(const content *it, size_t turn) {
+    const content key = it[KEY], message = it[MESSAGE], signature = it[SIGNATURE];
+    hbs_message pieces;
+    const uint64_t before = hbs_begin(&pieces, key.bytes, key.length, signature.bytes, signature.length);
+    size_t added = 0;
+    if (before != HBS_READY) return is_early(before) ? before : UINT64_MAX;
+    while (added < message.length) {
+        const size_t left = message.length - added, wanted = turn % 200;
+        const size_t count = wanted == 0 || wanted > left ? left : wanted;
+        hbs_add(&pieces, message.bytes + added, count);
+        added += count;
+        turn = turn * 7 + 3;
+    }
+    return hbs_end(&pieces, key.bytes, key.length, signature.bytes, signature.length);
+}
+
+/*
+ * Whether the root that the library computes is the key's: 1 or 0, or -1 where its answer doesn't fit. It ends where an
+ * unreadable page begins.
+ */
+static int has_own_root(const content *it, uint8_t *end) {
+    const content key = it[KEY], message = it[MESSAGE], signature = it[SIGNATURE];
+    const uint8_t *own = key.bytes + HBS_ROOT_PLACE(key.length);
+    uint8_t *root = end - HBS_ROOT_BYTES;
+    uint64_t answer;
+    memset(root, 0xee, HBS_ROOT_BYTES);
+    answer = hbs_root(key.bytes, key.length, message.bytes, message.length, signature.bytes, signature.length, root);
+    if (answer == HBS_READY) return memcmp(root, own, HBS_ROOT_BYTES) == 0;
+    for (size_t i = 0; i < HBS_ROOT_BYTES; i++) {
+        if (root[i] != 0xee) return -1;
+    }
+    return answer == HBS_VERIFIED || HBS_NUMBER(answer) >= NUMBERS ? -1 : 0;
 }
 
 /* Gives a triple to each verifier, and prints answers that differ. */
@@ -169,11 +208,16 @@ static int differs(size_t turn, const content *it, uint8_t *end, size_t *seen) {
     const uint64_t plain = plain_verify(key.bytes, key.length, message.bytes, message.length, signature.bytes,
                                         signature.length);
     const uint64_t digest = turn % BY_DIGEST == 0 ? by_digest(it, end) : library;
+    const uint64_t pieces = turn % BY_DIGEST == 2 ? in_pieces(it, turn) : library;
+    const int own = turn % BY_DIGEST == 1 ? has_own_root(it, end) : library == HBS_VERIFIED;
     if (HBS_NUMBER(library) < NUMBERS) seen[HBS_NUMBER(library)]++;
-    if (library == digest && library == program && library == plain) return 0;
-    printf("triple %zu: the library %llx, by the digest %llx, the program %llx, plain C %llx\n", turn,
-           (unsigned long long)library, (unsigned long long)digest, (unsigned long long)program,
-           (unsigned long long)plain);
+    if (library == digest && library == pieces && library == program && library == plain &&
+        own == (library == HBS_VERIFIED)) {
+        return 0;
+    }
+    printf("triple %zu: the library %llx, by digest %llx, in pieces %llx, the program %llx, plain C %llx, root %d\n",
+           turn, (unsigned long long)library, (unsigned long long)digest, (unsigned long long)pieces,
+           (unsigned long long)program, (unsigned long long)plain, own);
     return 1;
 }
 

@@ -27,6 +27,7 @@ void start(const uint8_t *begin, const uint8_t *end);
 void load(void);
 
 static uint8_t signature[HBS_MOST_SIGNATURE_BYTES];
+static volatile uint8_t root[HBS_ROOT_BYTES];
 
 /* What the library calls, and the compiler. */
 void *memcpy(void *restrict to, const void *restrict from, size_t count) {
@@ -71,6 +72,23 @@ static void copy(uint8_t *to, uint32_t place, uint32_t count) {
     for (uint32_t i = 0; i < count; i++) to[i] = FLASH[place + i];
 }
 
+/* Whether the computed root isn't the key's own, whose address is read again: a skip may change registers. */
+static int differs(void) {
+    const uint8_t *volatile key = public_key;
+    const uint8_t *own = key + HBS_ROOT_PLACE((size_t)(public_key_end - public_key));
+    uint8_t difference = 0;
+    for (uint32_t i = 0; i < HBS_ROOT_BYTES; i++) difference |= (uint8_t)(root[i] ^ own[i]);
+    return difference != 0;
+}
+
+/* The same verdict by the root, against forced faults: whatever instruction of the library is skipped, it decides. */
+static int is_refused_by_root(uint32_t image_length, uint32_t signature_length) {
+    const size_t key_length = (size_t)(public_key_end - public_key);
+    for (uint32_t i = 0; i < HBS_ROOT_BYTES; i++) root[i] = (uint8_t)~public_key[HBS_ROOT_PLACE(key_length) + i];
+    (void)hbs_root(public_key, key_length, IMAGE, image_length, signature, signature_length, (uint8_t *)root);
+    return differs() || differs();
+}
+
 void load(void) {
     uint32_t image_length, signature_length;
     uint64_t answer;
@@ -91,7 +109,7 @@ void load(void) {
     copy(signature, HEAD_BYTES + image_length, signature_length);
     answer = hbs_verify(public_key, (size_t)(public_key_end - public_key), IMAGE, image_length, signature,
                         signature_length);
-    if (answer == HBS_VERIFIED) {
+    if (answer == HBS_VERIFIED && !is_refused_by_root(image_length, signature_length)) {
         print("loader: verified\n");
         start(IMAGE, IMAGE + image_length);
         print("loader: the image has returned\n");

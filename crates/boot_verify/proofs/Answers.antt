@@ -1,5 +1,5 @@
 -- An answer is 0 exactly where the signature is valid.
-use Rattle.std.proofs.Common.{◌≡◌, ◌∙◌, refl, ap, subst, arith, ℕ, ◌<◌, ◌≤◌, inl, inr, true, false, List, ◌++◌, length, take, Result, Ok, Err}
+use Rattle.std.proofs.Common.{◌≡◌, ◌∙◌, refl, ap, subst, arith, ℕ, ◌<◌, ◌≤◌, inl, inr, true, false, List, ◌++◌, length, Result, Ok, Err}
 use Rattle.std.specs.Prelude.{◌≢◌, ◌↔◌, IsOk}
 use Rattle.sha2.specs.Sha256.{sha256}
 use Rattle.typecodes.specs.declared.fault.Cause.{Cause}
@@ -19,8 +19,8 @@ use Rattle.xmss.specs.Verification.{prefix_of as xmss_prefix_of}
 use Rattle.xmss.proofs.Verdicts as xmss
 use Rattle.boot_verify.specs.declared.key.Key.{Key}
 use Rattle.boot_verify.specs.declared.key.Key.TheVariants.{Lms, Hss, Xmss}
-use Rattle.boot_verify.specs.Key.{KeyHasPrefix, KeyIsDigest, KeyVerdict, Signs, SpellsKey, prefix_length}
-use Rattle.boot_verify.specs.Answer.{Answers, GivesPrefix, IsDigest, IsEarly, IsSigned, RefusesKey, packed, refusal_detail, verdict_answer}
+use Rattle.boot_verify.specs.Key.{KeyHasPrefix, KeyIsDigest, KeyVerdict, Signs, SpellsKey}
+use Rattle.boot_verify.specs.Answer.{Answers, IsDigest, IsEarly, IsSigned, RefusesKey, packed, refusal_detail, verdict_answer}
 use Rattle.boot_verify.proofs.Keys.{no_fault, not_none, one_key}
 
 -- no cause and no refusal has the number 0
@@ -38,14 +38,14 @@ refusal_above LevelMismatch = omega arith
 refusal_above (RootMismatch level) = omega arith
 refusal_above MessageRead = omega arith
 
-never_zero : (number detail answer : ℕ) → 0 < number → answer ≡ packed number detail → answer ≡ 0 → ⊥
+pub never_zero : (number detail answer : ℕ) → 0 < number → answer ≡ packed number detail → answer ≡ 0 → ⊥
 never_zero number detail answer above is zero = omega (arith, above, is, zero)
 
 key_never_zero : (public : List ℕ) (answer : ℕ) → RefusesKey public answer → answer ≡ 0 → ⊥
 key_never_zero public answer (inl (_, _, _, is)) zero = never_zero 6 _ answer (omega arith) is zero
 key_never_zero public answer (inr (fault, _, is)) zero = never_zero (cause_number fault.cause) fault.place answer (cause_above fault.cause) is zero
 
-refused_spells_none : (public : List ℕ) (answer : ℕ) (key : Key) → RefusesKey public answer → SpellsKey key public → ⊥
+pub refused_spells_none : (public : List ℕ) (answer : ℕ) (key : Key) → RefusesKey public answer → SpellsKey key public → ⊥
 refused_spells_none public answer key (inl (not_lms, not_hss, not_xmss, _)) spelled = not_none key public spelled not_lms not_hss not_xmss
 refused_spells_none public answer key (inr (fault, faulty, _)) spelled = no_fault key public fault spelled faulty
 
@@ -121,16 +121,3 @@ pub digest_of_bytes : (key : Key) (public bytes prefix message : List ℕ) → S
 digest_of_bytes key public bytes prefix message spelled has = λ other spelled_too.
     subst (λ key. KeyIsDigest key message bytes (sha256 (prefix ++ message))) (one_key key other public spelled spelled_too)
     (digest_after key bytes prefix message has)
-
--- a prefix at the front of the room, with its length as the answer, is what C asked for
-pub given : (key : Key) (public bytes room : List ℕ) (n answer : ℕ) → SpellsKey key public → n ≡ prefix_length key
-    → KeyHasPrefix key bytes (take n room) → answer ≡ packed 0 n → GivesPrefix public bytes room answer
-given key public bytes room n answer spelled count has is =
-    let front = subst (λ n. KeyHasPrefix key bytes (take n room)) count has in
-    inl (
-      key,
-      spelled,
-      is ∙ ap (packed 0) count,
-      front,
-      λ message. digest_of_bytes key public bytes (take (prefix_length key) room) message spelled front,
-    )

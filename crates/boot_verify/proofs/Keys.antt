@@ -19,7 +19,7 @@ use Rattle.hss.specs.Key.{level_number, public_key as hss_public_key}
 use Rattle.xmss.specs.Key.{public_key as xmss_public_key}
 use Rattle.xmss.proofs.After.{after_root, after_seed, after_tree}
 
-size-xmss_type : HasSize xmss_type 4
+pub size-xmss_type : HasSize xmss_type 4
 unfolding xmss_type
 size-xmss_type = size-typed xmss_code xmss_types
 
@@ -27,27 +27,27 @@ size-xmss_type = size-typed xmss_code xmss_types
 tested : ℕ → ℕ → ℕ → Layout ℕ
 tested low high n = cond (nat_le low n && nat_le n high) (done n) (refuse 4 LevelCount)
 
-size-level_number : (low high : ℕ) → HasSize (level_number low high) 4
+pub size-level_number : (low high : ℕ) → HasSize (level_number low high) 4
 unfolding level_number tested
 size-level_number low high =
     size-bind number (tested low high) 4 0 size-number (λ n.
     size-if (nat_le low n && nat_le n high) (done n) (refuse 4 LevelCount) 0 (size-done n) (size-refuse 4 LevelCount 0))
 
 -- the rest of an HSS key's layout after each field
-of_top : ℕ → LmsPublic → Layout HssPublic
+unfoldable pub of_top : ℕ → LmsPublic → Layout HssPublic
 of_top levels top = done (record { levels = levels; top = top })
 
-of_levels : ℕ → Layout HssPublic
+unfoldable pub of_levels : ℕ → Layout HssPublic
 of_levels levels = lms_public_key >>= of_top levels
 
-size-hss_key : HasSize hss_public_key 60
+pub size-hss_key : HasSize hss_public_key 60
 unfolding hss_public_key of_levels of_top
 size-hss_key =
     size-bind (level_number 1 8) of_levels 4 56 (size-level_number 1 8) (λ levels.
     size-bind lms_public_key (of_top levels) 56 0 size-lms_key (λ top.
     size-done (record { levels = levels; top = top })))
 
-size-xmss_key : HasSize xmss_public_key 68
+pub size-xmss_key : HasSize xmss_public_key 68
 unfolding xmss_public_key
 size-xmss_key =
     size-bind xmss_type after_tree 4 64 size-xmss_type (λ tree.

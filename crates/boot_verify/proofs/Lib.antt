@@ -1,2 +1,5 @@
 pub mod Keys
 pub mod Answers
+pub mod Roots
+pub mod Prefixes
+pub mod Padded

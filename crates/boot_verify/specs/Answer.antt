@@ -1,6 +1,6 @@
 -- The library's answers: 0, or a refusal's number with its detail.
-use Rattle.std.specs.Prelude.{◌≡◌, ◌≢◌, ◌≤◌, ◌<◌, ◌⊎◌, ℕ, ◌+◌, ◌-◌, ◌*◌, ◌^◌, nat_lt, if◌then◌else◌, List}
-use Rattle.std.specs.Prelude.{◌++◌, length, take, Result, Ok, Err}
+use Rattle.std.specs.Prelude.{◌≡◌, ◌≢◌, ◌↔◌, ◌≤◌, ◌<◌, ◌⊎◌, ℕ, ◌+◌, ◌-◌, ◌*◌, ◌^◌, nat_eq, nat_lt, if◌then◌else◌, List}
+use Rattle.std.specs.Prelude.{◌++◌, drop, length, replicate, take, Result, Ok, Err}
 use Rattle.sha2.specs.Sha256.{sha256}
 use Rattle.typecodes.specs.declared.fault.ReadFault.{ReadFault}
 use Rattle.typecodes.specs.declared.refusal.Refusal.{Refusal}
@@ -60,11 +60,39 @@ abbrev pub IsEarly : ℕ → Type 0
 IsEarly answer = (number : ℕ) × (detail : ℕ) × (answer ≡ packed number detail)
     × (((0 < number) × (number ≤ 6)) ⊎ (number ≡ 11))
 
--- The prefix's length, 54 or 128, is in the upper 32 bits, and the prefix at the front of the room. Otherwise every
--- message has this same refusal, which compared no type and no root.
+-- Every message has this same refusal, which compared no type and no root.
+abbrev pub RefusesEarly : List ℕ → List ℕ → ℕ → Type 0
+RefusesEarly public bytes answer = ((message : List ℕ) → Answers public message bytes answer) × IsEarly answer
+
+-- The bytes spell a key and a signature with this prefix, of n bytes: 54 or 128.
+abbrev pub IsPrefix : List ℕ → List ℕ → ℕ → List ℕ → Type 0
+IsPrefix public bytes n prefix =
+    (key : Key) × SpellsKey key public × (n ≡ prefix_length key) × KeyHasPrefix key bytes prefix
+
+-- the answer where what was asked for is ready, which says nothing of validity
+abbrev pub ready : ℕ
+ready = packed 9 0
+
+-- The prefix is ready at the front of the room, with its length in the upper 32 bits. Otherwise there is a refusal, and
+-- the room has zeros.
 abbrev pub GivesPrefix : List ℕ → List ℕ → List ℕ → ℕ → Type 0
 GivesPrefix public bytes room answer =
-    ((key : Key) × SpellsKey key public × (answer ≡ packed 0 (prefix_length key))
-    × KeyHasPrefix key bytes (take (prefix_length key) room)
-    × ((message : List ℕ) → IsDigest public message bytes (sha256 (take (prefix_length key) room ++ message))))
-    ⊎ (((message : List ℕ) → Answers public message bytes answer) × IsEarly answer)
+    ((n : ℕ) × (answer ≡ packed 9 n) × IsPrefix public bytes n (take n room)
+    × ((message : List ℕ) → IsDigest public message bytes (sha256 (take n room ++ message))))
+    ⊎ (RefusesEarly public bytes answer × (room ≡ replicate 128 0))
+
+-- ---- roots
+
+-- the 32 bytes of a key's root: the last ones, and in XMSS those after the type (RFC 8554 5.3, RFC 8391 4.1.7)
+abbrev pub root_of : List ℕ → List ℕ
+root_of public = take 32 (drop (if nat_eq (length public) 68 then 4 else length public - 32) public)
+
+-- There is a root, or a refusal, and what was in the room stays.
+abbrev pub GivesRoot : List ℕ → List ℕ → List ℕ → ℕ → Type 0
+GivesRoot public old new answer = (answer ≡ ready) ⊎ ((new ≡ old) × (RefusesKey public answer
+    ⊎ ((refusal : Refusal) × (refusal ≢ MessageRead) × (answer ≡ verdict_answer (Err refusal)))))
+
+-- Where other bytes than the key's root were in the room, the root is in it exactly where the signature is valid.
+abbrev pub GivesExactly : List ℕ → List ℕ → List ℕ → List ℕ → List ℕ → Type 0
+GivesExactly public message bytes old new =
+    old ≢ root_of public → (new ≡ root_of public) ↔ IsSigned public message bytes

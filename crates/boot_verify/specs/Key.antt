@@ -5,13 +5,10 @@ use Rattle.typecodes.specs.declared.fault.ReadFault.{ReadFault}
 use Rattle.typecodes.specs.declared.refusal.Refusal.{Refusal}
 use Rattle.typecodes.specs.Layout.{Spells, HasFault}
 use Rattle.lms.specs.Key.{public_key as lms_public_key}
-use Rattle.lms.specs.Signature.{Signature as LmsSignature, signature as lms_signature}
 use Rattle.lms.specs.Verification as lms
 use Rattle.hss.specs.Key.{public_key as hss_public_key}
-use Rattle.hss.specs.Signature.{Signature as HssSignature, signature as hss_signature}
 use Rattle.hss.specs.Verification as hss
 use Rattle.xmss.specs.Key.{public_key as xmss_public_key}
-use Rattle.xmss.specs.Signature.{Signature as XmssSignature, signature as xmss_signature}
 use Rattle.xmss.specs.Verification as xmss
 use Rattle.boot_verify.specs.declared.key.Key.{Key}
 use Rattle.boot_verify.specs.declared.key.Key.TheVariants.{Lms, Hss, Xmss}
@@ -30,10 +27,9 @@ KeyHasFault bytes fault = ((length bytes ≡ 56) × HasFault lms_public_key byte
 
 -- The bytes spell a signature that is valid for the message under the key (RFC 8554 5.4.2 and 6.3, RFC 8391 4.1.10).
 abbrev pub Signs : Key → List ℕ → List ℕ → Type 0
-Signs (Lms key) message bytes = (s : LmsSignature) × Spells lms_signature s bytes × lms.IsValid key message s
-Signs (Hss key) message bytes = (s : HssSignature) × Spells hss_signature s bytes × hss.IsValid key message s
-Signs (Xmss key) message bytes =
-    (s : XmssSignature) × Spells (xmss_signature key.tree) s bytes × xmss.IsValid key message s
+Signs (Lms key) message bytes = lms.Signs key message bytes
+Signs (Hss key) message bytes = hss.Signs key message bytes
+Signs (Xmss key) message bytes = xmss.Signs key message bytes
 
 -- Verification answers what the key's scheme says.
 abbrev pub KeyVerdict : {A : Type 0} → Key → List ℕ → List ℕ → Result A Refusal → Type 0

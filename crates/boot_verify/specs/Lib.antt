@@ -1,2 +1,4 @@
 pub mod Key
 pub mod Answer
+pub mod Pieces
+pub mod inner

@@ -9,6 +9,12 @@ use typecodes::{ReadFault, Refusal};
 // 2^32: what multiplies the upper 32 bits of an answer.
 const UPPER: u64 = 0x1_0000_0000;
 
+/// The number of an answer that is no refusal, and says nothing of validity: what was asked for is ready.
+pub(crate) const READY: u8 = 9;
+
+/// The number of the refusal of a message that was begun for another key or signature, or for none.
+pub(crate) const CHANGED: u8 = 8;
+
 /// `number` in the lower 32 bits, `detail` in the upper ones.
 pub(crate) fn packed(number: u8, detail: u32) -> u64
     ensures { result ≡ spec.packed number detail }

@@ -2,6 +2,7 @@
 
 ghost use Rattle.std.specs.Prelude.{◌≡◌, ◌≢◌, ◌≤◌, ℕ, List, length, take, Err, IfErr, IfOk};
 ghost use Rattle.boot_verify.specs.Key.{KeyHasPrefix, KeyIsDigest, KeyVerdict, SpellsKey, prefix_length};
+ghost use Rattle.boot_verify.specs.inner.Key.{KeyGivesRoot};
 ghost use Rattle.boot_verify.specs.Answer.{RefusesKey};
 
 use crate::answer::{fault_answer, length_answer};
@@ -46,6 +47,18 @@ impl Key {
             Key::Lms(key) => lms::verify_bytes_by(&OneByOne, key, message, signature),
             Key::Hss(key) => hss::verify_bytes_by(&OneByOne, key, message, signature),
             Key::Xmss(key) => xmss::verify_bytes_by(&OneByOne, key, message, signature),
+        }
+    }
+
+    /// The root to which the signature leads. It is compared with none.
+    pub(crate) fn root(&self, message: &[u8], signature: &[u8]) -> Result<[u8; 32], Refusal>
+        ensures root { KeyGivesRoot self.now message.now signature.now result }
+        ensures read { result ≢ Err Refusal.MessageRead }
+    {
+        match self {
+            Key::Lms(key) => lms::root_by(&OneByOne, key, message, signature),
+            Key::Hss(key) => hss::root_by(&OneByOne, key, message, signature),
+            Key::Xmss(key) => xmss::root_by(&OneByOne, key, message, signature),
         }
     }
 

@@ -1,6 +1,6 @@
 use Rattle.std.proofs.Common.{inl, inr}
 use Rattle.boot_verify.proofs.Answers.{valid_exactly}
-use Rattle.boot_verify.proofs.hbs_verify.Goals as goal
+use Rattle.boot_verify.proofs.hbs_proved_verify.Goals as goal
 
 pub returns-in-Ok-clause-valid : goal.returns-in-Ok-clause-valid
 returns-in-Ok-clause-valid c =

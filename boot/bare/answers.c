@@ -1,0 +1,135 @@
+/*
+ * Calls the library on a machine without a system, and gives its answers and the stack that it took. It runs under
+ * QEMU, and asks it for files by semihosting: it reads the file `cases`, writes the file `answers`, and ends.
+ *
+ * A case has four numbers of 32 bits, which of the calls is made and the lengths of key, message and signature, and
+ * then their bytes. Its answer has two numbers of 64 bits: what the call returned, and the bytes of stack that it wrote
+ * over. The message of hbs_verify_digest is the digest. For hbs_root the answer is 0 where the key's root came out, and
+ * for a message in pieces that of hbs_begin, if it refuses, and else that of hbs_end.
+ */
+#include "hbs_verify.h"
+
+enum { OPEN = 1, CLOSE = 2, WRITE = 5, READ = 6, EXIT = 24 };
+enum { VERIFY, PREFIX, DIGEST, ROOT, PIECES };
+/* Painted words of 32 bits below the stack pointer, and those that the caller may be using. */
+#define PAINTED 4096
+#define CALLER 32
+#define PAINT 0xa5a5a5a5u
+
+/* One after the other, so that the message and the signature begin at odd addresses. */
+static uint8_t bytes[HBS_XMSS_KEY_BYTES + 1 + (1 << 16) + HBS_MOST_SIGNATURE_BYTES + 1];
+static uint8_t prefix[HBS_PREFIX_BYTES], root[HBS_ROOT_BYTES];
+static hbs_message so_far;
+void start(void);
+
+/* Asks QEMU for something, as each machine does. */
+static intptr_t ask(intptr_t what, void *with) {
+#if defined(__riscv)
+    register intptr_t a0 __asm__("a0") = what;
+    register void *a1 __asm__("a1") = with;
+    __asm__ volatile(".balign 16\n.option push\n.option norvc\nslli x0, x0, 0x1f\nebreak\nsrai x0, x0, 7\n.option pop"
+                     : "+r"(a0) : "r"(a1) : "memory");
+    return a0;
+#elif defined(__aarch64__)
+    register intptr_t x0 __asm__("x0") = what;
+    register void *x1 __asm__("x1") = with;
+    __asm__ volatile("hlt #0xf000" : "+r"(x0) : "r"(x1) : "memory");
+    return x0;
+#else
+    register intptr_t r0 __asm__("r0") = what;
+    register void *r1 __asm__("r1") = with;
+#if defined(__ARM_ARCH_PROFILE) && __ARM_ARCH_PROFILE == 'M'
+    __asm__ volatile("bkpt #0xab" : "+r"(r0) : "r"(r1) : "memory");
+#else
+    __asm__ volatile("svc #0x123456" : "+r"(r0) : "r"(r1) : "memory");
+#endif
+    return r0;
+#endif
+}
+
+static intptr_t open(const char *name, size_t length, intptr_t how) {
+    intptr_t words[3];
+    words[0] = (intptr_t)name;
+    words[1] = how;
+    words[2] = (intptr_t)length;
+    return ask(OPEN, words);
+}
+
+/* Reads or writes, and says whether all bytes came or went. */
+static int moved(intptr_t what, intptr_t file, void *place, size_t length) {
+    intptr_t words[3];
+    words[0] = file;
+    words[1] = (intptr_t)place;
+    words[2] = (intptr_t)length;
+    return length == 0 || ask(what, words) == 0;
+}
+
+static void end(void) {
+    /* (a machine of 32 bits gives the reason itself) */
+    intptr_t reason[2] = {0x20026, 0};
+    ask(EXIT, sizeof reason[0] == 8 ? (void *)reason : (void *)reason[0]);
+    for (;;) { }
+}
+
+/* Whether the key's root came out. */
+static uint64_t by_root(const uint32_t *numbers, const uint8_t *message, const uint8_t *signature) {
+    const uint8_t *wanted = bytes + HBS_ROOT_PLACE(numbers[1]);
+    uint64_t answer;
+    size_t at;
+    /* (where the key has no root, any bytes stand there) */
+    if (numbers[1] < HBS_LMS_KEY_BYTES) wanted = prefix;
+    for (at = 0; at < sizeof root; at++) root[at] = (uint8_t)~wanted[at];
+    answer = hbs_root(bytes, numbers[1], message, numbers[2], signature, numbers[3], root);
+    for (at = 0; at < sizeof root; at++) {
+        if (root[at] != wanted[at]) return answer;
+    }
+    return 0;
+}
+
+/* The answer for a message in three pieces, the second of which is empty. */
+static uint64_t in_pieces(const uint32_t *numbers, const uint8_t *message, const uint8_t *signature) {
+    uint64_t answer = hbs_begin(&so_far, bytes, numbers[1], signature, numbers[3]);
+    if (HBS_NUMBER(answer) != HBS_READY) return answer;
+    hbs_add(&so_far, message, numbers[2] / 3);
+    hbs_add(&so_far, message, 0);
+    hbs_add(&so_far, message + numbers[2] / 3, numbers[2] - numbers[2] / 3);
+    return hbs_end(&so_far, bytes, numbers[1], signature, numbers[3]);
+}
+
+static uint64_t called(const uint32_t *numbers) {
+    const uint8_t *message = bytes + numbers[1], *signature = message + numbers[2];
+    switch (numbers[0]) {
+    case VERIFY: return hbs_verify(bytes, numbers[1], message, numbers[2], signature, numbers[3]);
+    case PREFIX: return hbs_message_prefix(bytes, numbers[1], signature, numbers[3], prefix);
+    case DIGEST: return hbs_verify_digest(bytes, numbers[1], signature, numbers[3], message);
+    case ROOT: return by_root(numbers, message, signature);
+    default: return in_pieces(numbers, message, signature);
+    }
+}
+
+/* The answer to a case, and the words of the painted stack that are written over. */
+static uint64_t measured(const uint32_t *numbers, uint64_t *taken) {
+    volatile uint32_t here = PAINT;
+    volatile uint32_t *painted = &here - PAINTED - CALLER;
+    uint64_t answer;
+    size_t at, kept = 0;
+    for (at = 0; at < PAINTED; at++) painted[at] = PAINT;
+    answer = called(numbers);
+    while (kept < PAINTED && painted[kept] == PAINT) kept++;
+    *taken = (PAINTED + CALLER - kept) * sizeof *painted;
+    return answer;
+}
+
+void start(void) {
+    uint32_t numbers[4];
+    uint64_t answer[2];
+    intptr_t cases = open("cases", 5, 1), answers = open("answers", 7, 5);
+    while (moved(READ, cases, numbers, sizeof numbers) &&
+           (size_t)numbers[1] + numbers[2] + numbers[3] <= sizeof bytes &&
+           moved(READ, cases, bytes, (size_t)numbers[1] + numbers[2] + numbers[3])) {
+        answer[0] = measured(numbers, &answer[1]);
+        moved(WRITE, answers, answer, sizeof answer);
+    }
+    ask(CLOSE, &answers);
+    end();
+}
