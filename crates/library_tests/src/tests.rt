@@ -1,8 +1,10 @@
 mod audits;
 mod documented;
+mod expecting;
 mod faults;
 mod key;
 mod memory_disk;
 mod migration;
 mod serving;
 mod signer;
+mod surface;

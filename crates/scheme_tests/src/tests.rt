@@ -2,6 +2,7 @@
 
 mod chains;
 mod codes;
+mod expecting;
 mod hss_keys;
 mod lms_keys;
 mod one_time;

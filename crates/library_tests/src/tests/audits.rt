@@ -1,5 +1,6 @@
 //! A key whose disk fails or crashes at each call, and calls that allocate nothing.
 
+use super::expecting::{created, expect, sign};
 use key_audit::{Anchor, AuditFault, Given, GivenFault, audit, check_given};
 use sign_core::{AnyPublic, Signer, Source, SourceFault};
 use state_file::{Disk, FileStore, MemoryDisk, Store};
@@ -30,26 +31,19 @@ impl Source for Numbers {
     }
 }
 
-fn created<S: Store + Drop, R: Source + Drop>(
-    alloc: Global,
-    spec: &str,
-    store: S,
-    random: R,
-) -> Option<Signer<S, R>> {
-    if store.limit() == 0 {
-        return None;
-    }
-    Signer::create(alloc, Spec::parse(spec).ok()?, store, random).ok()
-}
-
 fn sign_byte<S: Store, R: Source>(
     signer: &mut Signer<S, R>,
     name: &[u8],
     byte: u8,
     out: &mut Vec<u8>,
 ) -> Option<()> {
-    let name = Name::new(name).ok()?;
-    signer.sign(&name, &mut [byte].as_slice(), out).ok()
+    match Name::new(name) {
+        Ok(name) => match sign(signer, &name, &[byte], out) {
+            None => Some(()),
+            Some(_) => None,
+        },
+        Err(_) => None,
+    }
 }
 
 const ONE_TREE: &str = "lms:H5/W8";

@@ -1,35 +1,40 @@
 //! The example of sign_core's documentation.
 
-use sign_core::{AnyPublic, Signer, Source, TapeSource, verify_any};
+use super::expecting::{created, expect, is_read_again, is_valid, sign, top_left};
+use sign_core::{Signer, Source, TapeSource};
 use state_file::{MemoryStore, Store};
 use std::alloc::Global;
-use typecodes::{Name, Spec};
+use typecodes::Name;
 
-// The store after a signature that verifies, of a key that reads back as written.
-fn signed_in<S: Store + Drop, R: Source + Drop>(alloc: Global, store: S, random: R) -> Option<S> {
-    if store.limit() == 0 {
-        return None;
+fn signs_into<S: Store, R: Source>(signer: &mut Signer<S, R>, signature: &mut Vec<u8>) -> bool {
+    match Name::new(b"fw-1") {
+        Ok(name) => sign(signer, &name, b"firmware", signature).is_none(),
+        Err(_) => false,
     }
-    let mut signer = Signer::create(alloc, Spec::parse("lms:H5/W8").ok()?, store, random).ok()?;
+}
+
+// Whether a signature verifies, of a key that reads back as written.
+fn signs<S: Store, R: Source>(alloc: Global, signer: &mut Signer<S, R>) -> bool {
     let mut signature = Vec::new(alloc);
-    let name = Name::new(b"fw-1").ok()?;
-    signer
-        .sign(&name, &mut b"firmware".as_slice(), &mut signature)
-        .ok()?;
-    let public = signer.public_key();
+    signs_into(signer, &mut signature)
+        && is_valid(&signer.public_key(), b"firmware", &signature)
+        && is_read_again(&signer.public_key())
+}
+
+// The store after such a signature.
+fn signed_in<S: Store + Drop, R: Source + Drop>(alloc: Global, store: S, random: R) -> Option<S> {
+    let mut signer = created(alloc, "lms:H5/W8", store, random)?;
+    let is_right = signs(alloc, &mut signer);
     let store = signer.into_store();
-    verify_any(&public, &mut b"firmware".as_slice(), &signature).ok()?;
-    if AnyPublic::read(public.write().as_slice()) == Ok(public) {
-        Some(store)
-    } else {
-        None
-    }
+    if is_right { Some(store) } else { None }
 }
 
 // The leaves left once the key is opened again.
 fn left_in<S: Store + Drop, R: Source + Drop>(alloc: Global, store: S, random: R) -> Option<u32> {
-    let signer = Signer::open(alloc, store, random).ok()?;
-    signer.left().as_slice().first().copied()
+    match Signer::open(alloc, store, random) {
+        Ok(signer) => top_left(&signer),
+        Err(_) => None,
+    }
 }
 
 // The whole example, in memory and by a tape.
@@ -42,5 +47,5 @@ fn as_documented(alloc: Global) -> Option<u32> {
 
 #[test]
 fn what_is_signed_verifies(rt: HostRuntime) {
-    assert!(rt; as_documented(rt.alloc()) == Some(31));
+    expect(&rt, as_documented(rt.alloc()) == Some(31));
 }

@@ -1,5 +1,6 @@
 //! The texts of a store's faults, and the numbers and texts of a migration's.
 
+use super::expecting::expect;
 use state_file::{MigrateFault, StoreFault};
 use std::alloc::Global;
 
@@ -25,7 +26,7 @@ fn faults_are_printed(rt: HostRuntime) {
         (StoreFault::OutOfMemory, "out of memory"),
         (StoreFault::Full, "the store is full"),
     ] {
-        assert!(rt; is_printed(rt.alloc(), fault, text));
+        expect(&rt, is_printed(rt.alloc(), fault, text));
     }
 }
 
@@ -53,6 +54,6 @@ fn faults_have_numbers_and_texts(rt: HostRuntime) {
         (MigrateFault::KeyThere, "50 there is a key"),
         (MigrateFault::Full, "52 the store is full"),
     ] {
-        assert!(rt; is_numbered(rt.alloc(), fault, text));
+        expect(&rt, is_numbered(rt.alloc(), fault, text));
     }
 }

@@ -1,6 +1,7 @@
 //! Public keys and their signatures, which allocate nothing: `tests/run` counts that. `tests/conformance` tests which
 //! lengths and fields a key has.
 
+use super::expecting::expect;
 use hss::HssPublic;
 use lms::LmsPublic;
 use sign_core::{AnyPublic, verify_any};
@@ -27,51 +28,56 @@ fn of_levels(count: u8) -> Option<AnyPublic> {
     Some(AnyPublic::Hss(HssPublic { levels, top: LMS }))
 }
 
-// The length of a written key, if it begins with these bytes and reads back as the key.
-fn spelled(key: Option<AnyPublic>, first: &[u8]) -> Option<usize> {
-    let key = key?;
+// Whether a written key has this length, begins with these bytes and reads back as the key.
+fn is_spelled(key: &AnyPublic, len: usize, first: &[u8]) -> bool {
     let bytes = key.write();
-    if AnyPublic::read(bytes.as_slice()) != Ok(key)
-        || bytes.as_slice().get(..first.len()) != Some(first)
-    {
-        return None;
-    }
-    Some(bytes.len())
+    bytes.len() == len
+        && bytes.as_slice().starts_with(first)
+        && AnyPublic::read(bytes.as_slice()) == Ok(*key)
+}
+
+fn are_spelled() -> bool {
+    let levels = match of_levels(2) {
+        Some(key) => is_spelled(&key, 60, &[0, 0, 0, 2, 0, 0, 0, 5, 0, 0]),
+        None => false,
+    };
+    levels
+        && is_spelled(&AnyPublic::Lms(LMS), 56, &[0, 0, 0, 5, 0, 0, 0, 4, 1, 1])
+        && is_spelled(&AnyPublic::Xmss(XMSS), 68, &[0, 0, 0, 2, 3, 3, 3, 3, 3, 3])
 }
 
 // The first bytes are the standards' codes, and for HSS the number of levels before them.
 #[test]
 fn keys_are_read_as_they_are_written(rt: HostRuntime) {
-    let lms = Some(AnyPublic::Lms(LMS));
-    assert!(rt; spelled(lms, &[0, 0, 0, 5, 0, 0, 0, 4, 1, 1]) == Some(56));
-    assert!(rt; spelled(of_levels(2), &[0, 0, 0, 2, 0, 0, 0, 5, 0, 0]) == Some(60));
-    let xmss = Some(AnyPublic::Xmss(XMSS));
-    assert!(rt; spelled(xmss, &[0, 0, 0, 2, 3, 3, 3, 3, 3, 3]) == Some(68));
+    expect(&rt, are_spelled());
 }
 
-// The verdict on zeros as a signature under a key, and how much of the message is then unread.
-fn zeros_under(key: Option<AnyPublic>, zeros: &[u8]) -> Option<(Result<(), Refusal>, usize)> {
+// Whether zeros are refused so as a signature under a key, and this much of the message is then unread.
+fn is_refused(key: &AnyPublic, zeros: &[u8], refusal: Refusal, left: usize) -> bool {
     let mut message = b"message".as_slice();
-    let answer = verify_any(&key?, &mut message, zeros);
-    Some((answer, message.len()))
+    verify_any(key, &mut message, zeros) == Err(refusal) && message.len() == left
+}
+
+const CUT: Refusal = Refusal::Unreadable(ReadFault {
+    place: 4,
+    cause: Cause::Truncated,
+});
+
+fn reads_signatures_first() -> bool {
+    let levels = match of_levels(1) {
+        Some(key) => is_refused(&key, &[0; 4], CUT, 7),
+        None => false,
+    };
+    levels
+        && is_refused(&AnyPublic::Lms(LMS), &[0; 4], CUT, 7)
+        && is_refused(&AnyPublic::Xmss(XMSS), &[0; 4], CUT, 7)
 }
 
 // Each scheme reads the signature before the message. Zeros decode as an XMSS signature of height 16, with another
 // root.
 #[test]
 fn each_scheme_verifies(rt: HostRuntime) {
-    let cut = Err(Refusal::Unreadable(ReadFault {
-        place: 4,
-        cause: Cause::Truncated,
-    }));
-    for key in [
-        Some(AnyPublic::Lms(LMS)),
-        of_levels(1),
-        Some(AnyPublic::Xmss(XMSS)),
-    ] {
-        assert!(rt; zeros_under(key, &[0; 4]) == Some((cut, 7)));
-    }
-    let other = Err(Refusal::RootMismatch(0));
-    let key = Some(AnyPublic::Xmss(XMSS));
-    assert!(rt; zeros_under(key, &[0; 2692]) == Some((other, 0)));
+    let root = Refusal::RootMismatch(0);
+    expect(&rt, reads_signatures_first());
+    expect(&rt, is_refused(&AnyPublic::Xmss(XMSS), &[0; 2692], root, 0));
 }

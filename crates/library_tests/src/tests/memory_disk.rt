@@ -1,5 +1,6 @@
 //! A disk in memory, call by call.
 
+use super::expecting::expect;
 use state_file::{Disk, DiskFault, MemoryDisk, Pick};
 use std::alloc::Global;
 
@@ -94,17 +95,28 @@ const STOPS_FOR_GOOD: &[Step<'static>] = &[
     Step::Leaves(Pick::Fill(5), &[5, 2, 3]),
 ];
 
+// Whether the disk has these bytes there.
+fn has(disk: &mut MemoryDisk, at: u64, wanted: &[u8]) -> bool {
+    let mut into = [0; 8];
+    match into.get_mut(..wanted.len()) {
+        Some(part) => disk.read_at(at, part) == Ok(()) && *part == *wanted,
+        None => false,
+    }
+}
+
+// Whether a crash leaves these bytes.
+fn leaves(disk: &MemoryDisk, pick: Pick, wanted: &[u8]) -> bool {
+    match disk.stop(pick) {
+        Ok(left) => left.as_slice() == wanted,
+        Err(_) => false,
+    }
+}
+
 // Takes a step, and says whether its answer is the expected one.
 fn take(disk: &mut MemoryDisk, step: &Step<'_>) -> bool {
     match step {
         Step::Len(wanted) => disk.len() == *wanted,
-        Step::Read(at, wanted) => {
-            let mut into = [0; 8];
-            match into.get_mut(..wanted.len()) {
-                Some(part) => disk.read_at(*at, part) == Ok(()) && *part == **wanted,
-                None => false,
-            }
-        }
+        Step::Read(at, wanted) => has(disk, *at, wanted),
         Step::ReadFails(at, fault) => disk.read_at(*at, &mut [0; 2]) == Err(*fault),
         Step::Write(at, bytes, wanted) => disk.write_at(*at, bytes) == *wanted,
         Step::Sync(wanted) => disk.sync() == *wanted,
@@ -116,22 +128,29 @@ fn take(disk: &mut MemoryDisk, step: &Step<'_>) -> bool {
             disk.stop_at(*n);
             true
         }
-        Step::Leaves(pick, wanted) => match disk.stop(*pick) {
-            Ok(left) => left.as_slice() == *wanted,
-            Err(_) => false,
-        },
+        Step::Leaves(pick, wanted) => leaves(disk, *pick, wanted),
     }
 }
 
-// The index of the first wrong step, on a disk with these bytes.
-fn first_wrong(alloc: Global, bytes: &[u8], steps: &[Step<'_>]) -> Option<Option<usize>> {
-    let mut disk = MemoryDisk::of(alloc, bytes).ok()?;
-    for (k, step) in steps.iter().enumerate() {
-        if !take(&mut disk, step) {
-            return Some(Some(k));
+// Whether all steps are right.
+fn are_right(disk: &mut MemoryDisk, steps: &[Step<'_>]) -> bool {
+    for step in steps {
+        if !take(disk, step) {
+            return false;
         }
     }
-    Some(None)
+    true
+}
+
+// The same on a disk with these bytes.
+fn are_right_on(alloc: Global, bytes: &[u8], steps: &[Step<'_>]) -> bool {
+    match MemoryDisk::of(alloc, bytes) {
+        Ok(disk) => {
+            let mut disk = disk;
+            are_right(&mut disk, steps)
+        }
+        Err(_) => false,
+    }
 }
 
 const RUNS: &[(&[u8], &[Step<'static>])] = &[
@@ -148,7 +167,7 @@ const RUNS: &[(&[u8], &[Step<'static>])] = &[
 #[test]
 fn steps_are_taken(rt: HostRuntime) {
     for (bytes, steps) in RUNS {
-        assert_eq!(rt; first_wrong(rt.alloc(), bytes, steps), Some(None));
+        expect(&rt, are_right_on(rt.alloc(), bytes, steps));
     }
 }
 
@@ -204,14 +223,18 @@ fn refusals_of(alloc: Global) -> Option<u32> {
         .checked_add(stopped)
 }
 
+fn is_at_most_one(count: Option<u32>) -> bool {
+    matches!(count, Some(0 | 1))
+}
+
 // `tests/run` runs this with each allocation refused in turn.
 #[test]
 fn growths_are_refused_at_last(rt: HostRuntime) {
-    assert!(rt; matches!(refusals_of(rt.alloc()), Some(0 | 1)));
+    expect(&rt, is_at_most_one(refusals_of(rt.alloc())));
 }
 
 // This passes only where none is refused.
 #[test]
 fn growths_are_refused_at_first(rt: HostRuntime) {
-    assert!(rt; refusals_of(rt.alloc()) == Some(0));
+    expect(&rt, refusals_of(rt.alloc()) == Some(0));
 }

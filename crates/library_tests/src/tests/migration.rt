@@ -1,5 +1,6 @@
 //! Migrations that fail or crash at each call of either disk. All others are tested by `tests/conformance`.
 
+use crate::tests::expecting::expect;
 use crate::tests::signer::{Entry, with_records};
 use sign_core::{Signer, Source, TapeSource, migrate_key};
 use state_file::{Disk, FileStore, MemoryDisk, MigrateFault, Pick, Store, Version};
@@ -20,15 +21,21 @@ struct Migration {
     answer: Result<u32, MigrateFault>,
 }
 
+fn disk_of(alloc: Global, file: &[u8]) -> Option<MemoryDisk> {
+    MemoryDisk::of(alloc, file).ok()
+}
+
+fn left_of(disk: &MemoryDisk) -> Option<Vec<u8>> {
+    disk.stop(Pick::New).ok()
+}
+
 fn migrated(alloc: Global, old: &[u8], new: &[u8]) -> Option<Migration> {
-    let old = MemoryDisk::of(alloc, old).ok()?;
-    let new = MemoryDisk::of(alloc, new).ok()?;
+    let old = disk_of(alloc, old)?;
+    let new = disk_of(alloc, new)?;
     let (old, new, answer) = migrate_key(alloc, old, new);
-    Some(Migration {
-        old: old.stop(Pick::New).ok()?,
-        new: new.stop(Pick::New).ok()?,
-        answer,
-    })
+    let old = left_of(&old)?;
+    let new = left_of(&new)?;
+    Some(Migration { old, new, answer })
 }
 
 // Records of version 1, and the same in version 2.
@@ -45,15 +52,23 @@ const PICKS: [Pick; 5] = [
     Pick::Fill(0xFF),
 ];
 
-// Whether a disk has a key that can sign. `retire(0)` asks that without retiring a leaf.
+// Whether a disk has a key that can sign.
 fn can_sign<D: Disk + Drop, R: Source + Drop>(alloc: Global, disk: D, random: R) -> bool {
-    let Ok(store) = FileStore::open(disk) else {
-        return false;
-    };
-    let Ok(mut signer) = Signer::open(alloc, store, random) else {
-        return false;
-    };
-    signer.retire(0).is_ok()
+    match FileStore::open(disk) {
+        Ok(store) => can_sign_in(alloc, store, random),
+        Err(_) => false,
+    }
+}
+
+// `retire(0)` asks that without retiring a leaf.
+fn can_sign_in<S: Store + Drop, R: Source + Drop>(alloc: Global, store: S, random: R) -> bool {
+    match Signer::open(alloc, store, random) {
+        Ok(signer) => {
+            let mut signer = signer;
+            signer.retire(0).is_ok()
+        }
+        Err(_) => false,
+    }
 }
 
 // Whether a mishap left at most one file that can sign, and another migration leaves the files `wanted`. It succeeds,
@@ -141,7 +156,10 @@ fn count_survived(alloc: Global, place: &[u8], of_old: bool) -> Option<u32> {
 // slots, sync; gate, sync.
 #[test]
 fn mishaps_never_leave_two_files_that_sign(rt: HostRuntime) {
-    assert!(rt; count_survived(rt.alloc(), &[], false) == Some(9));
-    assert!(rt; count_survived(rt.alloc(), &[7; 1500], false) == Some(8));
-    assert!(rt; count_survived(rt.alloc(), &[], true).is_some());
+    expect(&rt, count_survived(rt.alloc(), &[], false) == Some(9));
+    expect(
+        &rt,
+        count_survived(rt.alloc(), &[7; 1500], false) == Some(8),
+    );
+    expect(&rt, count_survived(rt.alloc(), &[], true).is_some());
 }

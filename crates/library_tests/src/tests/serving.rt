@@ -2,6 +2,7 @@
 //! the same exchange over a whole input and an output that takes all. The replies to whole inputs are tested by
 //! `tests/conformance` and `tests/serving`.
 
+use crate::tests::expecting::{expect, sign, top_left};
 use crate::tests::signer::{LMS, created_by, seen_from};
 use sign_core::{ServeFault, Signer, Source, serve};
 use state_file::{MemoryStore, Store};
@@ -132,9 +133,14 @@ fn served<S: Store, R: Source>(
     input: &mut Input<'_>,
     output: &mut Output,
 ) -> Option<(Result<u64, ServeFault>, u32)> {
-    signer.retire(retired).ok()?;
+    if signer.retire(retired).is_err() {
+        return None;
+    }
     let end = serve(alloc, signer, input, output);
-    Some((end, signer.left().as_slice().first().copied()?))
+    match top_left(signer) {
+        Some(left) => Some((end, left)),
+        None => None,
+    }
 }
 
 // As `served`, by a new key in this store.
@@ -161,6 +167,8 @@ fn end_of(alloc: Global, retired: u32, input: &mut Input<'_>, output: &mut Outpu
 // The end of an exchange over a whole input, and its replies.
 fn whole(alloc: Global, retired: u32, bytes: &[u8]) -> Option<(End, Vec<u8>)> {
     let mut output = taking_all(alloc);
-    let end = end_of(alloc, retired, &mut input_of(bytes), &mut output)?;
-    Some((end, output.taken))
+    match end_of(alloc, retired, &mut input_of(bytes), &mut output) {
+        Some(end) => Some((end, output.taken)),
+        None => None,
+    }
 }

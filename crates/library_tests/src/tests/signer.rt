@@ -1,6 +1,7 @@
 //! Signers over stores in memory.
 
-use sign_core::{Ledger, LedgerFault, SignFault, Signer, Source, SourceFault, verify_any};
+use crate::tests::expecting::{created, expect, is_valid, lowest_left, sign};
+use sign_core::{Ledger, LedgerFault, SignFault, Signer, Source, SourceFault};
 use state_file::{
     Bound, Cut, Extend, Key, MemoryStore, Record, Secret, Store, StoreFault, Version,
 };

@@ -1,14 +1,16 @@
-//! Refusals in the order of the checks, and a signature made by the standard's formulas over SHA-256 alone.
+//! Lengths and parts of signatures, and one made by the standard's formulas over SHA-256 alone. `tests/conformance`
+//! tests on the program which bytes are refused, and why.
 
 mod made_by_others;
 
-use super::readers::{Failing, cut_field};
+use super::expecting::{expect, expect_none};
+use super::readers::Failing;
+use super::values::{fill, first, made_up_bytes, put, turn};
 use lms::{LmsPublic, LmsSigView, LmsTree, verify};
 use merkle::TreeHash;
 use sha2::{Digest, Sha256};
 use std::io;
 use std::io::Read;
-use std::process::Abort;
 use typecodes::{Cause, LmsPair, LmsSecret, LmsType, OtsType, ReadFault, Refusal};
 use winternitz::lanes::LANES;
 
@@ -43,129 +45,131 @@ fn zero_signature() -> [u8; 1292] {
     bytes
 }
 
-#[test]
-fn keys_are_read(rt: HostRuntime) {
-    let mut bytes = zero_key();
+// I begins with 1, the root ends with 2, and a zero follows.
+fn key_and_more() -> [u8; 57] {
+    let mut bytes = [0; 57];
+    bytes[..56].copy_from_slice(&zero_key());
     bytes[8] = 1;
     bytes[55] = 2;
+    bytes
+}
+
+fn key_of_them() -> LmsPublic {
     let mut key = ZERO_KEY;
     key.identifier[0] = 1;
     key.root[31] = 2;
-    assert!(rt; LmsPublic::read(&bytes) == Ok(key));
-    let mut longer = [0; 57];
-    longer[..56].copy_from_slice(&bytes);
-    for (bytes, place, cause) in [
-        (&longer[..7], 4, Cause::Truncated),
-        (&longer[..55], 24, Cause::Truncated),
-        (&longer, 56, Cause::Trailing),
-    ] {
-        assert!(rt;
-            LmsPublic::read(bytes) == Err(fault(place, cause)),
-            "at {place}"
-        );
-    }
-    bytes[7] = 9;
-    assert!(rt; LmsPublic::read(&bytes) == Err(fault(4, Cause::UnknownType)));
-    bytes[3] = 10;
-    assert!(rt; LmsPublic::read(&bytes) == Err(fault(0, Cause::UnknownType)));
+    key
 }
 
-// The refusal of these bytes under the key of zeros.
-fn refusal(rt: &impl Abort, signature: &[u8]) -> Refusal {
-    let mut message: &[u8] = b"message";
-    verify(&ZERO_KEY, &mut message, signature).expect_err(rt, "a signature of zeros")
+fn is_read(bytes: &[u8], wanted: Result<LmsPublic, ReadFault>) -> bool {
+    LmsPublic::read(bytes) == wanted
+}
+
+fn lengths_are_tested() -> bool {
+    let bytes = key_and_more();
+    is_read(first(&bytes, 56), Ok(key_of_them()))
+        && is_read(first(&bytes, 7), Err(fault(4, Cause::Truncated)))
+        && is_read(first(&bytes, 55), Err(fault(24, Cause::Truncated)))
+        && is_read(&bytes, Err(fault(56, Cause::Trailing)))
 }
 
 #[test]
-fn signatures_are_refused(rt: HostRuntime) {
-    let zeros = zero_signature();
-    assert!(rt; refusal(&rt, &zeros) == Refusal::RootMismatch(0));
-    let mut longer = [0; 1293];
-    longer[..1292].copy_from_slice(&zeros);
-    for (signature, place, cause) in [
-        (&longer[..0], 0, Cause::Truncated),
-        (&longer[..1291], 1260, Cause::Truncated),
-        (&longer, 1292, Cause::Trailing),
-    ] {
-        let expected = Refusal::Unreadable(fault(place, cause));
-        assert!(rt; refusal(&rt, signature) == expected, "at {place}");
-    }
-    for (changed, byte, place, cause) in [
-        (7, 9, 4, Cause::UnknownType),
-        (7, 3, 1288, Cause::Truncated),
-        (1131, 4, 1128, Cause::UnknownType),
-        (1131, 6, 1292, Cause::Truncated),
-        (3, 32, 0, Cause::LeafOutOfRange),
-        (0, 1, 0, Cause::LeafOutOfRange),
-    ] {
-        let mut signature = zeros;
-        signature[changed] = byte;
-        let expected = Refusal::Unreadable(fault(place, cause));
-        assert!(rt; refusal(&rt, &signature) == expected, "byte {changed}");
-    }
+fn keys_are_read(rt: HostRuntime) {
+    expect(&rt, lengths_are_tested());
 }
 
 fn leaf_of(signature: &[u8]) -> Result<u32, ReadFault> {
-    Ok(LmsSigView::read(signature)?.q())
+    Ok(LmsSigView::read(signature)?.index())
+}
+
+fn last_leaf_is_read() -> bool {
+    let mut signature = zero_signature();
+    signature[3] = 31;
+    leaf_of(&signature) == Ok(31)
 }
 
 #[test]
 fn the_last_leaf_is_read(rt: HostRuntime) {
-    let mut signature = zero_signature();
-    signature[3] = 31;
-    assert!(rt; leaf_of(&signature) == Ok(31));
-    assert!(rt; refusal(&rt, &signature) == Refusal::RootMismatch(0));
+    expect(&rt, last_leaf_is_read());
+}
+
+// Whether zeros are refused so at level 2, under a key of this pair, and this much of the message is left.
+fn is_reported(view: &LmsSigView<'_>, pair: LmsPair, refusal: Refusal, left: usize) -> bool {
+    let mut key = ZERO_KEY;
+    key.pair = pair;
+    let mut message: &[u8] = b"message";
+    view.verify(&key, &mut message, 2) == Err(refusal) && message.len() == left
+}
+
+fn are_reported(zeros: &[u8]) -> bool {
+    match LmsSigView::read(zeros) {
+        Ok(view) => {
+            is_reported(
+                &view,
+                pair(LmsType::H10, OtsType::W8),
+                Refusal::TypeMismatch(2),
+                7,
+            ) && is_reported(
+                &view,
+                pair(LmsType::H5, OtsType::W4),
+                Refusal::TypeMismatch(2),
+                7,
+            ) && is_reported(&view, PAIR, Refusal::RootMismatch(2), 0)
+        }
+        Err(_) => false,
+    }
 }
 
 // A signature that decoded is refused with its level's number. Types come first, and leave the message untouched.
 #[test]
 fn levels_are_reported(rt: HostRuntime) {
-    let zeros = zero_signature();
-    let Ok(view) = LmsSigView::read(&zeros) else {
-        panic!(rt; "it is not read")
-    };
-    let mut key = ZERO_KEY;
-    let mut message: &[u8] = b"message";
-    for (tree, ots) in [(LmsType::H10, OtsType::W8), (LmsType::H5, OtsType::W4)] {
-        key.pair = LmsPair { tree, ots };
-        assert!(rt; view.verify(&key, &mut message, 2) == Err(Refusal::TypeMismatch(2)));
-        assert!(rt; message.len() == 7);
-    }
-    key.pair = PAIR;
-    assert!(rt; view.verify(&key, &mut message, 2) == Err(Refusal::RootMismatch(2)));
-    assert!(rt; message.is_empty());
+    expect(&rt, are_reported(&zero_signature()));
 }
 
-// Whether zeros with a pair's codes, the tree's at `offset`, are a signature, and one byte less is none.
-fn has_len(pair: LmsPair, codes: [u8; 2], offset: usize, zeros: &mut [u8]) -> bool {
-    let len = zeros.len();
-    if len < 32 || len > 9324 || offset >= len || pair.signature_len() != len as u32 {
-        return false;
-    }
-    zeros[7] = codes[0];
-    zeros[offset] = codes[1];
-    let is_read = match LmsSigView::read(zeros) {
-        Ok(view) => view.types() == pair && view.bytes().len() == len,
+fn has(view: &LmsSigView<'_>, bytes: &[u8], pair: LmsPair) -> bool {
+    view.types() == pair && view.bytes() == bytes
+}
+
+fn is_of(bytes: &[u8], pair: LmsPair) -> bool {
+    match LmsSigView::read(bytes) {
+        Ok(view) => has(&view, bytes, pair),
         Err(_) => false,
+    }
+}
+
+// Whether zeros with a pair's codes, the tree's at `offset`, are a signature, and one byte less is none: the last node,
+// at `last`, is cut.
+fn has_len(pair: LmsPair, codes: [u8; 2], offset: usize, last: u32, zeros: &mut [u8]) -> bool {
+    put(zeros, 7, codes[0]);
+    put(zeros, offset, codes[1]);
+    let Some((_, cut)) = zeros.split_last() else {
+        return false;
     };
-    let cut = LmsSigView::read(&zeros[..len - 1]).err();
-    is_read && cut == Some(fault(len as u32 - 32, Cause::Truncated))
+    let is_cut = leaf_of(cut) == Err(fault(last, Cause::Truncated));
+    is_cut
+        && is_of(zeros, pair)
+        && pair.signature_len() == last.wrapping_add(32)
+        && zeros.len() == last.wrapping_add(32) as usize
 }
 
 const fn pair(tree: LmsType, ots: OtsType) -> LmsPair {
     LmsPair { tree, ots }
 }
 
+fn have_lengths() -> bool {
+    let (w1, w2, w4, w8) = (OtsType::W1, OtsType::W2, OtsType::W4, OtsType::W8);
+    has_len(pair(LmsType::H5, w8), [4, 5], 1131, 1260, &mut [0; 1292])
+        && has_len(pair(LmsType::H5, w4), [3, 5], 2187, 2316, &mut [0; 2348])
+        && has_len(pair(LmsType::H10, w4), [3, 6], 2187, 2476, &mut [0; 2508])
+        && has_len(pair(LmsType::H15, w8), [4, 7], 1131, 1580, &mut [0; 1612])
+        && has_len(pair(LmsType::H20, w2), [2, 8], 4299, 4908, &mut [0; 4940])
+        && has_len(pair(LmsType::H25, w1), [1, 9], 8523, 9292, &mut [0; 9324])
+}
+
 // RFC 8554 4.1, table 1, and 5.1, table 2.
 #[test]
 fn signatures_have_lengths(rt: HostRuntime) {
-    let (w1, w2, w4, w8) = (OtsType::W1, OtsType::W2, OtsType::W4, OtsType::W8);
-    assert!(rt; has_len(pair(LmsType::H5, w8), [4, 5], 1131, &mut [0; 1292]));
-    assert!(rt; has_len(pair(LmsType::H5, w4), [3, 5], 2187, &mut [0; 2348]));
-    assert!(rt; has_len(pair(LmsType::H10, w4), [3, 6], 2187, &mut [0; 2508]));
-    assert!(rt; has_len(pair(LmsType::H15, w8), [4, 7], 1131, &mut [0; 1612]));
-    assert!(rt; has_len(pair(LmsType::H20, w2), [2, 8], 4299, &mut [0; 4940]));
-    assert!(rt; has_len(pair(LmsType::H25, w1), [1, 9], 8523, &mut [0; 9324]));
+    expect(&rt, have_lengths());
 }
 
 // Zeros of the types H10 and W8.
@@ -176,26 +180,20 @@ fn higher_signature() -> [u8; 1452] {
     bytes
 }
 
-// Another one-time type, or another tree's, is refused before the root.
-#[test]
-fn types_are_compared(rt: HostRuntime) {
-    let mut longer = [0; 2348];
-    longer[7] = 3;
-    longer[2187] = 5;
-    assert!(rt; refusal(&rt, &longer) == Refusal::TypeMismatch(0));
-    assert!(rt; refusal(&rt, &higher_signature()) == Refusal::TypeMismatch(0));
+fn has_1024_leaves() -> bool {
+    let mut bytes = higher_signature();
+    bytes[2] = 3;
+    bytes[3] = 255;
+    let last = leaf_of(&bytes) == Ok(1023);
+    bytes[2] = 4;
+    bytes[3] = 0;
+    last && leaf_of(&bytes) == Err(fault(0, Cause::LeafOutOfRange))
 }
 
 // A tree of height 10 has the leaves 0 to 1023.
 #[test]
 fn leaves_of_a_higher_tree(rt: HostRuntime) {
-    let mut bytes = higher_signature();
-    bytes[2] = 3;
-    bytes[3] = 255;
-    assert!(rt; leaf_of(&bytes) == Ok(1023));
-    bytes[2] = 4;
-    bytes[3] = 0;
-    assert!(rt; leaf_of(&bytes) == Err(fault(0, Cause::LeafOutOfRange)));
+    expect(&rt, has_1024_leaves());
 }
 
 // Whether all bytes of chain i are this one, in a signature of H5 and W8.
@@ -208,25 +206,39 @@ fn has_node(view: &LmsSigView<'_>, k: u8, byte: u8) -> bool {
     view.types() == PAIR && k < 5 && *view.node(k) == [byte; 32]
 }
 
+fn with_parts() -> [u8; 1292] {
+    let mut bytes = zero_signature();
+    bytes[3] = 17;
+    fill(&mut bytes, 8, 1);
+    fill(&mut bytes, 40, 2);
+    fill(&mut bytes, 1096, 3);
+    fill(&mut bytes, 1132, 4);
+    fill(&mut bytes, 1260, 5);
+    bytes
+}
+
+fn has_parts(view: &LmsSigView<'_>) -> bool {
+    view.index() == 17
+        && *view.c() == [1; 32]
+        && has_chain(view, 0, 2)
+        && has_chain(view, 1, 0)
+        && has_chain(view, 33, 3)
+        && has_node(view, 0, 4)
+        && has_node(view, 3, 0)
+        && has_node(view, 4, 5)
+}
+
+fn are_lent(bytes: &[u8]) -> bool {
+    match LmsSigView::read(bytes) {
+        Ok(view) => has_parts(&view) && view.bytes() == bytes,
+        Err(_) => false,
+    }
+}
+
 // C, the first and the last chain and the first and the last node hold 1, 2, 3, 4 and 5.
 #[test]
 fn parts_are_lent(rt: HostRuntime) {
-    let mut bytes = zero_signature();
-    bytes[3] = 17;
-    for (value, offset) in [(1, 8), (2, 40), (3, 1096), (4, 1132), (5, 1260)] {
-        bytes[offset..offset + 32].copy_from_slice(&[value; 32]);
-    }
-    let Ok(view) = LmsSigView::read(&bytes) else {
-        panic!(rt; "it is not read")
-    };
-    assert!(rt; view.q() == 17 && *view.c() == [1; 32]);
-    for (i, byte) in [(0, 2), (1, 0), (33, 3)] {
-        assert!(rt; has_chain(&view, i, byte), "chain {i}");
-    }
-    for (k, byte) in [(0, 4), (3, 0), (4, 5)] {
-        assert!(rt; has_node(&view, k, byte), "node {k}");
-    }
-    assert!(rt; view.bytes() == bytes.as_slice());
+    expect(&rt, are_lent(&with_parts()));
 }
 
 const IDENTIFIER: [u8; 16] = [0, 1, 2, 3, 4, 5, 6, 7, 8, 9, 10, 11, 12, 13, 14, 15];
@@ -284,26 +296,34 @@ fn tree() -> [[u8; 32]; 64] {
     nodes
 }
 
-// The leaves of that tree, one by one, and in lanes from each leaf on.
-#[test]
-fn leaves_are_made_one_by_one_and_in_lanes(rt: HostRuntime) {
-    let nodes = tree();
+// That tree, whose seed is 32, .., 63.
+fn made_tree() -> LmsTree {
     let mut seed = [0; 32];
     for i in 0..32u8 {
         seed[usize::from(i)] = 32 + i;
     }
-    let mut made = LmsTree::new(LmsSecret {
+    LmsTree::new(LmsSecret {
         pair: PAIR,
         identifier: IDENTIFIER,
         seed,
-    });
+    })
+}
+
+// The first leaf that isn't the formulas', one by one or in lanes from it on.
+fn wrong_leaf(nodes: &[[u8; 32]; 64], made: &mut LmsTree) -> Option<usize> {
     for first in 0..=32 - LANES {
         let at = 32 + first;
-        let mut together = [[0; 32]; LANES];
-        together.copy_from_slice(&nodes[at..at + LANES]);
-        assert!(rt; made.leaf(first as u32) == nodes[at], "{first}");
-        assert!(rt; made.leaves_in_lanes(first as u32) == together, "{first}");
+        let is_leaf = made.leaf(first as u32) == nodes[at];
+        if !is_leaf || made.leaves_in_lanes(first as u32).as_slice() != &nodes[at..at + LANES] {
+            return Some(first);
+        }
     }
+    None
+}
+
+#[test]
+fn leaves_are_made_one_by_one_and_in_lanes(rt: HostRuntime) {
+    expect_none(&rt, wrong_leaf(&tree(), &mut made_tree()));
 }
 
 // The digits of a digest and of its checksum, a byte each (4.4 and 4.5).
@@ -339,66 +359,64 @@ fn sign(nodes: &[[u8; 32]; 64], q: u8, message: &[u8]) -> [u8; 1292] {
     bytes
 }
 
-// The signature of "message" is refused with a byte of q, C, a value or a node changed. So it is under the code of a
-// higher tree, whose path is longer.
-fn assert_changes_refused(rt: &impl Abort, key: &LmsPublic, signature: &[u8; 1292]) {
-    for offset in [3, 8, 40, 1127, 1132, 1291] {
-        let mut changed = *signature;
-        changed[offset] ^= 1;
-        let mut message: &[u8] = b"message";
-        assert!(rt;
-            verify(key, &mut message, &changed) == Err(Refusal::RootMismatch(0)),
-            "byte {offset}"
-        );
-    }
-    let mut higher = *signature;
-    higher[1131] = 6;
-    let mut message: &[u8] = b"message";
-    assert!(rt;
-        verify(key, &mut message, &higher)
-            == Err(Refusal::Unreadable(fault(1292, Cause::Truncated)))
-    );
+// The verdict on a signature of a text, and how much of the text is unread.
+fn verdict(key: &LmsPublic, mut text: &[u8], signature: &[u8]) -> (Result<(), Refusal>, usize) {
+    let verdict = verify(key, &mut text, signature);
+    (verdict, text.len())
 }
+
+// Whether the signature of "message" is refused so, with these bits of a byte turned.
+fn is_refused_with(
+    key: &LmsPublic,
+    signature: &[u8; 1292],
+    offset: usize,
+    bits: u8,
+    refusal: Refusal,
+) -> bool {
+    let mut changed = *signature;
+    turn(&mut changed, offset, bits);
+    verdict(key, b"message", &changed).0 == Err(refusal)
+}
+
+// Whether it is refused with a byte of q, C, a value or a node changed. So it is under the code of a higher tree, whose
+// path is longer.
+fn are_refused_with(key: &LmsPublic, signature: &[u8; 1292]) -> bool {
+    let other = Refusal::RootMismatch(0);
+    let longer = Refusal::Unreadable(fault(1292, Cause::Truncated));
+    is_refused_with(key, signature, 3, 1, other)
+        && is_refused_with(key, signature, 8, 1, other)
+        && is_refused_with(key, signature, 40, 1, other)
+        && is_refused_with(key, signature, 1127, 1, other)
+        && is_refused_with(key, signature, 1132, 1, other)
+        && is_refused_with(key, signature, 1291, 1, other)
+        && is_refused_with(key, signature, 1131, 5 ^ 6, longer)
+}
+
+// The signature of "message" verifies, and another message is refused, as are changed signatures.
+fn is_right(key: &LmsPublic, signature: &[u8; 1292]) -> bool {
+    verdict(key, b"message", signature) == (Ok(()), 0)
+        && verdict(key, b"massage", signature).0 == Err(Refusal::RootMismatch(0))
+        && are_refused_with(key, signature)
+}
+
+// Computed with Python's hashlib.
+const ROOT: [u8; 32] = [
+    0xf7, 0xd1, 0x99, 0x85, 0xac, 0x51, 0x14, 0x31, 0xcc, 0xfb, 0x66, 0x34, 0xef, 0x73, 0xb2, 0x3c,
+    0xa9, 0xd9, 0xd4, 0xc7, 0xfa, 0xc8, 0x1d, 0x6a, 0x42, 0x8c, 0xa5, 0xab, 0x34, 0x54, 0xf8, 0x3b,
+];
+
+const MADE_KEY: LmsPublic = LmsPublic {
+    pair: PAIR,
+    identifier: IDENTIFIER,
+    root: ROOT,
+};
 
 #[test]
 fn signatures_are_verified(rt: HostRuntime) {
     let nodes = tree();
-    // Computed with Python's hashlib.
-    let root = [
-        0xf7, 0xd1, 0x99, 0x85, 0xac, 0x51, 0x14, 0x31, 0xcc, 0xfb, 0x66, 0x34, 0xef, 0x73, 0xb2,
-        0x3c, 0xa9, 0xd9, 0xd4, 0xc7, 0xfa, 0xc8, 0x1d, 0x6a, 0x42, 0x8c, 0xa5, 0xab, 0x34, 0x54,
-        0xf8, 0x3b,
-    ];
-    assert!(rt; nodes[1] == root);
-    let key = LmsPublic {
-        pair: PAIR,
-        identifier: IDENTIFIER,
-        root,
-    };
+    expect(&rt, nodes[1] == ROOT);
     for q in [0, 5, 31] {
-        let signature = sign(&nodes, q, b"message");
-        let mut message: &[u8] = b"message";
-        assert!(rt;
-            verify(&key, &mut message, &signature) == Ok(()),
-            "leaf {q}"
-        );
-        assert!(rt; message.is_empty());
-        let mut other: &[u8] = b"massage";
-        assert!(rt; verify(&key, &mut other, &signature) == Err(Refusal::RootMismatch(0)));
-        assert_changes_refused(&rt, &key, &signature);
-    }
-}
-
-// The fields of a signature of H5 and W8, as runs of fields of one size: offset of the run, and the size. These are q
-// and the one-time type, C and 34 values, the tree's type, and five nodes (5.4).
-const FIELDS: [(u32, u32); 4] = [(0, 4), (8, 32), (1128, 4), (1132, 32)];
-
-#[test]
-fn each_beginning_is_cut_in_a_field(rt: HostRuntime) {
-    let signature = sign(&tree(), 5, b"message");
-    for end in 0..1292u32 {
-        let cut = Refusal::Unreadable(fault(cut_field(&FIELDS, end), Cause::Truncated));
-        assert!(rt; refusal(&rt, &signature[..end as usize]) == cut, "{end}");
+        expect(&rt, is_right(&MADE_KEY, &sign(&nodes, q, b"message")));
     }
 }
 
@@ -424,68 +442,63 @@ impl Read for Pieces<'_> {
     }
 }
 
-// The verdict on a message in pieces, by a seed for their sizes, and the one on the whole message.
-fn verdicts(
-    key: &LmsPublic,
-    signature: &[u8; 1292],
-    mut message: &[u8],
-    seed: u32,
-) -> (Result<(), Refusal>, Result<(), Refusal>) {
+// Whether this is the verdict on a message in pieces, by a seed for their sizes, and on the whole message.
+fn are_judged(signature: &[u8], message: &[u8], seed: u32, wanted: Result<(), Refusal>) -> bool {
     let mut pieces = Pieces {
         left: message,
         state: seed,
     };
-    (
-        verify(key, &mut pieces, signature),
-        verify(key, &mut message, signature),
-    )
+    verify(&MADE_KEY, &mut pieces, signature) == wanted
+        && verdict(&MADE_KEY, message, signature).0 == wanted
 }
 
-// Messages of 0 to 300 bytes. No two seeds give the same sizes.
-#[test]
-fn random_pieces_lead_to_the_verdict_on_the_whole(rt: HostRuntime) {
-    let nodes = tree();
-    let key = LmsPublic {
-        pair: PAIR,
-        identifier: IDENTIFIER,
-        root: nodes[1],
-    };
-    let mut text = [0; 300];
-    for i in 0..300usize {
-        text[i] = (i % 251) as u8;
-    }
+// The first seed for which a signature of the message, or one with a byte of a value changed, has another verdict.
+// Messages have 0 to 300 bytes, and no two seeds give the same sizes.
+fn wrong_seed(nodes: &[[u8; 32]; 64], text: &[u8; 300]) -> Option<usize> {
+    let refused = Err(Refusal::RootMismatch(0));
     for seed in 0..200u32 {
-        let message = &text[..(100 * seed % 301) as usize];
-        let signature = sign(&nodes, (seed % 32) as u8, message);
+        let message = first(text, (100 * seed % 301) as usize);
+        let signature = sign(nodes, (seed % 32) as u8, message);
         let mut other = signature;
         other[40] ^= 1;
-        let refused = Err(Refusal::RootMismatch(0));
-        assert!(rt;
-            (
-                verdicts(&key, &signature, message, seed),
-                verdicts(&key, &other, message, seed)
-            ) == ((Ok(()), Ok(())), (refused, refused)),
-            "{seed}"
-        );
-    }
-}
-
-// A failing message is reported before the root. Other types and bytes that don't decode come first, and leave it
-// untouched.
-#[test]
-fn failing_messages_are_reported(rt: HostRuntime) {
-    let zeros = zero_signature();
-    let higher = higher_signature();
-    let cut = Refusal::Unreadable(fault(1260, Cause::Truncated));
-    for count in 0..201usize {
-        for (signature, refusal, left) in [
-            (&zeros[..], Refusal::MessageRead, 0),
-            (&higher, Refusal::TypeMismatch(0), count),
-            (&zeros[..1291], cut, count),
-        ] {
-            let mut message = Failing { left: count };
-            let verdict = verify(&ZERO_KEY, &mut message, signature);
-            assert!(rt; (verdict, message.left) == (Err(refusal), left), "{count}");
+        if !are_judged(&signature, message, seed, Ok(()))
+            || !are_judged(&other, message, seed, refused)
+        {
+            return Some(seed as usize);
         }
     }
+    None
+}
+
+#[test]
+fn random_pieces_lead_to_the_verdict_on_the_whole(rt: HostRuntime) {
+    expect_none(&rt, wrong_seed(&tree(), &made_up_bytes()));
+}
+
+// Whether a message that fails after this number of bytes has this refusal, and leaves `left` bytes unread.
+fn is_failed(signature: &[u8], count: usize, refusal: Refusal, left: usize) -> bool {
+    let mut message = Failing { left: count };
+    let verdict = verify(&ZERO_KEY, &mut message, signature);
+    verdict == Err(refusal) && message.left == left
+}
+
+// The first number of bytes after which a failure is reported otherwise. Other types and bytes that don't decode come
+// first, and leave the message untouched.
+fn wrong_failure(zeros: &[u8; 1292], higher: &[u8]) -> Option<usize> {
+    let cut = Refusal::Unreadable(fault(1260, Cause::Truncated));
+    for count in 0..201usize {
+        if !is_failed(zeros, count, Refusal::MessageRead, 0)
+            || !is_failed(higher, count, Refusal::TypeMismatch(0), count)
+            || !is_failed(first(zeros, 1291), count, cut, count)
+        {
+            return Some(count);
+        }
+    }
+    None
+}
+
+// A failing message is reported before the root.
+#[test]
+fn failing_messages_are_reported(rt: HostRuntime) {
+    expect_none(&rt, wrong_failure(&zero_signature(), &higher_signature()));
 }

@@ -1,10 +1,10 @@
 //! Expected values are from Python's hashlib, by the formulas of RFC 8554, or from another program where a test says
 //! so.
 
+use super::expecting::{expect, expect_none};
 use super::values::{RISING, made_up_bytes};
 use lmots::LmOts;
 use sha2::{Digest, Sha256};
-use std::process::Abort;
 use typecodes::OtsType;
 use winternitz::lanes::LANES;
 use winternitz::{Step, climb};
@@ -19,60 +19,73 @@ const KEY: LmOts = LmOts {
 };
 
 // FIPS 180-4's hash of the empty text, which all formulas rest on.
+const OF_NOTHING: [u8; 32] = [
+    0xe3, 0xb0, 0xc4, 0x42, 0x98, 0xfc, 0x1c, 0x14, 0x9a, 0xfb, 0xf4, 0xc8, 0x99, 0x6f, 0xb9, 0x24,
+    0x27, 0xae, 0x41, 0xe4, 0x64, 0x9b, 0x93, 0x4c, 0xa4, 0x95, 0x99, 0x1b, 0x78, 0x52, 0xb8, 0x55,
+];
+
 #[test]
 fn hash_of_nothing(rt: HostRuntime) {
-    let expected = [
-        0xe3, 0xb0, 0xc4, 0x42, 0x98, 0xfc, 0x1c, 0x14, 0x9a, 0xfb, 0xf4, 0xc8, 0x99, 0x6f, 0xb9,
-        0x24, 0x27, 0xae, 0x41, 0xe4, 0x64, 0x9b, 0x93, 0x4c, 0xa4, 0x95, 0x99, 0x1b, 0x78, 0x52,
-        0xb8, 0x55,
-    ];
-    assert!(rt; Sha256::digest(b"".as_slice()) == expected);
+    expect(&rt, Sha256::digest(b"".as_slice()) == OF_NOTHING);
+}
+
+// H(I || 00000005 || 0003 || 07 || RISING)
+const LOW_STEP: [u8; 32] = [
+    0x2e, 0x18, 0x28, 0x02, 0x93, 0xaf, 0xd0, 0x4c, 0x43, 0x7f, 0x62, 0x38, 0x7a, 0xfd, 0x06, 0xef,
+    0x62, 0x70, 0x4c, 0x08, 0x6a, 0x8f, 0x7f, 0xef, 0x3e, 0x17, 0x7a, 0x2d, 0xcc, 0xc3, 0x22, 0x02,
+];
+
+// H(I || 00000005 || 0102 || fe || RISING)
+const HIGH_STEP: [u8; 32] = [
+    0xe4, 0xdd, 0xae, 0x40, 0x91, 0x02, 0xed, 0x73, 0xe2, 0x94, 0xc6, 0xe7, 0x60, 0x5d, 0xe8, 0xe4,
+    0x4b, 0x4a, 0xf5, 0x9e, 0xc3, 0x2b, 0x05, 0x19, 0x01, 0x29, 0x2c, 0xb9, 0x24, 0xf4, 0x7a, 0x5a,
+];
+
+fn hashes_its_place() -> bool {
+    KEY.step(3, 7, &RISING) == LOW_STEP && KEY.step(0x0102, 254, &RISING) == HIGH_STEP
 }
 
 #[test]
 fn step_hashes_its_place(rt: HostRuntime) {
-    // H(I || 00000005 || 0003 || 07 || value)
-    let low = [
-        0x2e, 0x18, 0x28, 0x02, 0x93, 0xaf, 0xd0, 0x4c, 0x43, 0x7f, 0x62, 0x38, 0x7a, 0xfd, 0x06,
-        0xef, 0x62, 0x70, 0x4c, 0x08, 0x6a, 0x8f, 0x7f, 0xef, 0x3e, 0x17, 0x7a, 0x2d, 0xcc, 0xc3,
-        0x22, 0x02,
-    ];
-    assert!(rt; KEY.step(3, 7, &RISING) == low);
-    // H(I || 00000005 || 0102 || fe || value)
-    let high = [
-        0xe4, 0xdd, 0xae, 0x40, 0x91, 0x02, 0xed, 0x73, 0xe2, 0x94, 0xc6, 0xe7, 0x60, 0x5d, 0xe8,
-        0xe4, 0x4b, 0x4a, 0xf5, 0x9e, 0xc3, 0x2b, 0x05, 0x19, 0x01, 0x29, 0x2c, 0xb9, 0x24, 0xf4,
-        0x7a, 0x5a,
-    ];
-    assert!(rt; KEY.step(0x0102, 254, &RISING) == high);
+    expect(&rt, hashes_its_place());
+}
+
+// Digits that are 31 apart, modulo 256.
+fn digits_from(steps: u8) -> [u8; 32] {
+    let mut digest = [0; 32];
+    for i in 0..32u8 {
+        digest[usize::from(i)] = steps.wrapping_add(i.wrapping_mul(31));
+    }
+    digest
 }
 
 // Each digit in each chain: with the same in all others, which then climb together, and with other ones.
 #[test]
 fn each_length_climbs_in_each_lane(rt: HostRuntime) {
     for steps in 0..=255u8 {
-        let mut digest = [steps; 32];
-        expect_signed(&rt, &digest);
-        for i in 0..32u8 {
-            digest[usize::from(i)] = steps.wrapping_add(i.wrapping_mul(31));
-        }
-        expect_signed(&rt, &digest);
+        expect_none(&rt, wrong_chain(&[steps; 32]));
+        expect_none(&rt, wrong_chain(&digits_from(steps)));
     }
 }
 
-// Chains that climb together end where each does by itself, on the way to the digest's digits and from there on.
-fn expect_signed(rt: &impl Abort, digest: &[u8; 32]) {
+// The first chain of those that climb together which ends elsewhere by itself, on the way to the digest's digits. From
+// there on they lead to the public hash, and otherwise there is 34.
+fn wrong_chain(digest: &[u8; 32]) -> Option<usize> {
     let mut bytes = [0; 32 * 34];
     KEY.sign_digest(OtsType::W8, &RISING, digest, &mut bytes);
     let (values, _) = bytes.as_chunks();
     for i in 0..32u8 {
         let chain = u16::from(i);
-        let start = KEY.private_value(&RISING, chain);
-        let end = climb(&KEY, chain, 0, digest[usize::from(i)], &start);
-        assert!(rt; values[usize::from(i)] == end, "chain {i}");
+        let start = KEY.secret(&RISING, chain);
+        if values[usize::from(i)] != climb(&KEY, chain, 0, digest[usize::from(i)], &start) {
+            return Some(usize::from(i));
+        }
     }
-    let hash = KEY.hash_from_signature(OtsType::W8, digest, values);
-    assert!(rt; hash == EIGHT_BITS);
+    if KEY.hash_from_signature(OtsType::W8, digest, values) == EIGHT_BITS {
+        None
+    } else {
+        Some(34)
+    }
 }
 
 // H(I || 00000005 || 8080 || y[0] || .. || y[33]), where y[i] is private value i of type W8 after all steps.
@@ -81,27 +94,33 @@ const EIGHT_BITS: [u8; 32] = [
     0x0b, 0x6b, 0x8c, 0x24, 0x67, 0xfb, 0xef, 0x2d, 0xab, 0x4f, 0xef, 0x85, 0xb4, 0xcd, 0x3d, 0x3c,
 ];
 
+// H(I || 00000005 || 8181 || C || "abc")
+const DIGEST: [u8; 32] = [
+    0x20, 0x55, 0xaf, 0x43, 0x98, 0x23, 0xef, 0x0d, 0x1b, 0x1b, 0x7f, 0x87, 0x6b, 0x91, 0x3d, 0x89,
+    0xc7, 0x56, 0x75, 0xa3, 0xca, 0x70, 0x90, 0x51, 0xf7, 0x37, 0x43, 0xd0, 0xe6, 0x6e, 0x84, 0xaa,
+];
+
 #[test]
 fn digest_takes_the_randomizer(rt: HostRuntime) {
-    // H(I || 00000005 || 8181 || C || "abc")
-    let expected = [
-        0x20, 0x55, 0xaf, 0x43, 0x98, 0x23, 0xef, 0x0d, 0x1b, 0x1b, 0x7f, 0x87, 0x6b, 0x91, 0x3d,
-        0x89, 0xc7, 0x56, 0x75, 0xa3, 0xca, 0x70, 0x90, 0x51, 0xf7, 0x37, 0x43, 0xd0, 0xe6, 0x6e,
-        0x84, 0xaa,
-    ];
-    assert!(rt; KEY.message_digest(&RISING, b"abc") == expected);
+    expect(&rt, KEY.message_digest(&RISING, b"abc") == DIGEST);
 }
 
-// A reader's digest is its bytes', for lengths around one piece and two.
-#[test]
-fn digest_of_a_reader(rt: HostRuntime) {
-    let text = [7; 32769];
+// The first length of bytes whose reader has another digest: lengths around one piece and two.
+fn wrong_length(text: &[u8; 32769]) -> Option<usize> {
     for length in [0, 1, 16383, 16384, 16385, 32768, 32769usize] {
         let mut message = &text[..length];
         let expected = KEY.message_digest(&RISING, message);
         let digest = KEY.message_digest_from(&RISING, &mut message);
-        assert!(rt; (digest, message.len()) == (Ok(expected), 0), "{length}");
+        if digest != Ok(expected) || !message.is_empty() {
+            return Some(length);
+        }
     }
+    None
+}
+
+#[test]
+fn digest_of_a_reader(rt: HostRuntime) {
+    expect_none(&rt, wrong_length(&[7; 32769]));
 }
 
 // A type, a digest, and H(I || 00000005 || 8080 || y[0] || .. || y[p-1]). y[i] is value i of a made-up signature after
@@ -164,19 +183,19 @@ fn hash_of_made_up(ots: OtsType, digest: &[u8; 32]) -> [u8; 32] {
 #[test]
 fn made_up_signatures_lead_to_their_hash(rt: HostRuntime) {
     for (ots, digest, expected) in &MADE_UP {
-        assert!(rt; hash_of_made_up(*ots, digest) == *expected);
+        expect(&rt, hash_of_made_up(*ots, digest) == *expected);
     }
 }
 
+// H(I || 00000005 || 0003 || ff || seed)
+const PRIVATE_VALUE: [u8; 32] = [
+    0x08, 0xde, 0x0a, 0x2e, 0x3e, 0x48, 0x94, 0x02, 0x29, 0x06, 0xc8, 0x94, 0x6a, 0xef, 0x8d, 0x8c,
+    0xa1, 0x01, 0xeb, 0xf5, 0xf6, 0xa1, 0x98, 0x9a, 0xe7, 0xd3, 0xf4, 0x7c, 0x75, 0xfe, 0x00, 0x25,
+];
+
 #[test]
 fn private_values_come_from_the_seed(rt: HostRuntime) {
-    // H(I || 00000005 || 0003 || ff || seed)
-    let expected = [
-        0x08, 0xde, 0x0a, 0x2e, 0x3e, 0x48, 0x94, 0x02, 0x29, 0x06, 0xc8, 0x94, 0x6a, 0xef, 0x8d,
-        0x8c, 0xa1, 0x01, 0xeb, 0xf5, 0xf6, 0xa1, 0x98, 0x9a, 0xe7, 0xd3, 0xf4, 0x7c, 0x75, 0xfe,
-        0x00, 0x25,
-    ];
-    assert!(rt; KEY.private_value(&RISING, 3) == expected);
+    expect(&rt, KEY.secret(&RISING, 3) == PRIVATE_VALUE);
 }
 
 // A type, and three hashes from private values:
@@ -243,28 +262,44 @@ const MADE: [(OtsType, [u8; 32], [u8; 32], [u8; 32]); 3] = [
 #[test]
 fn public_hash_ends_every_chain(rt: HostRuntime) {
     for (ots, expected, beside, _) in &MADE {
-        assert!(rt; KEY.public_hash(*ots, &RISING) == *expected);
-        expect_lanes(&rt, &KEY, *ots, &RISING, (*expected, *beside));
+        expect(&rt, KEY.public_hash(*ots, &RISING) == *expected);
+        expect_none(&rt, wrong_lane(&KEY, *ots, &RISING, (expected, beside)));
     }
 }
 
-// The key is in one lane, leaf 77 of its tree in all others. Each lane has its leaf's public hash; `beside` is leaf
-// 77's.
-fn expect_lanes(
-    rt: &impl Abort,
+// This leaf in one lane, and leaf 77 in all others.
+fn leaves_with(leaf: u32, lane: usize) -> [u32; LANES] {
+    let mut leaves = [77; LANES];
+    if lane < LANES {
+        leaves[lane] = leaf;
+    }
+    leaves
+}
+
+// Their public hashes: `beside` is leaf 77's.
+fn hashes_with((hash, beside): (&[u8; 32], &[u8; 32]), lane: usize) -> [[u8; 32]; LANES] {
+    let mut hashes = [*beside; LANES];
+    if lane < LANES {
+        hashes[lane] = *hash;
+    }
+    hashes
+}
+
+// The first lane in which the key, with leaf 77 of its tree in all others, has another public hash, or one of them has.
+fn wrong_lane(
     key: &LmOts,
     ots: OtsType,
     seed: &[u8; 32],
-    (expected, beside): ([u8; 32], [u8; 32]),
-) {
+    hashes: (&[u8; 32], &[u8; 32]),
+) -> Option<usize> {
     for lane in 0..LANES {
-        let mut leaves = [77; LANES];
-        leaves[lane] = key.leaf;
-        let mut hashes = [beside; LANES];
-        hashes[lane] = expected;
+        let leaves = leaves_with(key.leaf, lane);
         let made = LmOts::public_hashes_in_lanes(key.identifier, leaves, ots, seed);
-        assert!(rt; made == hashes, "lane {lane}");
+        if made != hashes_with(hashes, lane) {
+            return Some(lane);
+        }
     }
+    None
 }
 
 // A key and a signature of type LMOTS_SHA256_N32_W8 that Bouncy Castle made. The hash below leads along the signature's
@@ -305,22 +340,22 @@ const REAL_MESSAGE: [u8; 32] = [
 
 #[test]
 fn a_real_seed_makes_the_public_hash(rt: HostRuntime) {
-    assert!(rt; REAL_KEY.public_hash(OtsType::W8, &REAL_SEED) == REAL_HASH);
-    expect_lanes(
+    let hashes = (&REAL_HASH, &REAL_BESIDE);
+    expect(
         &rt,
-        &REAL_KEY,
-        OtsType::W8,
-        &REAL_SEED,
-        (REAL_HASH, REAL_BESIDE),
+        REAL_KEY.public_hash(OtsType::W8, &REAL_SEED) == REAL_HASH,
     );
+    expect_none(&rt, wrong_lane(&REAL_KEY, OtsType::W8, &REAL_SEED, hashes));
+}
+
+fn hash_of_real() -> [u8; 32] {
+    let digest = REAL_KEY.message_digest(&REAL_RANDOMIZER, &REAL_MESSAGE);
+    REAL_KEY.hash_from_signature(OtsType::W8, &digest, REAL_VALUES.as_chunks().0)
 }
 
 #[test]
 fn a_real_signature_leads_to_the_public_hash(rt: HostRuntime) {
-    let digest = REAL_KEY.message_digest(&REAL_RANDOMIZER, &REAL_MESSAGE);
-    assert!(rt;
-        REAL_KEY.hash_from_signature(OtsType::W8, &digest, REAL_VALUES.as_chunks().0) == REAL_HASH
-    );
+    expect(&rt, hash_of_real() == REAL_HASH);
 }
 
 // SHA-256 of the values of leaf 5's signature of REAL_HASH.
@@ -334,12 +369,11 @@ fn digest_of_signed(ots: OtsType) -> [u8; 32] {
 #[test]
 fn signatures_walk_to_their_digits(rt: HostRuntime) {
     for (ots, _, _, expected) in &MADE {
-        assert!(rt; digest_of_signed(*ots) == *expected);
+        expect(&rt, digest_of_signed(*ots) == *expected);
     }
 }
 
-#[test]
-fn a_real_seed_signs(rt: HostRuntime) {
+fn real_values() -> [u8; 32 * 34] {
     let mut values = [0; 32 * 34];
     REAL_KEY.sign_digest(
         OtsType::W8,
@@ -347,7 +381,12 @@ fn a_real_seed_signs(rt: HostRuntime) {
         &REAL_KEY.message_digest(&REAL_RANDOMIZER, &REAL_MESSAGE),
         &mut values,
     );
-    assert!(rt; values == REAL_VALUES);
+    values
+}
+
+#[test]
+fn a_real_seed_signs(rt: HostRuntime) {
+    expect(&rt, real_values() == REAL_VALUES);
 }
 
 const REAL_VALUES: [u8; 32 * 34] = [

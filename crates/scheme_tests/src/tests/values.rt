@@ -20,3 +20,40 @@ pub(crate) fn made_up_bytes<const N: usize>() -> [u8; N] {
     }
     bytes
 }
+
+/// Writes a byte, if there is one at the offset.
+pub(crate) fn put(bytes: &mut [u8], offset: usize, byte: u8) {
+    if let Some(at) = bytes.get_mut(offset) {
+        *at = byte;
+    }
+}
+
+/// Turns these bits of a byte, if there is one at the offset.
+pub(crate) fn turn(bytes: &mut [u8], offset: usize, bits: u8) {
+    if let Some(at) = bytes.get_mut(offset) {
+        *at ^= bits;
+    }
+}
+
+/// Fills the 32 bytes from an offset on, if they are there.
+pub(crate) fn fill(bytes: &mut [u8], offset: usize, byte: u8) {
+    if let Some(part) = bytes.get_mut(offset..offset.saturating_add(32)) {
+        part.fill(byte);
+    }
+}
+
+/// The first bytes; all of them, if they are fewer.
+pub(crate) fn first(bytes: &[u8], len: usize) -> &[u8] {
+    match bytes.get(..len) {
+        Some(first) => first,
+        None => bytes,
+    }
+}
+
+/// The bytes from one offset up to another; none, if these aren't there.
+pub(crate) fn part(bytes: &[u8], from: usize, to: usize) -> &[u8] {
+    match bytes.get(from..to) {
+        Some(part) => part,
+        None => &[],
+    }
+}

@@ -1,10 +1,12 @@
 //! Expected values are from Python's hashlib, by the formulas of RFC 8391, or from another program where a test says
 //! so.
 
+ghost use Rattle.std.specs.Prelude.{◌≤◌};
+
+use super::expecting::{expect, expect_none};
 use super::values::{RISING, RISING_FROM_40, made_up_bytes};
 use super::xmss_keys::vectors::CASTLE_PUBLIC;
 use sha2::{Digest, Sha256};
-use std::process::Abort;
 use winternitz::lanes::LANES;
 use winternitz::{Step, climb, climb_to};
 use wots_plus::{Address, Prf, Wots, hash_f, hash_h, hash_message, hash_message_from, rand_hash};
@@ -58,52 +60,69 @@ const ADDRESSES: [(Address, u32, [u8; 32]); 3] = [
     ),
 ];
 
+fn wrong_address() -> Option<usize> {
+    for (k, (address, key_and_mask, bytes)) in ADDRESSES.iter().enumerate() {
+        if address.bytes(*key_and_mask) != *bytes {
+            return Some(k);
+        }
+    }
+    None
+}
+
 #[test]
 fn addresses_have_eight_words(rt: HostRuntime) {
-    for (address, key_and_mask, bytes) in &ADDRESSES {
-        assert!(rt; address.bytes(*key_and_mask) == *bytes);
-    }
+    expect_none(&rt, wrong_address());
 }
 
 // SHA-256(toByte(k, 32) || KEY || M) for k = 0, 1, 2, 3
-#[test]
-fn keyed_hashes_begin_with_their_number(rt: HostRuntime) {
-    let f = [
-        0xf6, 0x82, 0x9b, 0x47, 0xdb, 0x8c, 0xea, 0x7c, 0x76, 0x93, 0xf6, 0x70, 0x64, 0x30, 0x1a,
-        0xff, 0x31, 0x6a, 0x13, 0x39, 0x6b, 0x06, 0x6c, 0x91, 0xb4, 0x99, 0x37, 0x13, 0xf4, 0xb1,
-        0x88, 0x42,
-    ];
-    assert!(rt; hash_f(&SEED, &VALUE) == f);
-    let h = [
-        0xea, 0x98, 0x34, 0x15, 0x8a, 0x9d, 0x55, 0xb5, 0x75, 0x78, 0xce, 0xa3, 0x90, 0x63, 0xb7,
-        0x83, 0xd3, 0xad, 0xb8, 0x89, 0xfa, 0xaa, 0x55, 0x48, 0x01, 0xc8, 0x5f, 0xf3, 0x31, 0x7f,
-        0xc4, 0xdd,
-    ];
-    assert!(rt; hash_h(&SEED, &VALUE, &RISING_FROM_40) == h);
-    let h_msg = [
-        0x6a, 0x23, 0x4b, 0x0b, 0xf7, 0x6a, 0xa4, 0xab, 0x70, 0xd8, 0x4e, 0x87, 0xd2, 0xa4, 0x4c,
-        0x95, 0xde, 0x69, 0x01, 0x59, 0x2e, 0x44, 0x1f, 0xad, 0x38, 0x11, 0x6d, 0xb4, 0x19, 0xec,
-        0xc5, 0x17,
-    ];
-    assert!(rt; hash_message(&[0x77; 96], b"abc") == h_msg);
-    let prf = [
-        0x47, 0x94, 0x7d, 0xb0, 0xb9, 0x16, 0xea, 0x55, 0x23, 0x87, 0xf1, 0x0f, 0x0e, 0x39, 0x19,
-        0xd9, 0x98, 0x38, 0x76, 0x18, 0x6e, 0xdc, 0x23, 0x32, 0x69, 0x41, 0x4d, 0x47, 0xa5, 0x69,
-        0xf8, 0x7c,
-    ];
-    assert!(rt; Prf::new(SEED).hash(&VALUE) == prf);
+const HASH_F: [u8; 32] = [
+    0xf6, 0x82, 0x9b, 0x47, 0xdb, 0x8c, 0xea, 0x7c, 0x76, 0x93, 0xf6, 0x70, 0x64, 0x30, 0x1a, 0xff,
+    0x31, 0x6a, 0x13, 0x39, 0x6b, 0x06, 0x6c, 0x91, 0xb4, 0x99, 0x37, 0x13, 0xf4, 0xb1, 0x88, 0x42,
+];
+
+const HASH_H: [u8; 32] = [
+    0xea, 0x98, 0x34, 0x15, 0x8a, 0x9d, 0x55, 0xb5, 0x75, 0x78, 0xce, 0xa3, 0x90, 0x63, 0xb7, 0x83,
+    0xd3, 0xad, 0xb8, 0x89, 0xfa, 0xaa, 0x55, 0x48, 0x01, 0xc8, 0x5f, 0xf3, 0x31, 0x7f, 0xc4, 0xdd,
+];
+
+const HASH_MESSAGE: [u8; 32] = [
+    0x6a, 0x23, 0x4b, 0x0b, 0xf7, 0x6a, 0xa4, 0xab, 0x70, 0xd8, 0x4e, 0x87, 0xd2, 0xa4, 0x4c, 0x95,
+    0xde, 0x69, 0x01, 0x59, 0x2e, 0x44, 0x1f, 0xad, 0x38, 0x11, 0x6d, 0xb4, 0x19, 0xec, 0xc5, 0x17,
+];
+
+const PRF: [u8; 32] = [
+    0x47, 0x94, 0x7d, 0xb0, 0xb9, 0x16, 0xea, 0x55, 0x23, 0x87, 0xf1, 0x0f, 0x0e, 0x39, 0x19, 0xd9,
+    0x98, 0x38, 0x76, 0x18, 0x6e, 0xdc, 0x23, 0x32, 0x69, 0x41, 0x4d, 0x47, 0xa5, 0x69, 0xf8, 0x7c,
+];
+
+fn begin_with_number() -> bool {
+    hash_f(&SEED, &VALUE) == HASH_F
+        && hash_h(&SEED, &VALUE, &RISING_FROM_40) == HASH_H
+        && hash_message(&[0x77; 96], b"abc") == HASH_MESSAGE
+        && Prf::new(SEED).hash(&VALUE) == PRF
 }
 
-// A reader's digest is its bytes', for lengths around one piece and two.
 #[test]
-fn digest_of_a_reader(rt: HostRuntime) {
-    let text = [7; 32769];
+fn keyed_hashes_begin_with_their_number(rt: HostRuntime) {
+    expect(&rt, begin_with_number());
+}
+
+// The first length of bytes whose reader has another digest: lengths around one piece and two.
+fn wrong_length(text: &[u8; 32769]) -> Option<usize> {
     for length in [0, 1, 16383, 16384, 16385, 32768, 32769usize] {
         let mut message = &text[..length];
         let expected = hash_message(&[0x77; 96], message);
         let digest = hash_message_from(&[0x77; 96], &mut message);
-        assert!(rt; (digest, message.len()) == (Ok(expected), 0), "{length}");
+        if digest != Ok(expected) || !message.is_empty() {
+            return Some(length);
+        }
     }
+    None
+}
+
+#[test]
+fn digest_of_a_reader(rt: HostRuntime) {
+    expect_none(&rt, wrong_length(&[7; 32769]));
 }
 
 // F(PRF(SEED, ADRS, 0), VALUE XOR PRF(SEED, ADRS, 1)), ADRS the one-time address 5, 2, 3
@@ -139,7 +158,21 @@ const HASH_OF_MADE_UP: [u8; 32] = [
 fn hash_of_made_up(key: &Wots<'_>) -> [u8; 32] {
     let bytes: [u8; 32 * 67] = made_up_bytes();
     let (values, _) = bytes.as_chunks();
-    key.hash_from_signature(&VALUE, values)
+    key.public_from_signature(&VALUE, values)
+}
+
+fn made_signature(key: &Wots<'_>) -> [u8; 32] {
+    let mut signed = [0; 32 * 67];
+    key.sign_digest(&SECRET, &Sha256::digest("digest"), &mut signed);
+    Sha256::digest(&signed)
+}
+
+fn makes_all(key: &Wots<'_>) -> bool {
+    key.step(2, 3, &VALUE) == AFTER_A_STEP
+        && key.secret(&SECRET, 2) == PRIVATE_VALUE
+        && key.public_hash(&SECRET) == PUBLIC_HASH
+        && made_signature(key) == SIGNED
+        && hash_of_made_up(key) == HASH_OF_MADE_UP
 }
 
 #[test]
@@ -149,21 +182,7 @@ fn key_makes_what_the_formulas_say(rt: HostRuntime) {
         seed: &seed,
         leaf: 5,
     };
-    let mut signed = [0; 32 * 67];
-    key.sign_digest(&SECRET, &Sha256::digest("digest"), &mut signed);
-    for (what, made, expected) in [
-        ("step", key.step(2, 3, &VALUE), AFTER_A_STEP),
-        (
-            "private value",
-            key.private_value(&SECRET, 2),
-            PRIVATE_VALUE,
-        ),
-        ("public hash", key.public_hash(&SECRET), PUBLIC_HASH),
-        ("signature", Sha256::digest(&signed), SIGNED),
-        ("made-up signature", hash_of_made_up(&key), HASH_OF_MADE_UP),
-    ] {
-        assert!(rt; made == expected, "{what}");
-    }
+    expect(&rt, makes_all(&key));
 }
 
 // a chain and a value for each lane
@@ -180,22 +199,61 @@ const VALUES: [[u8; 32]; LANES] = [
     SECRET,
 ];
 
-// Each lane has its own chain, place and value; two keys in turn.
+// The first lane with another value after a step. Each lane has its own chain and place.
+fn wrong_step(key: &Wots<'_>) -> Option<usize> {
+    let at = [7, 0, 14, 1, 13, 8, 2, 0];
+    let after = key.step_in_lanes(&CHAINS, &at, &VALUES);
+    for lane in 0..LANES {
+        if after[lane] != key.step(CHAINS[lane], at[lane], &VALUES[lane]) {
+            return Some(lane);
+        }
+    }
+    None
+}
+
 #[test]
 fn steps_in_lanes_are_steps(rt: HostRuntime) {
-    let at = [7, 0, 14, 1, 13, 8, 2, 0];
     for seed in [SEED, RISING_FROM_40] {
         let seed = Prf::new(seed);
         let key = Wots {
             seed: &seed,
             leaf: 0x01020304,
         };
-        let after = key.step_in_lanes(&CHAINS, &at, &VALUES);
-        for lane in 0..LANES {
-            let plain = key.step(CHAINS[lane], at[lane], &VALUES[lane]);
-            assert!(rt; after[lane] == plain, "lane {lane}");
+        expect_none(&rt, wrong_step(&key));
+    }
+}
+
+// The first lane whose chain, of those that climb together from place 0, ends elsewhere by itself.
+fn wrong_lane(key: &Wots<'_>, steps: u8) -> Option<usize>
+    requires { steps ≤ 15 }
+{
+    let ends = key.steps_in_lanes(&CHAINS, &[0; LANES], steps, &VALUES);
+    for lane in 0..LANES {
+        if ends[lane] != climb(key, CHAINS[lane], 0, steps, &VALUES[lane]) {
+            return Some(lane);
         }
     }
+    None
+}
+
+// The same for the key's first chains, each to its own place.
+fn wrong_chain(key: &Wots<'_>, to: &[u8; LANES]) -> Option<usize> {
+    let ends = climb_to(key, to, &VALUES);
+    for chain in 0..LANES {
+        if ends[chain] != climb(key, chain as u16, 0, to[chain], &VALUES[chain]) {
+            return Some(chain);
+        }
+    }
+    None
+}
+
+// Places that are this number of steps apart, modulo 16, one for each lane.
+fn places_from(steps: u8) -> [u8; LANES] {
+    let mut to = [0; LANES];
+    for lane in 0..LANES {
+        to[lane] = steps.wrapping_add((16 / LANES * lane % 16) as u8) % 16;
+    }
+    to
 }
 
 // Each number of steps in each lane, with equal and with other numbers beside it. Each lane ends where its chain does
@@ -208,57 +266,40 @@ fn each_length_climbs_in_each_lane(rt: HostRuntime) {
         leaf: 0x01020304,
     };
     for steps in 0..16u8 {
-        expect_lanes_by(&rt, &key, steps);
-        let mut to = [0; LANES];
-        for lane in 0..LANES {
-            to[lane] = (steps + (16 / LANES * lane % 16) as u8) % 16;
-        }
-        expect_climbs(&rt, &key, &to);
+        expect_none(&rt, wrong_lane(&key, steps));
+        expect_none(&rt, wrong_chain(&key, &places_from(steps)));
     }
 }
 
-// Chains that climb together from place 0 end where each does by itself.
-fn expect_lanes_by(rt: &impl Abort, key: &Wots<'_>, steps: u8) {
-    let ends = key.steps_in_lanes(&CHAINS, &[0; LANES], steps, &VALUES);
-    for lane in 0..LANES {
-        let end = climb(key, CHAINS[lane], 0, steps, &VALUES[lane]);
-        assert!(rt; ends[lane] == end, "lane {lane} of {steps}");
-    }
-}
+// The join of VALUE and RISING_FROM_40 in leaf 5's L-tree at height 1, node 9.
+const IN_L_TREE: [u8; 32] = [
+    0x34, 0xa5, 0xee, 0x2f, 0x61, 0x2c, 0xa2, 0xc0, 0xf5, 0x54, 0xde, 0x8f, 0x56, 0xb8, 0x7d, 0x46,
+    0xbb, 0x13, 0x7c, 0xc3, 0x6d, 0xa7, 0x28, 0xb0, 0x2e, 0xef, 0xad, 0xc3, 0x86, 0x22, 0x7b, 0x7f,
+];
 
-// The same for the key's first chains, each to its own place.
-fn expect_climbs(rt: &impl Abort, key: &Wots<'_>, to: &[u8; LANES]) {
-    let ends = climb_to(key, to, &VALUES);
-    for chain in 0..LANES {
-        let end = climb(key, chain as u16, 0, to[chain], &VALUES[chain]);
-        assert!(rt; ends[chain] == end, "chain {chain} of {to:?}");
-    }
-}
+// The same in the tree at height 4, node 5.
+const IN_HASH_TREE: [u8; 32] = [
+    0x4d, 0xff, 0x43, 0x83, 0x28, 0x6b, 0xea, 0x16, 0xff, 0x83, 0x60, 0xf2, 0x59, 0x05, 0xd0, 0x5c,
+    0x53, 0x7e, 0xc0, 0xf5, 0xb8, 0xdc, 0x7a, 0x89, 0x66, 0x6b, 0xc3, 0xd7, 0x0a, 0xc1, 0xb9, 0x5c,
+];
 
-#[test]
-fn nodes_are_joined_at_their_address(rt: HostRuntime) {
-    let seed = Prf::new(SEED);
+fn are_joined(seed: &Prf) -> bool {
     let l_tree = Address::LTree {
         leaf: 5,
         height: 1,
         index: 9,
     };
-    let in_l_tree = [
-        0x34, 0xa5, 0xee, 0x2f, 0x61, 0x2c, 0xa2, 0xc0, 0xf5, 0x54, 0xde, 0x8f, 0x56, 0xb8, 0x7d,
-        0x46, 0xbb, 0x13, 0x7c, 0xc3, 0x6d, 0xa7, 0x28, 0xb0, 0x2e, 0xef, 0xad, 0xc3, 0x86, 0x22,
-        0x7b, 0x7f,
-    ];
-    assert!(rt; rand_hash(&seed, &l_tree, &VALUE, &RISING_FROM_40) == in_l_tree);
     let hash_tree = Address::HashTree {
         height: 4,
         index: 5,
     };
-    let in_hash_tree = [
-        0x4d, 0xff, 0x43, 0x83, 0x28, 0x6b, 0xea, 0x16, 0xff, 0x83, 0x60, 0xf2, 0x59, 0x05, 0xd0,
-        0x5c, 0x53, 0x7e, 0xc0, 0xf5, 0xb8, 0xdc, 0x7a, 0x89, 0x66, 0x6b, 0xc3, 0xd7, 0x0a, 0xc1,
-        0xb9, 0x5c,
-    ];
-    assert!(rt; rand_hash(&seed, &hash_tree, &VALUE, &RISING_FROM_40) == in_hash_tree);
+    rand_hash(seed, &l_tree, &VALUE, &RISING_FROM_40) == IN_L_TREE
+        && rand_hash(seed, &hash_tree, &VALUE, &RISING_FROM_40) == IN_HASH_TREE
+}
+
+#[test]
+fn nodes_are_joined_at_their_address(rt: HostRuntime) {
+    expect(&rt, are_joined(&Prf::new(SEED)));
 }
 
 // A number of values, and the root of leaf 5's L-tree over as many made-up ones. Heights 0 to 6 over 67 values have 33,
@@ -348,6 +389,16 @@ const ROOTS: [(usize, [u8; 32]); 11] = [
     ),
 ];
 
+// Whether the L-tree over this many made-up values, 1 to 67, has this root.
+fn has_root(key: &Wots<'_>, count: usize, root: &[u8; 32]) -> bool {
+    if count == 0 || count > 67 {
+        return false;
+    }
+    let mut bytes: [u8; 32 * 67] = made_up_bytes();
+    let (values, _) = bytes[..32 * count].as_chunks_mut();
+    key.l_tree(values) == *root
+}
+
 #[test]
 fn l_trees_have_their_roots(rt: HostRuntime) {
     let seed = Prf::new(SEED);
@@ -356,32 +407,44 @@ fn l_trees_have_their_roots(rt: HostRuntime) {
         leaf: 5,
     };
     for (count, root) in &ROOTS {
-        assert!(rt; 0 < *count && *count <= 67);
-        let mut bytes: [u8; 32 * 67] = made_up_bytes();
-        let (values, _) = bytes[..32 * *count].as_chunks_mut();
-        assert!(rt; key.l_tree(values) == *root, "{count} values");
+        expect(&rt, has_root(&key, *count, root));
     }
 }
 
-// Keys side by side, one leaf in two lanes: each has the public hash that it has by itself.
-#[test]
-fn keys_in_lanes_have_their_public_hashes(rt: HostRuntime) {
-    let seed = Prf::new(SEED);
-    let leaves = [5, 0, 0xffffffff, 0x01020304, 6, 1023, 1 << 19, 5];
-    let hashes = Wots::public_hashes_in_lanes(&seed, leaves, &SECRET);
+// Leaves side by side, one leaf in two lanes.
+const LEAVES: [u32; LANES] = [5, 0, 0xffffffff, 0x01020304, 6, 1023, 1 << 19, 5];
+
+// The first lane with another public hash than its key has by itself.
+fn wrong_key(seed: &Prf) -> Option<usize> {
+    let hashes = Wots::public_hashes_in_lanes(seed, LEAVES, &SECRET);
     for lane in 0..LANES {
         let key = Wots {
-            seed: &seed,
-            leaf: leaves[lane],
+            seed,
+            leaf: LEAVES[lane],
         };
-        assert!(rt; hashes[lane] == key.public_hash(&SECRET), "lane {lane}");
+        if hashes[lane] != key.public_hash(&SECRET) {
+            return Some(lane);
+        }
     }
+    None
 }
 
-// Bouncy Castle's signature of leaf 255 under its key in `vectors`. The public hash leads along its path to that key's
-// root.
 #[test]
-fn a_real_signature_leads_to_its_leaf(rt: HostRuntime) {
+fn keys_in_lanes_have_their_public_hashes(rt: HostRuntime) {
+    expect_none(&rt, wrong_key(&Prf::new(SEED)));
+}
+
+// r || root || toByte(255, 32)
+fn message_key() -> [u8; 96] {
+    let mut bytes = [0; 96];
+    bytes[..32].copy_from_slice(&REAL_RANDOMIZER);
+    bytes[32..64].copy_from_slice(&CASTLE_PUBLIC[4..36]);
+    bytes[95] = 255;
+    bytes
+}
+
+// Leaf 255's public hash by its signature.
+fn public_of_real() -> [u8; 32] {
     let mut seed = [0; 32];
     seed.copy_from_slice(&CASTLE_PUBLIC[36..]);
     let seed = Prf::new(seed);
@@ -389,20 +452,21 @@ fn a_real_signature_leads_to_its_leaf(rt: HostRuntime) {
         seed: &seed,
         leaf: 255,
     };
-    // r || root || toByte(255, 32)
-    let mut message_key = [0; 96];
-    message_key[..32].copy_from_slice(&REAL_RANDOMIZER);
-    message_key[32..64].copy_from_slice(&CASTLE_PUBLIC[4..36]);
-    message_key[95] = 255;
-    let digest = hash_message(&message_key, &REAL_MESSAGE);
-    let (values, _) = REAL_VALUES.as_chunks();
-    let expected = [
-        0x63, 0x18, 0xdd, 0xd1, 0x00, 0x5b, 0x52, 0x82, 0x49, 0x85, 0x75, 0x2e, 0xb7, 0xea, 0x63,
-        0xf3, 0x8e, 0xd5, 0x66, 0x11, 0x08, 0x3b, 0x1c, 0xb2, 0x16, 0xbf, 0x56, 0x3f, 0x9d, 0xda,
-        0x91, 0xfe,
-    ];
-    assert!(rt; key.hash_from_signature(&digest, values) == expected);
+    let digest = hash_message(&message_key(), &REAL_MESSAGE);
+    key.public_from_signature(&digest, REAL_VALUES.as_chunks().0)
 }
+
+// Bouncy Castle's signature of leaf 255 under its key in `vectors`. The public hash leads along its path to that key's
+// root.
+#[test]
+fn a_real_signature_leads_to_its_leaf(rt: HostRuntime) {
+    expect(&rt, public_of_real() == REAL_LEAF);
+}
+
+const REAL_LEAF: [u8; 32] = [
+    0x63, 0x18, 0xdd, 0xd1, 0x00, 0x5b, 0x52, 0x82, 0x49, 0x85, 0x75, 0x2e, 0xb7, 0xea, 0x63, 0xf3,
+    0x8e, 0xd5, 0x66, 0x11, 0x08, 0x3b, 0x1c, 0xb2, 0x16, 0xbf, 0x56, 0x3f, 0x9d, 0xda, 0x91, 0xfe,
+];
 
 const REAL_RANDOMIZER: [u8; 32] = [
     0x45, 0x92, 0x2a, 0xcb, 0xb1, 0x65, 0x59, 0x38, 0x6f, 0x1a, 0x51, 0x8c, 0x69, 0xfe, 0x87, 0x5c,

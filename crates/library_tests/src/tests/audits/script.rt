@@ -3,6 +3,7 @@
 //! runs in two forms: with a signer opened for each step, and with one that stays open until a step fails.
 
 use super::*;
+use key_audit::Report;
 use state_file::{OpenFault, Pick};
 use std::slice;
 
@@ -16,13 +17,17 @@ fn audited<D: Disk + Drop>(
     anchor: Option<Anchor>,
 ) -> Audited {
     match audit(alloc, store, anchor) {
-        Ok(report) => Ok((
-            report.records,
-            report.left.as_slice().first().copied(),
-            report.moved,
-        )),
+        Ok(report) => Ok(reported(&report)),
         Err(fault) => Err(fault),
     }
+}
+
+fn reported(report: &Report) -> (u32, Option<u32>, Option<u16>) {
+    (
+        report.records,
+        report.left.as_slice().first().copied(),
+        report.moved,
+    )
 }
 
 // Two audits of one open file, or why it isn't opened.
@@ -126,11 +131,18 @@ fn sign_letter<S: Store, R: Source>(
     letter: u8,
     given: &mut Vec<Given>,
 ) -> Option<()> {
-    let mut message = Vec::new(alloc);
-    message.push(letter).ok()?;
     let mut signature = Vec::new(alloc);
     sign_byte(signer, &[letter], letter, &mut signature)?;
-    given.push(Given { message, signature }).ok()
+    match message_of(alloc, letter) {
+        Some(message) => given.push(Given { message, signature }).ok(),
+        None => None,
+    }
+}
+
+fn message_of(alloc: Global, letter: u8) -> Option<Vec<u8>> {
+    let mut message = Vec::new(alloc);
+    message.push(letter).ok()?;
+    Some(message)
 }
 
 // None where the step fails. `begin_on` has made the key.
@@ -213,14 +225,36 @@ struct Run {
     given: Vec<Given>,
 }
 
+fn copy_of(given: &Given) -> Option<Given> {
+    let signature = given.signature.clone().ok()?;
+    match given.message.clone() {
+        Ok(message) => Some(Given { message, signature }),
+        Err(_) => None,
+    }
+}
+
+// Adds copies of earlier signatures.
+fn copy_into(given: &mut Vec<Given>, before: &[Given]) -> bool {
+    for earlier in before {
+        match copy_of(earlier) {
+            Some(copy) => {
+                if given.push(copy).is_err() {
+                    return false;
+                }
+            }
+            None => return false,
+        }
+    }
+    true
+}
+
 fn copies_of(alloc: Global, before: &[Given]) -> Option<Vec<Given>> {
     let mut given = Vec::new(alloc);
-    for earlier in before {
-        let message = earlier.message.clone().ok()?;
-        let signature = earlier.signature.clone().ok()?;
-        given.push(Given { message, signature }).ok()?;
+    if copy_into(&mut given, before) {
+        Some(given)
+    } else {
+        None
     }
-    Some(given)
 }
 
 // Runs the script without a mishap, each step in a life of its own. `before` are earlier signatures. The draws of step
@@ -441,36 +475,36 @@ fn survives_in_one_life(alloc: Global) -> Option<u32> {
 // key by 2 calls, and prepares the place by 4.
 #[test]
 fn a_create_survives(rt: HostRuntime) {
-    assert!(rt; survives(rt.alloc(), 0) == Some(10));
+    expect(&rt, survives(rt.alloc(), 0) == Some(10));
 }
 
 #[test]
 fn the_first_name_survives(rt: HostRuntime) {
-    assert!(rt; survives(rt.alloc(), 1) == Some(18));
+    expect(&rt, survives(rt.alloc(), 1) == Some(18));
 }
 
 #[test]
 fn the_second_name_survives(rt: HostRuntime) {
-    assert!(rt; survives(rt.alloc(), 2) == Some(26));
+    expect(&rt, survives(rt.alloc(), 2) == Some(26));
 }
 
 #[test]
 fn the_third_name_survives(rt: HostRuntime) {
-    assert!(rt; survives(rt.alloc(), 3) == Some(32));
+    expect(&rt, survives(rt.alloc(), 3) == Some(32));
 }
 
 #[test]
 fn retired_leaves_survive(rt: HostRuntime) {
-    assert!(rt; survives(rt.alloc(), 4) == Some(38));
+    expect(&rt, survives(rt.alloc(), 4) == Some(38));
 }
 
 #[test]
 fn a_name_after_retired_leaves_survives(rt: HostRuntime) {
-    assert!(rt; survives(rt.alloc(), 5) == Some(44));
+    expect(&rt, survives(rt.alloc(), 5) == Some(44));
 }
 
 // The first life looks for a key by 2 calls, prepares the place by 4, and makes 4 for each of the 7 records.
 #[test]
 fn the_script_survives_in_one_life(rt: HostRuntime) {
-    assert!(rt; survives_in_one_life(rt.alloc()) == Some(34));
+    expect(&rt, survives_in_one_life(rt.alloc()) == Some(34));
 }

@@ -59,17 +59,32 @@ fn are_right_ways(alloc: Global, retired: u32, bytes: &[u8], ways: &[Way]) -> Op
     Some(true)
 }
 
-// Whether the first `len` bytes of CHANGED, followed by reads that claim the rest, have the answers of zeros in its
-// place.
-fn is_right_claim(alloc: Global, len: usize) -> Option<bool> {
+// The first `len` bytes of CHANGED, and zeros.
+fn cut_at(len: usize) -> [u8; 20] {
     let mut bytes = CHANGED;
-    bytes.get_mut(len..)?.fill(0);
+    if let Some(rest) = bytes.get_mut(len..) {
+        rest.fill(0);
+    }
+    bytes
+}
+
+// The answers to the first `len` bytes of CHANGED, followed by reads that claim the rest.
+fn claimed(alloc: Global, len: usize, output: &mut Output) -> Option<End> {
     let mut input = input_of(CHANGED.get(..len)?);
     input.claims = CHANGED.len().checked_sub(len)?;
+    end_of(alloc, 0, &mut input, output)
+}
+
+// Whether they are those of zeros in its place.
+fn is_right_claim(alloc: Global, len: usize) -> bool {
     let mut output = taking_all(alloc);
-    let came = end_of(alloc, 0, &mut input, &mut output)?;
-    let (end, replies) = whole(alloc, 0, &bytes)?;
-    Some(came == end && output.taken.as_slice() == replies.as_slice())
+    let came = claimed(alloc, len, &mut output);
+    match whole(alloc, 0, &cut_at(len)) {
+        Some((end, replies)) => {
+            came == Some(end) && output.taken.as_slice() == replies.as_slice()
+        }
+        None => false,
+    }
 }
 
 // Heads of frames, and the sizes of their messages. fw-1 takes the last leaf, so fw-2's message is skipped, as is a bad
@@ -95,8 +110,11 @@ fn are_right_requests(alloc: Global) -> Option<bool> {
 #[test]
 fn inputs_lead_to_what_they_lead_to_as_a_whole(rt: HostRuntime) {
     for len in 0..=CHANGED.len() {
-        assert!(rt; is_right_claim(rt.alloc(), len) == Some(true));
-        assert!(rt; are_right_ways(rt.alloc(), 0, &CHANGED[..len], &FEW_WAYS) == Some(true));
+        expect(&rt, is_right_claim(rt.alloc(), len));
+        expect(
+            &rt,
+            are_right_ways(rt.alloc(), 0, &CHANGED[..len], &FEW_WAYS) == Some(true),
+        );
     }
-    assert!(rt; are_right_requests(rt.alloc()) == Some(true));
+    expect(&rt, are_right_requests(rt.alloc()) == Some(true));
 }

@@ -10,18 +10,59 @@ const MESSAGE: usize = 9;
 // The frames after the request: the same name with another message, and a message that claims 2^32 - 1 bytes.
 const CLAIMED: &[u8] = b"\x04fw-1\0\0\0\x01\x01\0\xff\xff\xff\xffabc";
 
-// The request for a message of `size` zeros, and CLAIMED.
-fn frames_with(alloc: Global, size: u32) -> Option<Vec<u8>> {
-    let mut frames = Vec::with_capacity(alloc, 70_000).ok()?;
-    frames.extend_from_slice(b"\x04fw-1").ok()?;
-    frames.extend_from_slice(&size.to_be_bytes()).ok()?;
-    frames.resize(MESSAGE.checked_add(size as usize)?, 0).ok()?;
-    frames.extend_from_slice(CLAIMED).ok()?;
-    Some(frames)
+// Writes the request for a message of `size` zeros, and CLAIMED.
+fn write_frames(frames: &mut Vec<u8>, size: u32) -> bool {
+    frames.extend_from_slice(b"\x04fw-1").is_ok()
+        && frames.extend_from_slice(&size.to_be_bytes()).is_ok()
+        && frames
+            .resize(MESSAGE.saturating_add(size as usize), 0)
+            .is_ok()
+        && frames.extend_from_slice(CLAIMED).is_ok()
 }
 
-// The length of the message's signature, by `serve` or by `sign`. A reply has 5 bytes before its signature, and two
-// replies without one follow.
+fn frames_with(alloc: Global, size: u32) -> Option<Vec<u8>> {
+    match Vec::with_capacity(alloc, 70_000) {
+        Ok(frames) => {
+            let mut frames = frames;
+            if write_frames(&mut frames, size) {
+                Some(frames)
+            } else {
+                None
+            }
+        }
+        Err(_) => None,
+    }
+}
+
+// The length of the message's signature. A reply has 5 bytes before its signature, and two replies without one follow.
+fn len_by_serve<S: Store, R: Source>(
+    alloc: Global,
+    signer: &mut Signer<S, R>,
+    mut frames: &[u8],
+    out: &mut Vec<u8>,
+) -> Option<usize> {
+    if serve(alloc, signer, &mut frames, out) == Err(ServeFault::MessageRead) {
+        out.len().checked_sub(15)
+    } else {
+        None
+    }
+}
+
+fn len_by_sign<S: Store, R: Source>(
+    alloc: Global,
+    signer: &mut Signer<S, R>,
+    message: &[u8],
+) -> Option<usize> {
+    let mut signature = Vec::new(alloc);
+    match Name::new(b"fw-1") {
+        Ok(name) if sign(signer, &name, message, &mut signature).is_none() => {
+            Some(signature.len())
+        }
+        _ => None,
+    }
+}
+
+// By `serve` or by `sign`.
 fn len_by<S: Store, R: Source>(
     alloc: Global,
     signer: &mut Signer<S, R>,
@@ -29,18 +70,11 @@ fn len_by<S: Store, R: Source>(
     is_in_frame: bool,
     out: &mut Vec<u8>,
 ) -> Option<usize> {
-    let (mut input, mut text) = (frames, message);
     if is_in_frame {
-        if serve(alloc, signer, &mut input, out) != Err(ServeFault::MessageRead) {
-            return None;
-        }
-        return out.len().checked_sub(15);
+        len_by_serve(alloc, signer, frames, out)
+    } else {
+        len_by_sign(alloc, signer, message)
     }
-    let mut signature = Vec::new(alloc);
-    signer
-        .sign(&Name::new(b"fw-1").ok()?, &mut text, &mut signature)
-        .ok()?;
-    Some(signature.len())
 }
 
 // As `len_by`, by a new key in this store.
@@ -69,20 +103,20 @@ fn signed_len(alloc: Global, size: u32, is_in_frame: bool) -> Option<usize> {
 
 #[test]
 fn a_short_message_is_signed(rt: HostRuntime) {
-    assert!(rt; signed_len(rt.alloc(), 1, false) == Some(8684));
+    expect(&rt, signed_len(rt.alloc(), 1, false) == Some(8684));
 }
 
 #[test]
 fn a_long_message_is_signed(rt: HostRuntime) {
-    assert!(rt; signed_len(rt.alloc(), 65_536, false) == Some(8684));
+    expect(&rt, signed_len(rt.alloc(), 65_536, false) == Some(8684));
 }
 
 #[test]
 fn a_short_message_is_signed_in_a_frame(rt: HostRuntime) {
-    assert!(rt; signed_len(rt.alloc(), 1, true) == Some(8684));
+    expect(&rt, signed_len(rt.alloc(), 1, true) == Some(8684));
 }
 
 #[test]
 fn a_long_message_is_signed_in_a_frame(rt: HostRuntime) {
-    assert!(rt; signed_len(rt.alloc(), 65_536, true) == Some(8684));
+    expect(&rt, signed_len(rt.alloc(), 65_536, true) == Some(8684));
 }

@@ -203,11 +203,14 @@ const ROWS: [Row<'static>; 20] = [
     ),
 ];
 
+fn is_right(alloc: Global, (text, first, second, records): &Row<'_>) -> bool {
+    let key = (*text, MemoryStore::with_limit(alloc, 100));
+    lived(alloc, key, &seen_from(7), (first, second), *records) == Some(true)
+}
+
 #[test]
 fn a_key_makes_the_caches_that_it_needs(rt: HostRuntime) {
-    for (text, first, second, records) in &ROWS {
-        let key = (*text, MemoryStore::with_limit(rt.alloc(), 100));
-        let is_right = lived(rt.alloc(), key, &seen_from(7), (first, second), *records);
-        assert!(rt; is_right == Some(true));
+    for row in &ROWS {
+        expect(&rt, is_right(rt.alloc(), row));
     }
 }

@@ -59,7 +59,7 @@ fn refused_for(alloc: Global) -> Option<(u32, u32)> {
 
 #[test]
 fn records_are_made_at_last(rt: HostRuntime) {
-    assert!(rt; refused_for(rt.alloc()).is_some());
+    expect(&rt, refused_for(rt.alloc()).is_some());
 }
 
 // How often memory is refused to a key's opening and its first name.
@@ -75,7 +75,7 @@ fn refused_at_first(alloc: Global) -> Option<u32> {
 // With ample memory no refusal is reported.
 #[test]
 fn a_first_name_is_signed_at_first(rt: HostRuntime) {
-    assert!(rt; refused_at_first(rt.alloc()) == Some(0));
+    expect(&rt, refused_at_first(rt.alloc()) == Some(0));
 }
 
 // This passes only where no name is refused memory after its draw, and the next one only where no Retire is refused
@@ -83,13 +83,13 @@ fn a_first_name_is_signed_at_first(rt: HostRuntime) {
 #[test]
 fn names_are_bound_at_first(rt: HostRuntime) {
     let refused = refused_for(rt.alloc());
-    assert!(rt; refused == Some((0, 0)) || refused == Some((0, 1)));
+    expect(&rt, refused == Some((0, 0)) || refused == Some((0, 1)));
 }
 
 #[test]
 fn leaves_are_retired_at_first(rt: HostRuntime) {
     let refused = refused_for(rt.alloc());
-    assert!(rt; refused == Some((0, 0)) || refused == Some((1, 0)));
+    expect(&rt, refused == Some((0, 0)) || refused == Some((1, 0)));
 }
 
 // A spec, the steps of a new key and those once it is opened again, and how many records there are then. The rows have
@@ -135,12 +135,18 @@ const NEW: [(&str, &[Step<'_>], &[Step<'_>], u32); 5] = [
     ),
 ];
 
+fn is_right(
+    alloc: Global,
+    (text, first, second, records): &(&str, &[Step<'_>], &[Step<'_>], u32),
+) -> bool {
+    let key = (*text, MemoryStore::with_limit(alloc, 200));
+    lived(alloc, key, &seen_from(7), (first, second), *records) == Some(true)
+}
+
 #[test]
 fn new_keys_sign_at_last(rt: HostRuntime) {
-    for (text, first, second, records) in &NEW {
-        let key = (*text, MemoryStore::with_limit(rt.alloc(), 200));
-        let is_right = lived(rt.alloc(), key, &seen_from(7), (first, second), *records);
-        assert!(rt; is_right == Some(true));
+    for row in &NEW {
+        expect(&rt, is_right(rt.alloc(), row));
     }
 }
 
@@ -157,11 +163,27 @@ fn using_up() -> [Step<'static>; 67] {
     steps
 }
 
+// Whether a new key with this limit of records takes these steps once it is opened, by draws from `next` on, and then
+// has this many records.
+fn takes(
+    alloc: Global,
+    (text, limit): (&str, u32),
+    next: u8,
+    steps: &[Step<'_>],
+    records: u32,
+) -> bool {
+    ends_with(
+        alloc,
+        made(alloc, text, limit),
+        &seen_from(next),
+        steps,
+        records,
+    ) == Some(true)
+}
+
 #[test]
 fn lower_trees_are_used_up_at_last(rt: HostRuntime) {
-    let store = made(rt.alloc(), THREE, 200);
-    let is_right = ends_with(rt.alloc(), store, &seen_from(50), &using_up(), 101);
-    assert!(rt; is_right == Some(true));
+    expect(&rt, takes(rt.alloc(), (THREE, 200), 50, &using_up(), 101));
 }
 
 // A first name of two levels needs two records, a tree and a binding, where the store has room for one. It changes
@@ -184,12 +206,9 @@ const AGAIN: [Step; 2] = [
 
 #[test]
 fn a_full_store_is_found_at_last(rt: HostRuntime) {
-    let store = made(rt.alloc(), TWO, 2);
-    assert!(rt; ends_with(rt.alloc(), store, &seen_from(50), &WANTS_TWO, 1) == Some(true));
-    let store = made(rt.alloc(), LMS, 2);
-    assert!(rt; ends_with(rt.alloc(), store, &seen_from(50), &WANTS_MORE, 2) == Some(true));
-    let store = made(rt.alloc(), TWO, 100);
-    assert!(rt; ends_with(rt.alloc(), store, &seen_from(7), &AGAIN, 1) == Some(true));
+    expect(&rt, takes(rt.alloc(), (TWO, 2), 50, &WANTS_TWO, 1));
+    expect(&rt, takes(rt.alloc(), (LMS, 2), 50, &WANTS_MORE, 2));
+    expect(&rt, takes(rt.alloc(), (TWO, 100), 7, &AGAIN, 1));
 }
 
 // What a key answers from a cut append of a name on: it has stopped.
@@ -227,8 +246,14 @@ fn after_a_cut(alloc: Global, cut: Cut, steps: &[Step<'_>]) -> Option<(bool, boo
 
 #[test]
 fn a_cut_name_is_answered_at_last(rt: HostRuntime) {
-    assert!(rt; after_a_cut(rt.alloc(), Cut::New, &BOUND) == Some((true, false)));
-    assert!(rt; after_a_cut(rt.alloc(), Cut::Old, &FREE) == Some((false, true)));
+    expect(
+        &rt,
+        after_a_cut(rt.alloc(), Cut::New, &BOUND) == Some((true, false)),
+    );
+    expect(
+        &rt,
+        after_a_cut(rt.alloc(), Cut::Old, &FREE) == Some((false, true)),
+    );
 }
 
 // Without a name, and with name 1 bound to the digest of byte 1.
@@ -251,25 +276,25 @@ fn refused_of(alloc: Global, entries: &[Entry], number: u8) -> Option<u32> {
 // Refused memory is reported before a wrong root, which the next request then reports.
 #[test]
 fn a_changed_root_is_found_at_last(rt: HostRuntime) {
-    assert!(rt; refused_of(rt.alloc(), NO_NAME, 2).is_some());
+    expect(&rt, refused_of(rt.alloc(), NO_NAME, 2).is_some());
 }
 
 // This passes only where no allocation of the request is refused.
 #[test]
 fn a_changed_root_is_found_at_first(rt: HostRuntime) {
-    assert!(rt; refused_of(rt.alloc(), NO_NAME, 2) == Some(0));
+    expect(&rt, refused_of(rt.alloc(), NO_NAME, 2) == Some(0));
 }
 
 // The same under a bound name.
 #[test]
 fn a_changed_root_of_a_bound_name_is_found_at_last(rt: HostRuntime) {
-    assert!(rt; refused_of(rt.alloc(), BOUND_BYTE, 1).is_some());
+    expect(&rt, refused_of(rt.alloc(), BOUND_BYTE, 1).is_some());
 }
 
 // This passes only where no allocation of the request is refused.
 #[test]
 fn a_changed_root_of_a_bound_name_is_found_at_first(rt: HostRuntime) {
-    assert!(rt; refused_of(rt.alloc(), BOUND_BYTE, 1) == Some(0));
+    expect(&rt, refused_of(rt.alloc(), BOUND_BYTE, 1) == Some(0));
 }
 
 // The fault of a replay of legal records, and of a second one where memory is refused to the first.
@@ -294,11 +319,11 @@ fn replayed(alloc: Global) -> Option<(Option<LedgerFault>, Option<LedgerFault>)>
 fn records_are_replayed_at_last(rt: HostRuntime) {
     let came = replayed(rt.alloc());
     let refused = Some((Some(LedgerFault::OutOfMemory), None));
-    assert!(rt; came == Some((None, None)) || came == refused);
+    expect(&rt, came == Some((None, None)) || came == refused);
 }
 
 // This passes only where no allocation of the first replay is refused.
 #[test]
 fn records_are_replayed_at_first(rt: HostRuntime) {
-    assert!(rt; replayed(rt.alloc()) == Some((None, None)));
+    expect(&rt, replayed(rt.alloc()) == Some((None, None)));
 }

@@ -1,7 +1,7 @@
 //! Legal and illegal lists of records, in memory. Files of such lists are tested by `tests/conformance` and
 //! `tests/machine_edge`.
 
-ghost use Rattle.std.specs.Prelude.{◌≡◌, true};
+ghost use Rattle.std.specs.Prelude.{◌≡◌, ◌≤◌, true};
 ghost use Rattle.state_file.specs.Slot.{FitsVersion, version_begun};
 
 use super::steps::Numbers;
@@ -178,39 +178,49 @@ pub(super) fn records_of(alloc: Global, entries: &[Entry]) -> Option<Vec<Record>
 
 // The number of an opening's fault; 0 where the store opens.
 fn number_in<S: Store + Drop>(alloc: Global, store: S) -> u8 {
-    let seen = seen_from(0);
+    number_by(alloc, store, &seen_from(0))
+}
+
+fn number_by<S: Store + Drop>(alloc: Global, store: S, seen: &Seen) -> u8 {
     match Signer::open(alloc, store, Numbers { next: &seen.next }) {
         Ok(_signer) => 0,
         Err(refused) => refused.fault.number(),
     }
 }
 
+// Whether a list has this fault as a ledger; None where memory is refused.
+fn is_ledger(alloc: Global, entries: &[Entry], fault: Option<LedgerFault>) -> Option<bool> {
+    let records = records_of(alloc, entries)?;
+    Some(Ledger::replay(alloc, &records).err() == fault)
+}
+
+// Whether it has that as a store, if a store takes it.
+fn is_store(alloc: Global, entries: &[Entry], fault: Option<LedgerFault>) -> bool {
+    let number = match fault {
+        Some(fault) => fault.number(),
+        None => 0,
+    };
+    match with_records(MemoryStore::with_limit(alloc, 100), entries) {
+        Some(store) => number_in(alloc, store) == number,
+        None => true,
+    }
+}
+
 // The index of the first list with another fault, as a ledger or as a store; the number of lists if there is none.
-fn first_other_list(alloc: Global) -> Option<usize> {
+fn first_other_list(alloc: Global) -> usize {
     for (i, (entries, fault)) in LISTS.iter().enumerate() {
-        let records = records_of(alloc, entries)?;
-        let number = match fault {
-            Some(fault) => fault.number(),
-            None => 0,
-        };
-        if Ledger::replay(alloc, &records).err() != *fault {
-            return Some(i);
-        }
-        if let Some(store) = with_records(MemoryStore::with_limit(alloc, 100), entries) {
-            if number_in(alloc, store) != number {
-                return Some(i);
-            }
+        if is_ledger(alloc, entries, *fault) != Some(true) || !is_store(alloc, entries, *fault) {
+            return i;
         }
     }
-    Some(LISTS.len())
+    LISTS.len()
 }
 
 #[test]
 fn ledgers_are_legal_lists(rt: HostRuntime) {
-    assert!(rt; first_other_list(rt.alloc()) == Some(LISTS.len()));
-    for (fault, number) in &[(LedgerFault::Empty, 40), (LedgerFault::OutOfMemory, 46u8)] {
-        assert!(rt; fault.number() == *number);
-    }
+    expect(&rt, first_other_list(rt.alloc()) == LISTS.len());
+    expect(&rt, LedgerFault::Empty.number() == 40);
+    expect(&rt, LedgerFault::OutOfMemory.number() == 46);
 }
 
 // The number of a create's fault, 0 where a key is made; and the store.
@@ -218,8 +228,15 @@ fn made_in<S: Store + Drop>(alloc: Global, store: S) -> Option<(u8, S)> {
     if store.limit() == 0 {
         return None;
     }
-    let seen = seen_from(7);
-    let spec = Spec::parse(LMS).ok()?;
+    match Spec::parse(LMS) {
+        Ok(spec) => made_of(alloc, spec, store, &seen_from(7)),
+        Err(_) => None,
+    }
+}
+
+fn made_of<S: Store + Drop>(alloc: Global, spec: Spec, store: S, seen: &Seen) -> Option<(u8, S)>
+    requires { 1 ≤ S.most store }
+{
     match Signer::create(alloc, spec, store, Numbers { next: &seen.next }) {
         Ok(signer) => Some((0, signer.into_store())),
         Err(refused) => {
@@ -244,6 +261,6 @@ fn made_twice(alloc: Global, is_cut: bool) -> Option<(u8, u8, u8)> {
 // A store with a key gets no other (50). After a cut append of a key (25) the store has stopped (26).
 #[test]
 fn a_store_has_one_key(rt: HostRuntime) {
-    assert!(rt; made_twice(rt.alloc(), false) == Some((0, 50, 0)));
-    assert!(rt; made_twice(rt.alloc(), true) == Some((25, 26, 26)));
+    expect(&rt, made_twice(rt.alloc(), false) == Some((0, 50, 0)));
+    expect(&rt, made_twice(rt.alloc(), true) == Some((25, 26, 26)));
 }

@@ -169,12 +169,16 @@ const ROWS: [Row<'static>; 10] = [
     (LMS, (None, Some(3)), (SIGNS, ONE_LEFT), 2, (1, 0)),
 ];
 
+fn is_right(alloc: Global, (text, (appends, loads), lives, records, refused): &Row<'_>) -> bool {
+    let seen = seen_from(7);
+    let key = (*text, empty_store(alloc, *appends, *loads));
+    lived(alloc, key, &seen, *lives, *records) == Some(true)
+        && (seen.openings.get(), seen.steps.get()) == *refused
+}
+
 #[test]
 fn what_is_refused_memory_comes_again(rt: HostRuntime) {
-    for (text, (appends, loads), lives, records, refused) in &ROWS {
-        let seen = seen_from(7);
-        let key = (*text, empty_store(rt.alloc(), *appends, *loads));
-        assert!(rt; lived(rt.alloc(), key, &seen, *lives, *records) == Some(true));
-        assert!(rt; (seen.openings.get(), seen.steps.get()) == *refused);
+    for row in &ROWS {
+        expect(&rt, is_right(rt.alloc(), row));
     }
 }

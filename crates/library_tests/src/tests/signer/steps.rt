@@ -91,10 +91,7 @@ pub(crate) fn created_by<'a, S: Store + Drop>(
                 count_one(&seen.openings);
                 seen.next.set(first);
                 let (store, random) = refused.given;
-                if store.limit() == 0 {
-                    return None;
-                }
-                Signer::create(alloc, Spec::parse(text).ok()?, store, random).ok()
+                created(alloc, text, store, random)
             }
             _ => None,
         },
@@ -130,25 +127,82 @@ fn binds_none(before: Option<u32>, after: Option<u32>) -> bool {
     before == after || (before == Some(0) && after == Some(32))
 }
 
-// The fault of a request, if any. None where the signature isn't valid, a refusal leaves a byte, or refused memory
-// binds a name.
+// Whether the signature is valid, a refusal leaves no byte, and refused memory binds no name. `before` has the free
+// leaves of the lowest tree before the request.
+fn is_right<S: Store, R: Source>(
+    signer: &Signer<S, R>,
+    before: Option<u32>,
+    text: &[u8],
+    fault: Option<SignFault>,
+    out: &[u8],
+) -> bool {
+    match fault {
+        None => is_valid(&signer.public_key(), text, out),
+        Some(SignFault::OutOfMemory) => out.is_empty() && binds_none(before, lowest_left(signer)),
+        Some(_) => out.is_empty(),
+    }
+}
+
+// The fault of a request, if any. None where that isn't right.
 fn request<S: Store, R: Source>(
+    signer: &mut Signer<S, R>,
+    name: &Name,
+    text: &[u8],
+    out: &mut Vec<u8>,
+) -> Option<Option<SignFault>> {
+    let before = lowest_left(signer);
+    let fault = sign(signer, name, text, out);
+    if is_right(signer, before, text, fault, out) {
+        Some(fault)
+    } else {
+        None
+    }
+}
+
+// The same for a name by its number.
+fn request_by<S: Store, R: Source>(
     signer: &mut Signer<S, R>,
     number: u8,
     message: u8,
     out: &mut Vec<u8>,
 ) -> Option<Option<SignFault>> {
-    let name = name_of(number)?;
-    let before = signer.left().as_slice().last().copied();
-    let fault = signer.sign(&name, &mut [message].as_slice(), out).err();
-    let is_right = match fault {
-        None => verify_any(&signer.public_key(), &mut [message].as_slice(), out).is_ok(),
-        Some(SignFault::OutOfMemory) => {
-            out.is_empty() && binds_none(before, signer.left().as_slice().last().copied())
-        }
-        Some(_) => out.is_empty(),
-    };
-    if is_right { Some(fault) } else { None }
+    match name_of(number) {
+        Some(name) => request(signer, &name, &[message], out),
+        None => None,
+    }
+}
+
+fn has_left<S: Store, R: Source>(signer: &Signer<S, R>, counts: &[u32]) -> bool {
+    signer.left().as_slice() == counts
+}
+
+fn has_made<S: Store, R: Source>(signer: &Signer<S, R>, made: &[Option<u64>; 3]) -> bool {
+    signer.cache_leaves(0) == made[0]
+        && signer.cache_leaves(1) == made[1]
+        && signer.cache_leaves(2) == made[2]
+}
+
+// The fault of a step, if any. None where another part of its answer is wrong.
+fn came<S: Store, R: Source>(
+    signer: &mut Signer<S, R>,
+    step: &Step<'_>,
+    out: &mut Vec<u8>,
+) -> Option<Option<SignFault>> {
+    match step {
+        Step::Sign(number, message, _) => request_by(signer, *number, *message, out),
+        Step::Retire(upto, _) => Some(signer.retire(*upto).err()),
+        Step::Left(counts) if has_left(signer, counts) => Some(None),
+        Step::Made(made) if has_made(signer, made) => Some(None),
+        Step::Left(_) | Step::Made(_) => None,
+    }
+}
+
+fn wanted_of(step: &Step<'_>) -> Option<SignFault> {
+    match step {
+        Step::Sign(_, _, fault) => *fault,
+        Step::Retire(_, fault) => *fault,
+        Step::Left(_) | Step::Made(_) => None,
+    }
 }
 
 // Whether a step has its expected answer: false where it is refused memory, None where it has another answer.
@@ -157,19 +211,9 @@ fn is_answered<S: Store, R: Source>(
     step: &Step<'_>,
     out: &mut Vec<u8>,
 ) -> Option<bool> {
-    let (came, wanted) = match step {
-        Step::Sign(number, message, fault) => (request(signer, *number, *message, out)?, *fault),
-        Step::Retire(upto, fault) => (signer.retire(*upto).err(), *fault),
-        Step::Left(counts) if signer.left().as_slice() == *counts => (None, None),
-        Step::Made([top, middle, bottom])
-            if signer.cache_leaves(0) == *top
-                && signer.cache_leaves(1) == *middle
-                && signer.cache_leaves(2) == *bottom => { (None, None) }
-        Step::Left(_) | Step::Made(_) => return None,
-    };
-    match came {
-        _ if came == wanted => Some(true),
-        Some(SignFault::OutOfMemory) => Some(false),
+    match came(signer, step, out) {
+        Some(fault) if fault == wanted_of(step) => Some(true),
+        Some(Some(SignFault::OutOfMemory)) => Some(false),
         _ => None,
     }
 }

@@ -1,8 +1,10 @@
 //! Which trees calls tell of, up to their last leaf. The number of a tree's leaves follows from its height.
 
+ghost use Rattle.std.specs.Prelude.{◌≤◌};
+
 use super::steps::Numbers;
 use super::*;
-use sign_core::{TreeProgress, serve_telling};
+use sign_core::{KeyProgress, TreeProgress, serve_telling};
 use std::cell::Cell;
 
 // A tree's level, and its number of leaves.
@@ -105,14 +107,27 @@ fn created_telling<'a, S: Store + Drop>(
     if store.limit() == 0 {
         return None;
     }
-    let spec = Spec::parse(row.spec).ok()?;
-    let listener = awaiting(row.created);
-    let random = Numbers { next };
-    let made = Signer::create_telling(alloc, Version::One, spec, store, random, &listener);
-    if !listener.is_done() {
-        return None;
+    match Spec::parse(row.spec) {
+        Ok(spec) => created_of(alloc, spec, store, Numbers { next }, &awaiting(row.created)),
+        Err(_) => None,
     }
-    made.ok()
+}
+
+// None where the listener isn't told of all its trees.
+fn created_of<'a, S: Store + Drop>(
+    alloc: Global,
+    spec: Spec,
+    store: S,
+    random: Numbers<'a>,
+    listener: &Listener<'_>,
+) -> Option<Signer<S, Numbers<'a>>>
+    requires { 1 ≤ S.most store }
+{
+    let progress = KeyProgress::of(&spec, listener);
+    match Signer::create_telling(alloc, Version::One, spec, store, random, progress) {
+        Ok(signer) if listener.is_done() => Some(signer),
+        _ => None,
+    }
 }
 
 fn signs_telling<S: Store, R: Source>(
@@ -120,11 +135,22 @@ fn signs_telling<S: Store, R: Source>(
     number: u8,
     out: &mut Vec<u8>,
     trees: &[Tree],
-) -> Option<bool> {
-    let name = name_of(number)?;
-    let listener = awaiting(trees);
-    let signed = signer.sign_telling(&name, &mut [1].as_slice(), out, &listener);
-    Some(signed == Ok(()) && listener.is_done())
+) -> bool {
+    match name_of(number) {
+        Some(name) => signs_telling_of(signer, &name, out, &awaiting(trees)),
+        None => false,
+    }
+}
+
+fn signs_telling_of<S: Store, R: Source>(
+    signer: &mut Signer<S, R>,
+    name: &Name,
+    out: &mut Vec<u8>,
+    listener: &Listener<'_>,
+) -> bool {
+    let mut text: &[u8] = &[1];
+    let progress = KeyProgress::of(&signer.spec(), listener);
+    signer.sign_telling(name, &mut text, out, &progress) == Ok(()) && listener.is_done()
 }
 
 // Serves name 2.
@@ -136,7 +162,8 @@ fn serves_telling<S: Store, R: Source>(
     let listener = awaiting(trees);
     let mut input = b"\x012\0\0\0\x01\x01".as_slice();
     let mut replies = Vec::new(alloc);
-    let end = serve_telling(alloc, signer, &mut input, &mut replies, &listener);
+    let progress = KeyProgress::of(&signer.spec(), &listener);
+    let end = serve_telling(alloc, signer, &mut input, &mut replies, &progress);
     end == Ok(1) && replies.first() == Some(&0) && listener.is_done()
 }
 
@@ -144,27 +171,36 @@ fn works_telling<S: Store, R: Source>(
     alloc: Global,
     signer: &mut Signer<S, R>,
     row: &Row<'_>,
-) -> Option<bool> {
+) -> bool {
     let mut out = Vec::new(alloc);
-    let first = signs_telling(signer, 0, &mut out, row.first)?;
-    let second = signs_telling(signer, 1, &mut out, &[])?;
-    signer.retire(row.retired).ok()?;
-    Some(first && second && serves_telling(alloc, signer, row.served))
+    signs_telling(signer, 0, &mut out, row.first)
+        && signs_telling(signer, 1, &mut out, &[])
+        && signer.retire(row.retired).is_ok()
+        && serves_telling(alloc, signer, row.served)
 }
 
 // Signs the first name again, once the key is opened again.
-fn repeats_telling<S: Store + Drop>(alloc: Global, store: S, trees: &[Tree]) -> Option<bool> {
+fn repeats_telling<S: Store + Drop>(alloc: Global, store: S, trees: &[Tree]) -> bool {
     let next = Cell::new(99);
-    let mut signer = Signer::open(alloc, store, Numbers { next: &next }).ok()?;
-    signs_telling(&mut signer, 0, &mut Vec::new(alloc), trees)
+    match Signer::open(alloc, store, Numbers { next: &next }) {
+        Ok(signer) => {
+            let mut signer = signer;
+            signs_telling(&mut signer, 0, &mut Vec::new(alloc), trees)
+        }
+        Err(_) => false,
+    }
 }
 
-fn lives_telling<S: Store + Drop>(alloc: Global, store: S, row: &Row<'_>) -> Option<bool> {
+fn lives_telling<S: Store + Drop>(alloc: Global, store: S, row: &Row<'_>) -> bool {
     let next = Cell::new(7);
-    let mut signer = created_telling(alloc, store, &next, row)?;
-    let works = works_telling(alloc, &mut signer, row);
-    let repeats = repeats_telling(alloc, signer.into_store(), row.repeated);
-    Some(works? && repeats?)
+    match created_telling(alloc, store, &next, row) {
+        Some(signer) => {
+            let mut signer = signer;
+            let works = works_telling(alloc, &mut signer, row);
+            repeats_telling(alloc, signer.into_store(), row.repeated) && works
+        }
+        None => false,
+    }
 }
 
 // A repeat makes no cache of a tree newer than its name. It tells of its own tree, which it makes again.
@@ -207,6 +243,6 @@ const ROWS: [Row<'static>; 4] = [
 fn calls_tell_of_the_trees_that_they_make(rt: HostRuntime) {
     for row in &ROWS {
         let store = MemoryStore::with_limit(rt.alloc(), 100);
-        assert!(rt; lives_telling(rt.alloc(), store, row) == Some(true));
+        expect(&rt, lives_telling(rt.alloc(), store, row));
     }
 }

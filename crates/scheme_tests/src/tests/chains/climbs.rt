@@ -3,7 +3,7 @@
 ghost use Rattle.std.specs.Prelude.{ℕ, ◌≤◌, ◌<◌, ◌+◌, ◌%◌, length, slice_index, slice_set};
 ghost use Rattle.winternitz.specs.Lanes.{lanes};
 
-use std::process::Abort;
+use crate::tests::expecting::{expect, expect_none};
 use winternitz::lanes::LANES;
 use winternitz::{Step, added, climb, climb_from, climb_to, climb_whole};
 
@@ -23,21 +23,27 @@ impl Step for Counting {
     }
 }
 
+// Whether a climb ends after this number of steps, the last of them at this place.
+fn ends(from: u8, to: u8, steps: u8, last: u8) -> bool
+    requires { from ≤ to }
+{
+    let end = climb(&Counting, 264, from, to, &[0; 32]);
+    end[0] == steps && end[1] == last
+}
+
+fn take_steps() -> bool {
+    ends(7, 7, 0, 0)
+        && ends(255, 255, 0, 0)
+        && ends(0, 1, 1, 0)
+        && ends(3, 8, 5, 7)
+        && ends(0, 255, 255, 254)
+        && climb(&Counting, 264, 9, 9, &[0; 32]) == [0; 32]
+        && climb(&Counting, 264, 0, 255, &[0; 32])[2] == 8
+}
+
 #[test]
 fn climbs_take_a_step_for_each_number(rt: HostRuntime) {
-    let start = [0; 32];
-    for (from, to, steps, last) in [
-        (7, 7, 0, 0),
-        (255, 255, 0, 0),
-        (0, 1, 1, 0),
-        (3, 8, 5, 7),
-        (0, 255, 255, 254),
-    ] {
-        let end = climb(&Counting, 264, from, to, &start);
-        assert!(rt; (end[0], end[1]) == (steps, last), "from {from} to {to}");
-    }
-    assert!(rt; climb(&Counting, 264, 9, 9, &start) == start);
-    assert!(rt; climb(&Counting, 264, 0, 255, &start)[2] == 8);
+    expect(&rt, take_steps());
 }
 
 // For each lane a chain, the least and the greatest number among them, and a value.
@@ -73,47 +79,54 @@ const WAYS: [([u8; LANES], [u8; LANES]); 7] = [
 #[test]
 fn chains_climb_from_any_place_and_to_any_other(rt: HostRuntime) {
     for (from, to) in WAYS {
-        expect_climbs(&rt, &from, &VALUES);
-        expect_climbs(&rt, &to, &VALUES);
+        expect_none(&rt, wrong_chain(&from, &VALUES));
+        expect_none(&rt, wrong_chain(&to, &VALUES));
     }
+}
+
+// The first lane whose chain, of those that climb together, ends elsewhere by itself.
+fn wrong_lane(from: &[u8; LANES], steps: u8) -> Option<usize>
+    requires { (j : ℕ) → j < lanes → slice_index from.now j + steps < 256 }
+{
+    let ends = Counting.steps_in_lanes(&CHAINS, from, steps, &VALUES);
+    let to = added(from, steps);
+    for lane in 0..LANES {
+        if ends[lane] != climb(&Counting, CHAINS[lane], from[lane], to[lane], &VALUES[lane]) {
+            return Some(lane);
+        }
+    }
+    None
 }
 
 // Each number of steps, from place 0 on, and up to place 255.
 #[test]
 fn each_length_climbs_in_lanes(rt: HostRuntime) {
     for steps in 0..=255u8 {
-        expect_lanes(&rt, &[0; LANES], steps);
-        expect_lanes(&rt, &[255 - steps; LANES], steps);
+        expect_none(&rt, wrong_lane(&[0; LANES], steps));
+        expect_none(&rt, wrong_lane(&[255 - steps; LANES], steps));
     }
 }
 
-// Chains that climb together end where each does by itself.
-fn expect_lanes(rt: &impl Abort, from: &[u8; LANES], steps: u8)
-    requires { (j : ℕ) → j < lanes → slice_index from.now j + steps < 256 }
-{
-    let ends = Counting.steps_in_lanes(&CHAINS, from, steps, &VALUES);
-    let to = added(from, steps);
+// Numbers of steps that are this far apart, one for each lane.
+fn others_from(steps: u8) -> [u8; LANES] {
+    let mut others = [0; LANES];
     for lane in 0..LANES {
-        let end = climb(&Counting, CHAINS[lane], from[lane], to[lane], &VALUES[lane]);
-        assert!(rt; ends[lane] == end, "lane {lane} from {from:?} by {steps}");
+        others[lane] = steps.wrapping_add((256 / LANES * lane % 256) as u8);
     }
+    others
 }
 
 // Each number of steps in each lane, with equal and with other numbers beside it.
 #[test]
 fn each_length_climbs_in_each_lane(rt: HostRuntime) {
     for steps in 0..=255u8 {
-        let mut others = [0; LANES];
-        for lane in 0..LANES {
-            others[lane] = steps.wrapping_add((256 / LANES * lane % 256) as u8);
-        }
-        expect_climbs(&rt, &[steps; LANES], &VALUES);
-        expect_climbs(&rt, &others, &VALUES);
+        expect_none(&rt, wrong_chain(&[steps; LANES], &VALUES));
+        expect_none(&rt, wrong_chain(&others_from(steps), &VALUES));
     }
 }
 
-// Each chain ends where it does by itself.
-fn expect_climbs(rt: &impl Abort, digits: &[u8], values: &[[u8; 32]])
+// The first chain that ends elsewhere by itself: up to its digit, from there to place 255, and from place 0 to 15.
+fn wrong_chain(digits: &[u8], values: &[[u8; 32]]) -> Option<usize>
     requires within_limit { length values.now ≤ 265 }
     requires digits { length values.now ≤ length digits.now }
 {
@@ -121,14 +134,15 @@ fn expect_climbs(rt: &impl Abort, digits: &[u8], values: &[[u8; 32]])
     let from = climb_from(&Counting, digits, 255, values);
     let whole = climb_whole(&Counting, 15, values);
     for i in 0..values.len() {
-        let up_to = climb(&Counting, i as u16, 0, digits[i], &values[i]);
-        let up_from = climb(&Counting, i as u16, digits[i], 255, &values[i]);
-        let all = climb(&Counting, i as u16, 0, 15, &values[i]);
-        assert!(rt;
-            (to[i], from[i], whole[i]) == (up_to, up_from, all),
-            "chain {i}"
-        );
+        let (chain, digit, value) = (i as u16, digits[i], &values[i]);
+        if to[i] != climb(&Counting, chain, 0, digit, value)
+            || from[i] != climb(&Counting, chain, digit, 255, value)
+            || whole[i] != climb(&Counting, chain, 0, 15, value)
+        {
+            return Some(i);
+        }
     }
+    None
 }
 
 // Rows of chains: the first digit, the step to each next digit (modulo 256), and chain 2's digit. They have chains of
@@ -144,20 +158,34 @@ const ROWS: [(usize, usize, u8); 8] = [
     (128, 128, 7),
 ];
 
+// A row's digits.
+fn digits_of(first: usize, more: usize, third: u8) -> [u8; 265] {
+    let mut digits = [0; 265];
+    for i in 0..265 {
+        digits[i] = (first.wrapping_add(i.wrapping_mul(more)) % 256) as u8;
+    }
+    digits[2] = third;
+    digits
+}
+
+// Value i is the byte i modulo 256, 32 times.
+fn values() -> [[u8; 32]; 265] {
+    let mut values = [[0; 32]; 265];
+    for i in 0..265 {
+        values[i] = [(i % 256) as u8; 32];
+    }
+    values
+}
+
 // Numbers of chains that the lanes divide, and others. Each lane takes a part of the row, and chains begin and end
 // anywhere in it.
 #[test]
 fn all_chains_climb_as_each_by_itself(rt: HostRuntime) {
+    let values = values();
     for (first, more, third) in ROWS {
-        let mut digits = [0; 265];
-        let mut values = [[0; 32]; 265];
-        for i in 0..265 {
-            digits[i] = ((first + more * i) % 256) as u8;
-            values[i] = [(i % 256) as u8; 32];
-        }
-        digits[2] = third;
+        let digits = digits_of(first, more, third);
         for count in [0, 1, 2, 3, 4, 5, 6, 7, 8, 9, 15, 16, 34, 67, 133, 265usize] {
-            expect_climbs(&rt, &digits, &values[..count]);
+            expect_none(&rt, wrong_chain(&digits, &values[..count]));
         }
     }
 }

@@ -2,6 +2,7 @@
 
 ghost use Rattle.std.specs.Prelude.{◌≤◌};
 
+use crate::tests::expecting::{expect, expect_none};
 use sha2::{Digest, Sha256};
 use winternitz::lanes::{
     Beginning, LANES, compress, digests, in_each, in_lane, in_words, initial, sha256_in_lanes,
@@ -24,71 +25,102 @@ const CHAINS: [u16; LANES] = [0, 3, 0x0102, 0xffff, 1, 0xff00, 0x8000, 0x00ff];
 
 const STEPS: [u8; LANES] = [0xff, 0, 7, 254, 0x80, 1, 0xff, 0];
 
+// SHA-256 of three parts and a byte before the last.
+fn digest_of_parts(first: &[u8], chain: u16, step: u8, value: &[u8]) -> [u8; 32] {
+    let mut hasher = Sha256::new();
+    hasher.update(first);
+    hasher.update(&chain.to_be_bytes());
+    hasher.update(&[step]);
+    hasher.update(value);
+    hasher.finalize()
+}
+
+// Other bytes for each lane, by a number.
+fn in_lanes<const N: usize>(round: u32) -> [[u8; N]; LANES] {
+    let mut all = [[0; N]; LANES];
+    for lane in 0..LANES {
+        all[lane] = scrambled(lane, round);
+    }
+    all
+}
+
+// The first lane with another digest of a message that begins with 20 bytes, a chain's number and a step's.
+fn wrong_begun(round: u32) -> Option<usize> {
+    let first = in_lanes(round.wrapping_add(200));
+    let values = in_lanes(round);
+    let hashed = Beginning::new(&first).hash(&CHAINS, &STEPS, &in_words(&values));
+    let digests = digests(&hashed);
+    for lane in 0..LANES {
+        let digest = digest_of_parts(&first[lane], CHAINS[lane], STEPS[lane], &values[lane]);
+        if digests[lane] != digest {
+            return Some(lane);
+        }
+    }
+    None
+}
+
 #[test]
 fn messages_that_begin_alike_have_their_digests(rt: HostRuntime) {
     for round in 0..8 {
-        let mut first = [[0; 20]; LANES];
-        let mut values = [[0; 32]; LANES];
-        for lane in 0..LANES {
-            first[lane] = scrambled(lane, round + 200);
-            values[lane] = scrambled(lane, round);
-        }
-        let hashed = Beginning::new(&first).hash(&CHAINS, &STEPS, &in_words(&values));
-        let digests = digests(&hashed);
-        for lane in 0..LANES {
-            let mut hasher = Sha256::new();
-            hasher.update(&first[lane]);
-            hasher.update(&CHAINS[lane].to_be_bytes());
-            hasher.update(&[STEPS[lane]]);
-            hasher.update(&values[lane]);
-            assert!(rt;
-                digests[lane] == hasher.finalize(),
-                "lane {lane} of round {round}"
-            );
-        }
+        expect_none(&rt, wrong_begun(round));
     }
+}
+
+fn are_read(values: &[[u8; 32]; LANES]) -> bool {
+    digests(&in_words(values)) == *values
 }
 
 #[test]
 fn words_have_the_bytes_that_they_were_read_from(rt: HostRuntime) {
     for round in 0..8 {
-        let mut values = [[0; 32]; LANES];
-        for lane in 0..LANES {
-            values[lane] = scrambled(lane, round);
-        }
-        assert!(rt; digests(&in_words(&values)) == values, "round {round}");
+        expect(&rt, are_read(&in_lanes(round)));
     }
+}
+
+fn digest_of_two(first: &[u8], last: &[u8]) -> [u8; 32] {
+    let mut hasher = Sha256::new();
+    hasher.update(first);
+    hasher.update(last);
+    hasher.finalize()
+}
+
+// The first lane with another digest of 96 or 128 bytes.
+fn wrong_after_a_block(round: u32) -> Option<usize> {
+    let blocks = in_lanes(round);
+    let last = in_lanes(round.wrapping_add(100));
+    let first = compress(&initial(), &blocks);
+    let digests = sha256_of_96(&first, &last);
+    let longer = sha256_of_128(&first, &blocks);
+    for lane in 0..LANES {
+        if digests[lane] != digest_of_two(&blocks[lane], &last[lane])
+            || longer[lane] != digest_of_two(&blocks[lane], &blocks[lane])
+        {
+            return Some(lane);
+        }
+    }
+    None
 }
 
 #[test]
 fn messages_after_a_block_have_their_digests(rt: HostRuntime) {
     for round in 0..8 {
-        let mut blocks = [[0; 64]; LANES];
-        let mut last = [[0; 32]; LANES];
-        for lane in 0..LANES {
-            blocks[lane] = scrambled(lane, round);
-            last[lane] = scrambled(lane, round + 100);
-        }
-        let first = compress(&initial(), &blocks);
-        let digests = sha256_of_96(&first, &last);
-        let longer = sha256_of_128(&first, &blocks);
-        for lane in 0..LANES {
-            let mut hasher = Sha256::new();
-            hasher.update(&blocks[lane]);
-            hasher.update(&last[lane]);
-            assert!(rt;
-                digests[lane] == hasher.finalize(),
-                "lane {lane} of round {round}"
-            );
-            let mut hasher = Sha256::new();
-            hasher.update(&blocks[lane]);
-            hasher.update(&blocks[lane]);
-            assert!(rt;
-                longer[lane] == hasher.finalize(),
-                "lane {lane} of round {round}"
-            );
+        expect_none(&rt, wrong_after_a_block(round));
+    }
+}
+
+// The first lane with another digest of messages of this length.
+fn wrong_at(length: usize) -> Option<usize>
+    requires { length ≤ 8504 }
+{
+    let mut messages = in_lanes(length as u32);
+    let begun = messages;
+    let digests = sha256_in_lanes(&mut messages, length);
+    for lane in 0..LANES {
+        if digests[lane] != digest_of(&begun[lane], length) {
+            return Some(lane);
         }
     }
+    None
 }
 
 // 22 bytes and then 0 to 265 values of 32; a message whose padding fills the room; lengths around those where padding
@@ -98,19 +130,7 @@ fn messages_of_any_length_have_their_digests(rt: HostRuntime) {
     for length in [
         22, 54, 1110, 2166, 4278, 8502, 8504, 0, 55, 56, 63, 64, 119, 120,
     ] {
-        let mut messages = [[0; 8576]; LANES];
-        for lane in 0..LANES {
-            messages[lane] = scrambled(lane, length as u32);
-        }
-        let begun = messages;
-        assert!(rt; length <= 8504);
-        let digests = sha256_in_lanes(&mut messages, length);
-        for lane in 0..LANES {
-            assert!(rt;
-                digests[lane] == digest_of(&begun[lane], length),
-                "lane {lane} of length {length}"
-            );
-        }
+        expect_none(&rt, wrong_at(length));
     }
 }
 
@@ -123,12 +143,20 @@ fn digest_of(bytes: &[u8; 8576], length: usize) -> [u8; 32]
     hasher.finalize()
 }
 
+// The first lane in which a kept state is another.
+fn wrong_state(state: &[u32; 8]) -> Option<usize> {
+    for lane in 0..LANES {
+        if in_lane(&in_each(state), lane) != *state {
+            return Some(lane);
+        }
+    }
+    None
+}
+
 // FIPS 180-4 5.3.3 gives the initial hash value.
 #[test]
 fn a_kept_state_is_the_same_in_each_lane(rt: HostRuntime) {
     let state = in_lane(&initial(), 2);
-    assert!(rt; (state[0], state[7]) == (0x6a09e667, 0x5be0cd19));
-    for lane in 0..LANES {
-        assert!(rt; in_lane(&in_each(&state), lane) == state, "lane {lane}");
-    }
+    expect(&rt, state[0] == 0x6a09e667 && state[7] == 0x5be0cd19);
+    expect_none(&rt, wrong_state(&state));
 }

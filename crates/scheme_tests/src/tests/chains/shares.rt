@@ -2,6 +2,7 @@
 
 ghost use Rattle.std.specs.Prelude.{◌≤◌, length};
 
+use crate::tests::expecting::expect;
 use std::cell::Cell;
 use winternitz::lanes::LANES;
 use winternitz::{Step, climb_to};
@@ -63,19 +64,29 @@ const KEYS: [(usize, usize, usize, usize); 7] = [
     (9, 0, 256, 9),
 ];
 
+// A key's digits.
+fn digits_of(first: usize, more: usize, modulus: usize) -> [u8; 265] {
+    let mut digits = [0; 265];
+    for i in 0..265usize {
+        let digit = first.wrapping_add(i.wrapping_mul(more)) % modulus.max(1);
+        digits[i] = (digit % 256) as u8;
+    }
+    digits
+}
+
+// Whether at most seven of these chains are left, and none is taken twice.
+fn leaves_few(digits: &[u8; 265], count: usize) -> bool
+    requires { count ≤ 265 }
+{
+    let (left, twice) = left_by_lanes(&digits[..count]);
+    left < LANES && twice == 0
+}
+
 // Fewer steps are left than there are lanes. No contract says so, since it changes no value.
 #[test]
 fn lanes_leave_fewer_steps_than_lanes(rt: HostRuntime) {
     for (first, more, modulus, count) in KEYS {
-        let mut digits = [0; 265];
-        for i in 0..265 {
-            digits[i] = ((first + more * i) % modulus) as u8;
-        }
-        let (left, twice) = left_by_lanes(&digits[..count]);
-        assert!(rt;
-            left < LANES && twice == 0,
-            "{left} steps of {count} chains are left, {twice} taken twice"
-        );
+        expect(&rt, leaves_few(&digits_of(first, more, modulus), count));
     }
 }
 
@@ -93,7 +104,6 @@ const LONG: [[u8; 6]; 6] = [
 #[test]
 fn a_chain_climbs_in_one_lane(rt: HostRuntime) {
     for digits in LONG {
-        let (_, twice) = left_by_lanes(&digits);
-        assert!(rt; twice == 0, "{twice} steps of {digits:?} are taken twice");
+        expect(&rt, left_by_lanes(&digits).1 == 0);
     }
 }

@@ -1,5 +1,8 @@
 //! Cursors, field by field.
 
+ghost use Rattle.std.specs.Prelude.{◌≤◌};
+
+use crate::tests::expecting::{expect, expect_none};
 use typecodes::{Cause, Cursor, LmsType, OtsType, ReadFault, XmssType};
 
 // A read with its expected answer, the end's answer, or where the cursor stands.
@@ -133,20 +136,63 @@ const RUNS: &[(&[u8], u32, &[Step])] = &[
     (XMSS_FIELDS, 8, A_TYPE_OF_XMSS_THAT_IS_CUT),
 ];
 
+fn has_number(cursor: &mut Cursor<'_>, wanted: &Result<u32, ReadFault>) -> bool
+    requires { cursor.old.place ≤ 100 }
+{
+    cursor.number() == *wanted
+}
+
+fn has_block(cursor: &mut Cursor<'_>, n: u32, wanted: &Result<&[u8], ReadFault>) -> bool
+    requires { cursor.old.place ≤ 100 }
+{
+    cursor.block(n.min(100)) == *wanted
+}
+
+fn has_array<const N: usize>(cursor: &mut Cursor<'_>, wanted: &Result<&[u8; N], ReadFault>) -> bool
+    requires place { cursor.old.place ≤ 100 }
+    requires few { N ≤ 100 }
+{
+    cursor.array() == *wanted
+}
+
+fn has_values(cursor: &mut Cursor<'_>, count: u32, wanted: &Result<&[[u8; 32]], ReadFault>) -> bool
+    requires { cursor.old.place ≤ 100 }
+{
+    cursor.values(count.min(100)) == *wanted
+}
+
+fn has_ots(cursor: &mut Cursor<'_>, wanted: Result<OtsType, ReadFault>) -> bool
+    requires { cursor.old.place ≤ 100 }
+{
+    cursor.ots_type() == wanted
+}
+
+fn has_lms(cursor: &mut Cursor<'_>, wanted: Result<LmsType, ReadFault>) -> bool
+    requires { cursor.old.place ≤ 100 }
+{
+    cursor.lms_type() == wanted
+}
+
+fn has_xmss(cursor: &mut Cursor<'_>, wanted: Result<XmssType, ReadFault>) -> bool
+    requires { cursor.old.place ≤ 100 }
+{
+    cursor.xmss_type() == wanted
+}
+
 // Takes a step, and says whether its answer is the expected one.
 fn take(cursor: &mut Cursor<'_>, step: &Step) -> bool {
     if cursor.place > 100 {
         return false;
     }
     match step {
-        Step::Number(wanted) => cursor.number() == *wanted,
-        Step::Block(n, wanted) => cursor.block((*n).min(100)) == *wanted,
-        Step::Three(wanted) => cursor.array() == *wanted,
-        Step::Fifteen(wanted) => cursor.array() == *wanted,
-        Step::Values(count, wanted) => cursor.values((*count).min(100)) == *wanted,
-        Step::Ots(wanted) => cursor.ots_type() == *wanted,
-        Step::Lms(wanted) => cursor.lms_type() == *wanted,
-        Step::Xmss(wanted) => cursor.xmss_type() == *wanted,
+        Step::Number(wanted) => has_number(cursor, wanted),
+        Step::Block(n, wanted) => has_block(cursor, *n, wanted),
+        Step::Three(wanted) => has_array(cursor, wanted),
+        Step::Fifteen(wanted) => has_array(cursor, wanted),
+        Step::Values(count, wanted) => has_values(cursor, *count, wanted),
+        Step::Ots(wanted) => has_ots(cursor, *wanted),
+        Step::Lms(wanted) => has_lms(cursor, *wanted),
+        Step::Xmss(wanted) => has_xmss(cursor, *wanted),
         Step::End(wanted) => cursor.end() == *wanted,
         Step::Place(wanted) => cursor.place == *wanted,
     }
@@ -164,12 +210,25 @@ fn right_steps(bytes: &[u8], start: u32, steps: &[Step]) -> Option<usize> {
     Some(steps.len())
 }
 
+// The first run with a wrong step, or whose bytes end before its start.
+fn wrong_run() -> Option<usize> {
+    for (k, (bytes, start, steps)) in RUNS.iter().enumerate() {
+        if right_steps(bytes, *start, steps) != Some(steps.len()) {
+            return Some(k);
+        }
+    }
+    None
+}
+
 #[test]
 fn fields_are_read_in_turn(rt: HostRuntime) {
-    for (k, (bytes, start, steps)) in RUNS.iter().enumerate() {
-        let right = right_steps(bytes, *start, steps);
-        assert!(rt; right == Some(steps.len()), "run {k}: {right:?}");
-    }
+    expect_none(&rt, wrong_run());
+}
+
+// Two values from place 3 on.
+fn are_values(bytes: &[u8; 70], values: &[[u8; 32]; 2]) -> bool {
+    let mut cursor = Cursor { bytes, place: 3 };
+    cursor.values(2) == Ok(values.as_slice()) && cursor.end() == Err(TRAILING_AT_67)
 }
 
 #[test]
@@ -180,10 +239,5 @@ fn values_in_turn(rt: HostRuntime) {
     let mut bytes = [0; 70];
     bytes[3] = 7;
     bytes[66] = 8;
-    let mut cursor = Cursor {
-        bytes: &bytes,
-        place: 3,
-    };
-    assert!(rt; cursor.values(2) == Ok(values.as_slice()));
-    assert!(rt; cursor.end() == Err(TRAILING_AT_67));
+    expect(&rt, are_values(&bytes, &values));
 }

@@ -1,5 +1,6 @@
 //! The levels of HSS keys, and their number.
 
+use crate::tests::expecting::{expect, expect_none};
 use typecodes::{LevelCount, Levels, LmsPair, LmsType, OtsType};
 
 const TOP: LmsPair = LmsPair {
@@ -20,24 +21,24 @@ fn count_of(number: u8) -> u8 {
     }
 }
 
+fn wrong_count() -> Option<usize> {
+    for number in 0..=255u8 {
+        let count = if 1 <= number && number <= 8 {
+            number
+        } else {
+            0
+        };
+        if count_of(number) != count {
+            return Some(usize::from(number));
+        }
+    }
+    None
+}
+
 // RFC 8554 6.1: L is from 1 to 8.
 #[test]
 fn counts_are_1_to_8(rt: HostRuntime) {
-    for (number, count) in [
-        (0, 0),
-        (1, 1),
-        (2, 2),
-        (3, 3),
-        (4, 4),
-        (5, 5),
-        (6, 6),
-        (7, 7),
-        (8, 8),
-        (9, 0),
-        (255, 0),
-    ] {
-        assert!(rt; count_of(number) == count, "{number}");
-    }
+    expect_none(&rt, wrong_count());
 }
 
 // Whether the pairs are levels, and a copy has all of them.
@@ -57,15 +58,23 @@ fn levels_of_each_count(rt: HostRuntime) {
     let mut pairs = [BELOW; 8];
     pairs[0] = TOP;
     for count in 1..=8 {
-        assert!(rt; are_levels(&pairs[..count]), "{count}");
+        expect(&rt, are_levels(&pairs[..count]));
     }
+}
+
+fn are_none(pairs: &[LmsPair]) -> bool {
+    Levels::new(pairs).is_none()
+}
+
+fn differ(pairs: &[LmsPair], others: &[LmsPair]) -> bool {
+    Levels::new(pairs) != Levels::new(others)
 }
 
 // None and nine are refused. Count and order distinguish levels.
 #[test]
 fn other_levels(rt: HostRuntime) {
-    assert!(rt; Levels::new(&[]).is_none());
-    assert!(rt; Levels::new(&[TOP; 9]).is_none());
-    assert!(rt; Levels::new(&[TOP]) != Levels::new(&[TOP, TOP]));
-    assert!(rt; Levels::new(&[TOP, BELOW]) != Levels::new(&[BELOW, TOP]));
+    expect(&rt, are_none(&[]));
+    expect(&rt, are_none(&[TOP; 9]));
+    expect(&rt, differ(&[TOP], &[TOP, TOP]));
+    expect(&rt, differ(&[TOP, BELOW], &[BELOW, TOP]));
 }

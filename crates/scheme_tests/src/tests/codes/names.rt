@@ -1,5 +1,6 @@
 //! Names of what is signed.
 
+use crate::tests::expecting::expect;
 use typecodes::{BadName, Name};
 
 // 1 to 128 bytes, each from 0x21 to 0x7E.
@@ -30,14 +31,28 @@ fn is_name(bytes: &[u8]) -> bool {
     }
 }
 
+fn are_names(names: &[&[u8]]) -> bool {
+    for bytes in names {
+        if !is_name(bytes) {
+            return false;
+        }
+    }
+    true
+}
+
+fn is_none_named(others: &[&[u8]]) -> bool {
+    for bytes in others {
+        if Name::new(bytes) != Err(BadName) {
+            return false;
+        }
+    }
+    true
+}
+
 #[test]
 fn takes_visible_ascii_and_nothing_else(rt: HostRuntime) {
-    for (k, bytes) in NAMES.iter().enumerate() {
-        assert!(rt; is_name(bytes), "name {k}");
-    }
-    for (k, bytes) in OTHER_BYTES.iter().enumerate() {
-        assert!(rt; Name::new(bytes) == Err(BadName), "bytes {k}");
-    }
+    expect(&rt, are_names(&NAMES));
+    expect(&rt, is_none_named(&OTHER_BYTES));
 }
 
 fn are_equal(name: &[u8], other: &[u8]) -> Result<bool, BadName> {
@@ -46,12 +61,8 @@ fn are_equal(name: &[u8], other: &[u8]) -> Result<bool, BadName> {
 
 #[test]
 fn compares_by_bytes(rt: HostRuntime) {
-    for (other, equal) in [
-        (b"release-1".as_slice(), true),
-        (b"release-2", false),
-        (b"release-12", false),
-        (b"Release-1", false),
-    ] {
-        assert!(rt; are_equal(b"release-1", other) == Ok(equal));
-    }
+    expect(&rt, are_equal(b"release-1", b"release-1") == Ok(true));
+    expect(&rt, are_equal(b"release-1", b"release-2") == Ok(false));
+    expect(&rt, are_equal(b"release-1", b"release-12") == Ok(false));
+    expect(&rt, are_equal(b"release-1", b"Release-1") == Ok(false));
 }

@@ -1,5 +1,6 @@
 //! Reading of messages, by readers that follow a plan.
 
+use crate::tests::expecting::expect;
 use std::io;
 use std::io::{ErrorKind, Read};
 use typecodes::{Message, PIECE, PieceTaker, ReadError, read_full, read_to_end};
@@ -45,15 +46,15 @@ impl Read for Planned<'_> {
     }
 }
 
-// Fills five bytes: how many came or which error; the buffer; how much of the plan is left.
-fn filled_by(plan: &[Step]) -> (Result<usize, ErrorKind>, [u8; 5], usize) {
+// Whether filling five bytes has this answer, buffer and rest of the plan.
+fn is_filled(plan: &[Step], wanted: Result<usize, ErrorKind>, bytes: [u8; 5], left: usize) -> bool {
     let mut message = Planned { plan, given: 0 };
     let mut buffer = [0; 5];
     let answer = match read_full(&mut message, &mut buffer) {
         Ok(n) => Ok(n),
         Err(error) => Err(error.kind()),
     };
-    (answer, buffer, message.plan.len())
+    answer == wanted && buffer == bytes && message.plan.len() == left
 }
 
 // Reading goes on after a part, and stops once the buffer is full. The number that a read answers counts, even where it
@@ -88,7 +89,7 @@ fn reads_go_on_until_a_failure(rt: HostRuntime) {
             0,
         ),
     ] {
-        assert!(rt; filled_by(plan) == (answer, buffer, left));
+        expect(&rt, is_filled(plan, answer, buffer, left));
     }
 }
 
@@ -179,7 +180,7 @@ fn messages_are_read_to_their_end(rt: HostRuntime) {
         (&[Claimed(PIECE), Part(1)], 1, End::Refused(1), 1, PIECE),
         (&[], 0, End::Refused(0), 0, 0),
     ] {
-        assert!(rt; read_by(plan, most) == (end, pieces, bytes));
+        expect(&rt, read_by(plan, most) == (end, pieces, bytes));
     }
 }
 

@@ -1,25 +1,25 @@
 //! Refusals and their numbers.
 
+use crate::tests::expecting::expect;
 use typecodes::{Cause, ReadFault, Refusal};
+
+fn unreadable(cause: Cause) -> u8 {
+    Refusal::Unreadable(ReadFault { place: 8, cause }).number()
+}
+
+fn have_numbers() -> bool {
+    unreadable(Cause::Truncated) == 1
+        && unreadable(Cause::UnknownType) == 2
+        && unreadable(Cause::LevelCount) == 3
+        && unreadable(Cause::LeafOutOfRange) == 4
+        && unreadable(Cause::Trailing) == 5
+        && Refusal::TypeMismatch(0).number() == 10
+        && Refusal::LevelMismatch.number() == 11
+        && Refusal::RootMismatch(0).number() == 12
+        && Refusal::MessageRead.number() == 14
+}
 
 #[test]
 fn refusals_have_numbers(rt: HostRuntime) {
-    for (cause, number) in [
-        (Cause::Truncated, 1),
-        (Cause::UnknownType, 2),
-        (Cause::LevelCount, 3),
-        (Cause::LeafOutOfRange, 4),
-        (Cause::Trailing, 5),
-    ] {
-        let unreadable = Refusal::Unreadable(ReadFault { place: 8, cause });
-        assert!(rt; unreadable.number() == number, "{number}");
-    }
-    for (refusal, number) in [
-        (Refusal::TypeMismatch(0), 10),
-        (Refusal::LevelMismatch, 11),
-        (Refusal::RootMismatch(0), 12),
-        (Refusal::MessageRead, 14),
-    ] {
-        assert!(rt; refusal.number() == number, "{number}");
-    }
+    expect(&rt, have_numbers());
 }

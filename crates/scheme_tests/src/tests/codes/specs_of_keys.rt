@@ -1,5 +1,6 @@
 //! The specs of keys.
 
+use crate::tests::expecting::expect;
 use typecodes::{BadSpec, LmsPair, LmsType, OtsType, Spec, XmssType};
 
 // What a text is read as.
@@ -90,14 +91,19 @@ fn is_read(text: &str, wanted: &Read) -> bool {
     }
 }
 
+fn are_read(texts: &[(&str, Read)]) -> bool {
+    for (text, wanted) in texts {
+        if !is_read(text, wanted) {
+            return false;
+        }
+    }
+    true
+}
+
 #[test]
 fn parses_each_form(rt: HostRuntime) {
-    for (text, wanted) in TEXTS {
-        assert!(rt; is_read(text, wanted), "{text}");
-    }
-    for (text, wanted) in TEXTS_OF_LEVELS {
-        assert!(rt; is_read(text, wanted), "{text}");
-    }
+    expect(&rt, are_read(TEXTS));
+    expect(&rt, are_read(TEXTS_OF_LEVELS));
 }
 
 const OTHER_TEXTS: [&str; 22] = [
@@ -164,12 +170,19 @@ const OTHER_HEIGHTS: [&str; 14] = [
     "Xmss:10",
 ];
 
-// None of these texts is a spec.
-#[test]
-fn refuses_other_texts(rt: HostRuntime) {
-    for texts in [OTHER_TEXTS.as_slice(), &OTHER_LEVELS, &OTHER_HEIGHTS] {
-        for text in texts {
-            assert!(rt; Spec::parse(text) == Err(BadSpec), "{text}");
+// Whether none of these texts is a spec.
+fn are_refused(texts: &[&str]) -> bool {
+    for text in texts {
+        if Spec::parse(text) != Err(BadSpec) {
+            return false;
         }
     }
+    true
+}
+
+#[test]
+fn refuses_other_texts(rt: HostRuntime) {
+    expect(&rt, are_refused(&OTHER_TEXTS));
+    expect(&rt, are_refused(&OTHER_LEVELS));
+    expect(&rt, are_refused(&OTHER_HEIGHTS));
 }

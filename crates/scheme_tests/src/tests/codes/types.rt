@@ -1,45 +1,48 @@
 //! The tables of types.
 
+use crate::tests::expecting::expect;
 use typecodes::{LmsPair, LmsType, OtsType, XmssType};
+
+fn is_one_time(ots: OtsType, code: u32, width: u8, chains: u16, len: u32) -> bool {
+    ots.code() == code
+        && ots.width() == width
+        && ots.chains() == chains
+        && ots.signature_len() == len
+}
 
 // RFC 8554 4.1, table 1.
 #[test]
 fn one_time_types(rt: HostRuntime) {
-    for (ots, code, width, chains, len) in [
-        (OtsType::W1, 1, 1, 265, 8516),
-        (OtsType::W2, 2, 2, 133, 4292),
-        (OtsType::W4, 3, 4, 67, 2180),
-        (OtsType::W8, 4, 8, 34, 1124),
-    ] {
-        assert!(rt; (ots.code(), ots.width(), ots.chains()) == (code, width, chains));
-        assert!(rt; ots.signature_len() == len, "code {code}");
-    }
+    expect(&rt, is_one_time(OtsType::W1, 1, 1, 265, 8516));
+    expect(&rt, is_one_time(OtsType::W2, 2, 2, 133, 4292));
+    expect(&rt, is_one_time(OtsType::W4, 3, 4, 67, 2180));
+    expect(&rt, is_one_time(OtsType::W8, 4, 8, 34, 1124));
+}
+
+fn is_tree(tree: LmsType, code: u32, height: u8) -> bool {
+    tree.code() == code && tree.height() == height
 }
 
 // RFC 8554 5.1, table 2.
 #[test]
 fn tree_types(rt: HostRuntime) {
-    for (tree, code, height) in [
-        (LmsType::H5, 5, 5),
-        (LmsType::H10, 6, 10),
-        (LmsType::H15, 7, 15),
-        (LmsType::H20, 8, 20),
-        (LmsType::H25, 9, 25),
-    ] {
-        assert!(rt; (tree.code(), tree.height()) == (code, height));
-    }
+    expect(&rt, is_tree(LmsType::H5, 5, 5));
+    expect(&rt, is_tree(LmsType::H10, 6, 10));
+    expect(&rt, is_tree(LmsType::H15, 7, 15));
+    expect(&rt, is_tree(LmsType::H20, 8, 20));
+    expect(&rt, is_tree(LmsType::H25, 9, 25));
+}
+
+fn is_xmss(xmss: XmssType, code: u32, height: u8, len: u32) -> bool {
+    xmss.code() == code && xmss.height() == height && xmss.signature_len() == len
 }
 
 // Codes of the standard's XDR formats, lengths of signatures by RFC 8391 4.1.8.
 #[test]
 fn xmss_types(rt: HostRuntime) {
-    for (xmss, code, height, len) in [
-        (XmssType::H10, 1, 10, 2500),
-        (XmssType::H16, 2, 16, 2692),
-        (XmssType::H20, 3, 20, 2820),
-    ] {
-        assert!(rt; (xmss.code(), xmss.height(), xmss.signature_len()) == (code, height, len));
-    }
+    expect(&rt, is_xmss(XmssType::H10, 1, 10, 2500));
+    expect(&rt, is_xmss(XmssType::H16, 2, 16, 2692));
+    expect(&rt, is_xmss(XmssType::H20, 3, 20, 2820));
 }
 
 // A code in each of the three tables.
@@ -59,23 +62,32 @@ const CODES: [(u32, Option<OtsType>, Option<LmsType>, Option<XmssType>); 13] = [
     (0x0500_0000, None, None, None),
 ];
 
+fn are_of_code(
+    code: u32,
+    ots: Option<OtsType>,
+    tree: Option<LmsType>,
+    xmss: Option<XmssType>,
+) -> bool {
+    OtsType::from_code(code) == ots
+        && LmsType::from_code(code) == tree
+        && XmssType::from_code(code) == xmss
+}
+
 #[test]
 fn types_by_code(rt: HostRuntime) {
     for (code, ots, tree, xmss) in CODES {
-        assert!(rt; OtsType::from_code(code) == ots, "code {code}");
-        assert!(rt; LmsType::from_code(code) == tree, "code {code}");
-        assert!(rt; XmssType::from_code(code) == xmss, "code {code}");
+        expect(&rt, are_of_code(code, ots, tree, xmss));
     }
+}
+
+fn len_of(tree: LmsType, ots: OtsType) -> u32 {
+    LmsPair { tree, ots }.signature_len()
 }
 
 // The lengths of whole signatures (RFC 8554 5.4).
 #[test]
 fn signature_lengths(rt: HostRuntime) {
-    for (tree, ots, len) in [
-        (LmsType::H5, OtsType::W8, 1292),
-        (LmsType::H10, OtsType::W4, 2508),
-        (LmsType::H25, OtsType::W1, 9324),
-    ] {
-        assert!(rt; LmsPair { tree, ots }.signature_len() == len);
-    }
+    expect(&rt, len_of(LmsType::H5, OtsType::W8) == 1292);
+    expect(&rt, len_of(LmsType::H10, OtsType::W4) == 2508);
+    expect(&rt, len_of(LmsType::H25, OtsType::W1) == 9324);
 }

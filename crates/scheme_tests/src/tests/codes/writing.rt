@@ -1,5 +1,6 @@
 //! Writing of bytes, by writers that follow a plan.
 
+use crate::tests::expecting::expect;
 use arrayvec::ArrayVec;
 use std::io;
 use std::io::{ErrorKind, Write};
@@ -48,8 +49,9 @@ impl Write for Planned<'_> {
     }
 }
 
-// Writes five bytes: the answer; how many were taken; whether these are the first ones; how much of the plan is left.
-fn written_by(plan: &[Step]) -> (Result<(), ErrorKind>, usize, bool, usize) {
+// Whether writing five bytes has this answer, takes this number of them, the first ones, and leaves this part of the
+// plan.
+fn is_written(plan: &[Step], wanted: Result<(), ErrorKind>, taken: usize, left: usize) -> bool {
     let mut sink = Planned {
         plan,
         taken: ArrayVec::new(),
@@ -58,13 +60,10 @@ fn written_by(plan: &[Step]) -> (Result<(), ErrorKind>, usize, bool, usize) {
         Ok(()) => Ok(()),
         Err(error) => Err(error.kind()),
     };
-    let taken = sink.taken.as_slice();
-    (
-        answer,
-        taken.len(),
-        b"abcde".starts_with(taken),
-        sink.plan.len(),
-    )
+    answer == wanted
+        && sink.taken.len() == taken
+        && b"abcde".starts_with(sink.taken.as_slice())
+        && sink.plan.len() == left
 }
 
 #[test]
@@ -89,7 +88,7 @@ fn writes_go_on_until_a_failure(rt: HostRuntime) {
         ),
         (&[Part(4), Fails], Err(ErrorKind::BrokenPipe), 4, 0),
     ] {
-        assert!(rt; written_by(plan) == (answer, taken, true, left));
+        expect(&rt, is_written(plan, answer, taken, left));
     }
 }
 

@@ -1,11 +1,13 @@
 //! Keys and signatures of leaf 3 by Python's hashlib and by Bouncy Castle, made again byte for byte. The roots of the
 //! standard's own trees.
 
+ghost use Rattle.std.specs.Prelude.{◌≡◌};
+
+use crate::tests::expecting::expect;
 use lmots::LmOts;
 use lms::{LmsPublic, LmsTree, verify, write_public, write_signature};
 use merkle::{TreeHash, root_from_path};
 use sha2::{Digest, Sha256};
-use std::process::Abort;
 use typecodes::{LmsPair, LmsSecret, LmsType, OtsType};
 
 const PAIR: LmsPair = LmsPair {
@@ -13,20 +15,20 @@ const PAIR: LmsPair = LmsPair {
     ots: OtsType::W8,
 };
 
-// A secret's key and its leaf 3's signature have these digests, and verify. All leaves give the key's root.
-fn assert_made(
-    rt: &impl Abort,
-    secret: &LmsSecret,
-    randomizer: &[u8; 32],
-    message: &[u8],
-    expected: [[u8; 32]; 2],
-) {
-    let secret = LmsSecret {
+// With the pair of types that it has, for the contracts.
+fn copied(secret: &LmsSecret) -> LmsSecret
+    ensures { result.pair ≡ PAIR }
+{
+    LmsSecret {
         pair: PAIR,
         identifier: secret.identifier,
         seed: secret.seed,
-    };
-    let mut tree = LmsTree::new(secret);
+    }
+}
+
+// The key, its root by leaf 3 and its path; and the path.
+fn made_key(secret: &LmsSecret) -> (LmsPublic, [[u8; 32]; 5]) {
+    let mut tree = LmsTree::new(copied(secret));
     let mut path = [[0; 32]; 5];
     merkle::path(&mut tree, 5, 3, &mut path);
     let leaf = tree.leaf(3);
@@ -35,22 +37,60 @@ fn assert_made(
         identifier: secret.identifier,
         root: root_from_path(&tree, 3, &leaf, &path),
     };
-    assert!(rt; merkle::root(&mut tree, 5) == key.root);
-    let mut public = [0; 56];
-    write_public(&key, &mut public);
-    assert!(rt; Sha256::digest(public.as_slice()) == expected[0]);
+    (key, path)
+}
 
+fn made_signature(
+    secret: &LmsSecret,
+    randomizer: &[u8; 32],
+    message: &[u8],
+    path: &[[u8; 32]; 5],
+) -> [u8; 1292] {
     let one_time = LmOts {
         identifier: secret.identifier,
         leaf: 3,
     };
     let digest = one_time.message_digest(randomizer, message);
     let mut signature = [0; 1292];
-    write_signature(&secret, 3, randomizer, &digest, &path, &mut signature);
-    assert!(rt; Sha256::digest(signature.as_slice()) == expected[1]);
+    write_signature(
+        &copied(secret),
+        3,
+        randomizer,
+        &digest,
+        path,
+        &mut signature,
+    );
+    signature
+}
 
-    let mut rest = message;
-    assert!(rt; verify(&key, &mut rest, &signature) == Ok(()));
+// All leaves give the key's root.
+fn has_root(secret: &LmsSecret, root: &[u8; 32]) -> bool {
+    merkle::root(&mut LmsTree::new(copied(secret)), 5) == *root
+}
+
+fn is_written(key: &LmsPublic, digest: &[u8; 32]) -> bool {
+    let mut public = [0; 56];
+    write_public(key, &mut public);
+    Sha256::digest(public.as_slice()) == *digest
+}
+
+fn is_verified(key: &LmsPublic, mut message: &[u8], signature: &[u8]) -> bool {
+    verify(key, &mut message, signature) == Ok(())
+}
+
+// Whether a secret's key and its leaf 3's signature have these digests, and verify.
+fn is_made(
+    secret: &LmsSecret,
+    randomizer: &[u8; 32],
+    message: &[u8],
+    (public, expected): (&[u8; 32], &[u8; 32]),
+) -> bool {
+    let (key, path) = made_key(secret);
+    let signature = made_signature(secret, randomizer, message, &path);
+    has_root(secret, &key.root)
+        && is_written(&key, public)
+        && Sha256::digest(signature.as_slice()) == *expected
+        && is_verified(&key, message, &signature)
 }
 
 #[test]
@@ -82,7 +122,8 @@ fn rising_bytes(rt: HostRuntime) {
         0xac, 0xc2, 0x3c, 0xdd, 0xf7, 0x7e, 0x68, 0xa1, 0xd0, 0xc9, 0x2c, 0x77, 0xc0, 0xab, 0x1e,
         0x3e, 0x35,
     ];
-    assert_made(&rt, &secret, &randomizer, b"abc", [public, signature]);
+    let digests = (&public, &signature);
+    expect(&rt, is_made(&secret, &randomizer, b"abc", digests));
 }
 
 #[test]
@@ -119,7 +160,8 @@ fn key_of_bouncy_castle(rt: HostRuntime) {
         0x9c, 0x3e, 0x0b, 0x36, 0x46, 0xbb, 0xdc, 0xa3, 0xa3, 0x6c, 0xbe, 0xe9, 0xc5, 0x17, 0x12,
         0x1f, 0x8e,
     ];
-    assert_made(&rt, &secret, &randomizer, &message, [public, signature]);
+    let digests = (&public, &signature);
+    expect(&rt, is_made(&secret, &randomizer, &message, digests));
 }
 
 // The trees of RFC 8554, Appendix F, test case 2: the pair of types, I, SEED and the root.
@@ -166,14 +208,19 @@ const TREES: [(LmsPair, [u8; 16], [u8; 32], [u8; 32]); 2] = [
     ),
 ];
 
+// The root by all leaves.
+fn root_of(pair: LmsPair, identifier: &[u8; 16], seed: &[u8; 32]) -> [u8; 32] {
+    let secret = LmsSecret {
+        pair,
+        identifier: *identifier,
+        seed: *seed,
+    };
+    merkle::root(&mut LmsTree::new(secret), pair.tree.height())
+}
+
 #[test]
 fn the_roots_of_the_standard_are_made(rt: HostRuntime) {
     for (pair, identifier, seed, root) in &TREES {
-        let secret = LmsSecret {
-            pair: *pair,
-            identifier: *identifier,
-            seed: *seed,
-        };
-        assert!(rt; merkle::root(&mut LmsTree::new(secret), pair.tree.height()) == *root);
+        expect(&rt, root_of(*pair, identifier, seed) == *root);
     }
 }

@@ -1,11 +1,11 @@
 //! Caches of a tree whose values can be worked out by hand, and how many leaves their paths make.
 
-ghost use Rattle.std.specs.Prelude.{◌≡◌, ◌≤◌, ◌<◌, ◌^◌, IfOk, length};
+ghost use Rattle.std.specs.Prelude.{◌≡◌, ◌≤◌, ◌<◌, ◌^◌, IfOk};
 
 use super::sums::{Sums, Tally, is_path, leads_to, worked_out};
+use crate::tests::expecting::expect;
 use merkle::{OutOfMemory, PathCache};
 use std::alloc::Global;
-use std::test::Fail;
 
 // A cache of a tree of this height, whose leaves are counted.
 #[derive(Drop)]
@@ -44,35 +44,72 @@ impl<'a> Counted<'a> {
         })
     }
 
-    // How many leaves q's path makes, if cache and tree count alike and the path leads to the root.
-    fn growth(&mut self, q: u32, into: &mut [[u8; 32]]) -> Option<u64> {
+    // How many leaves q's path makes, if cache and tree count alike, and the path leads to the root. Up to height 10 it
+    // is also the one that was worked out.
+    fn growth(&mut self, q: u32) -> Option<u64> {
         let height = self.height;
-        if height > 25 || into.len() != usize::from(height) || q >= 2u32.pow(u32::from(height)) {
+        if height > 25 || q >= 2u32.pow(u32::from(height)) {
             return None;
         }
+        let mut nodes = [[0; 32]; 25];
+        let nodes = &mut nodes[..usize::from(height)];
         let (made, counted) = (self.tally.made.get(), self.cache.leaves_made());
-        self.cache.path_at(q, into);
-        let made = self.tally.made.get().checked_sub(made)?;
-        let counted = self.cache.leaves_made().checked_sub(counted)?;
-        if counted == u64::from(made) && leads_to(q, into, &self.cache.root()) {
+        self.cache.path_at(q, nodes);
+        let made = self.tally.made.get().wrapping_sub(made);
+        let counted = self.cache.leaves_made().wrapping_sub(counted);
+        let is_right = counted == u64::from(made) && leads_to(q, nodes, &self.cache.root());
+        if is_right && (height > 10 || is_path(nodes, q)) {
             Some(counted)
         } else {
             None
         }
     }
+
+    // How many leaves were made, if cache and tree count alike.
+    fn made(&self) -> Option<u64> {
+        let made = u64::from(self.tally.made.get());
+        if made == self.cache.leaves_made() {
+            Some(made)
+        } else {
+            None
+        }
+    }
+
+    fn has_root(&self) -> bool {
+        self.cache.root() == worked_out(self.height, 0)
+    }
+
+    // Whether paths in turn make this number of leaves.
+    fn takes(&mut self, steps: &[(u32, u64)]) -> bool {
+        for (q, wanted) in steps {
+            if self.growth(*q) != Some(*wanted) {
+                return false;
+            }
+        }
+        true
+    }
+}
+
+// Whether each path in order makes its block of four leaves, unless the cache has it.
+fn are_in_order(counted: &mut Counted<'_>) -> bool {
+    for q in 0..32 {
+        let wanted = if q != 0 && q % 4 == 0 { 4 } else { 0 };
+        if counted.growth(q) != Some(wanted) {
+            return false;
+        }
+    }
+    counted.made() == Some(32 + 28)
+}
+
+fn gives_in_order(alloc: Global) -> Result<bool, OutOfMemory> {
+    let tally = Tally::new();
+    let mut counted = Counted::new(alloc, &tally, 5)?;
+    Ok(are_in_order(&mut counted))
 }
 
 #[test]
-fn paths_in_order_make_each_other_block_once(rt: HostRuntime) -> Result<(), Fail> {
-    let tally = Tally::new();
-    let mut cache = Counted::new(rt.alloc(), &tally, 5)?;
-    let mut nodes = [[0; 32]; 5];
-    for q in 0..32 {
-        let wanted = if q != 0 && q % 4 == 0 { 4 } else { 0 };
-        assert!(rt; cache.growth(q, &mut nodes) == Some(wanted), "at {q}");
-    }
-    assert!(rt; cache.cache.leaves_made() == 32 + 28);
-    Ok(())
+fn paths_in_order_make_each_other_block_once(rt: HostRuntime) {
+    expect(&rt, gives_in_order(rt.alloc()) == Ok(true));
 }
 
 // A tree's height, and leaves in turn, each with how many leaves its path makes. Two blocks take turns; then there is
@@ -83,32 +120,21 @@ const IN_TURN: [(u8, &[(u32, u64)]); 3] = [
     (0, &[(0, 0)]),
 ];
 
-// Whether paths in turn are right, and make this many leaves.
+// Whether a cache's paths in turn are right, and make this many leaves.
 fn gives_in_turn(alloc: Global, height: u8, steps: &[(u32, u64)]) -> Result<bool, OutOfMemory> {
     if height > 5 {
         return Ok(false);
     }
     let tally = Tally::new();
     let mut counted = Counted::new(alloc, &tally, height)?;
-    let mut nodes = [[0; 32]; 5];
-    let nodes = &mut nodes[..usize::from(height)];
-    for (q, wanted) in steps {
-        if counted.growth(*q, nodes) != Some(*wanted) || !is_path(nodes, *q) {
-            return Ok(false);
-        }
-    }
-    Ok(true)
+    Ok(counted.takes(steps))
 }
 
 #[test]
-fn another_block_is_made_each_time(rt: HostRuntime) -> Result<(), Fail> {
+fn another_block_is_made_each_time(rt: HostRuntime) {
     for (height, steps) in IN_TURN {
-        assert!(rt;
-            gives_in_turn(rt.alloc(), height, steps)?,
-            "at height {height}"
-        );
+        expect(&rt, gives_in_turn(rt.alloc(), height, steps) == Ok(true));
     }
-    Ok(())
 }
 
 // A tree's height, and the leaves of a block.
@@ -123,36 +149,32 @@ const SIZES: [(u8, u32); 8] = [
     (25, 4096),
 ];
 
-// Whether a cache of this height makes each leaf once, and then a block's leaves for a path.
+// Whether a cache makes each leaf once, and then a block's leaves for a path.
+fn has_blocks(counted: &mut Counted<'_>, leaves: u32, block: u32) -> bool {
+    let made = u64::from(block);
+    let made_last = if leaves / 2 == block { 0 } else { made };
+    counted.made() == Some(u64::from(leaves))
+        && counted.growth(0) == Some(0)
+        && counted.growth(block.saturating_sub(1)) == Some(0)
+        && counted.growth(block) == Some(made)
+        && counted.growth(leaves.saturating_sub(1)) == Some(made_last)
+        && counted.growth(leaves.saturating_sub(block)) == Some(0)
+}
+
 fn has_size(alloc: Global, height: u8, block: u32) -> Result<bool, OutOfMemory> {
     if height > 25 {
         return Ok(false);
     }
-    let leaves = 2u32.pow(u32::from(height));
     let tally = Tally::new();
     let mut counted = Counted::new(alloc, &tally, height)?;
-    let mut nodes = [[0; 32]; 25];
-    let nodes = &mut nodes[..usize::from(height)];
-    let made = u64::from(block);
-    let last = leaves.saturating_sub(1);
-    let made_last = if leaves / 2 == block { 0 } else { made };
-    Ok(
-        counted.cache.leaves_made() == u64::from(leaves)
-            && tally.made.get() == leaves
-            && counted.growth(0, nodes) == Some(0)
-            && counted.growth(block.saturating_sub(1), nodes) == Some(0)
-            && counted.growth(block, nodes) == Some(made)
-            && counted.growth(last, nodes) == Some(made_last)
-            && counted.growth(leaves.saturating_sub(block), nodes) == Some(0),
-    )
+    Ok(has_blocks(&mut counted, 2u32.pow(u32::from(height)), block))
 }
 
 #[test]
-fn caches_have_their_sizes(rt: HostRuntime) -> Result<(), Fail> {
+fn caches_have_their_sizes(rt: HostRuntime) {
     for (height, block) in SIZES {
-        assert!(rt; has_size(rt.alloc(), height, block)?, "at height {height}");
+        expect(&rt, has_size(rt.alloc(), height, block) == Ok(true));
     }
-    Ok(())
 }
 
 // A tree's height, the leaf that a cache is made for, and another leaf, in another block if there is one. Last, how
@@ -183,35 +205,23 @@ fn begins_with_block(
     other: u32,
     made: u64,
 ) -> Result<bool, OutOfMemory> {
-    if height > 10 {
-        return Ok(false);
-    }
-    let leaves = 2u32.pow(u32::from(height));
-    if q >= leaves {
+    if height > 10 || q >= 2u32.pow(u32::from(height)) {
         return Ok(false);
     }
     let tally = Tally::new();
     let mut counted = Counted::for_leaf(alloc, &tally, height, q)?;
-    let once = tally.made.get() == leaves && counted.cache.leaves_made() == u64::from(leaves);
-    let mut nodes = [[0; 32]; 10];
-    let nodes = &mut nodes[..usize::from(height)];
-    Ok(
-        once && counted.cache.root() == worked_out(height, 0)
-            && counted.growth(q, nodes) == Some(0)
-            && is_path(nodes, q)
-            && counted.growth(other, nodes) == Some(made),
-    )
+    let once = counted.made() == Some(u64::from(2u32.pow(u32::from(height))));
+    Ok(once && counted.has_root() && counted.takes(&[(q, 0), (other, made)]))
 }
 
 #[test]
-fn caches_begin_with_the_block_of_a_leaf(rt: HostRuntime) -> Result<(), Fail> {
+fn caches_begin_with_the_block_of_a_leaf(rt: HostRuntime) {
     for (height, q, other, made) in LEAVES {
-        assert!(rt;
-            begins_with_block(rt.alloc(), height, q, other, made)?,
-            "at height {height}, leaf {q}"
+        expect(
+            &rt,
+            begins_with_block(rt.alloc(), height, q, other, made) == Ok(true),
         );
     }
-    Ok(())
 }
 
 // A tree's height; leaves made after the paths of all leaves in turn; how often in lanes, when the cache was new and by
@@ -227,6 +237,16 @@ const TOGETHER: [(u8, u32, u32, u32); 8] = [
     (7, 248, 16, 31),
 ];
 
+// Whether a cache gives the paths of all leaves in turn.
+fn gives_each(counted: &mut Counted<'_>, count: u32) -> bool {
+    for q in 0..count {
+        if counted.growth(q).is_none() {
+            return false;
+        }
+    }
+    true
+}
+
 // Whether a cache gives the root and the paths of all leaves in turn, from this many leaves, made in lanes this often.
 fn gives_all(
     alloc: Global,
@@ -240,26 +260,17 @@ fn gives_all(
     }
     let tally = Tally::new();
     let mut counted = Counted::new(alloc, &tally, height)?;
-    if counted.cache.root() != worked_out(height, 0) || tally.together.get() != new {
-        return Ok(false);
-    }
-    let mut nodes = [[0; 32]; 7];
-    let nodes = &mut nodes[..usize::from(height)];
-    for q in 0..2u32.pow(u32::from(height)) {
-        if counted.growth(q, nodes).is_none() || !is_path(nodes, q) {
-            return Ok(false);
-        }
-    }
-    Ok(tally.get() == (leaves, together))
+    let is_new = counted.has_root() && tally.together.get() == new;
+    let gives = gives_each(&mut counted, 2u32.pow(u32::from(height)));
+    Ok(is_new && gives && tally.get() == (leaves, together))
 }
 
 #[test]
-fn blocks_are_made_in_lanes(rt: HostRuntime) -> Result<(), Fail> {
+fn blocks_are_made_in_lanes(rt: HostRuntime) {
     for (height, leaves, new, together) in TOGETHER {
-        assert!(rt;
-            gives_all(rt.alloc(), height, leaves, new, together)?,
-            "at height {height}"
+        expect(
+            &rt,
+            gives_all(rt.alloc(), height, leaves, new, together) == Ok(true),
         );
     }
-    Ok(())
 }

@@ -2,6 +2,7 @@
 //! turn: there are two, both in `new`.
 
 use super::sums::{Sums, Tally};
+use crate::tests::expecting::expect;
 use merkle::{OutOfMemory, PathCache};
 use std::alloc::Global;
 
@@ -10,31 +11,41 @@ use std::alloc::Global;
 fn made(alloc: Global) -> Result<(u64, [u8; 3]), OutOfMemory> {
     let tally = Tally::new();
     let mut cache = PathCache::new(alloc, Sums::new(&tally), 5)?;
-    let mut nodes = [[0; 32]; 5];
-    cache.path_at(31, &mut nodes);
-    let root = cache.root();
-    Ok((cache.leaves_made(), [root[0], root[1], root[2]]))
+    cache.path_at(31, &mut [[0; 32]; 5]);
+    Ok((cache.leaves_made(), beginning(&cache.root())))
+}
+
+fn beginning(root: &[u8; 32]) -> [u8; 3] {
+    [root[0], root[1], root[2]]
 }
 
 // The root's first byte is the sum of 1 to 32, modulo 256. It is the only join of nodes of height 4.
 const MADE: Result<(u64, [u8; 3]), OutOfMemory> = Ok((36, [16, 4, 0]));
 
-#[test]
-fn a_cache_is_made_at_last(rt: HostRuntime) {
-    let made = match made(rt.alloc()) {
-        Err(OutOfMemory) => made(rt.alloc()),
+fn made_at_last(alloc: Global) -> bool {
+    let made = match made(alloc) {
+        Err(OutOfMemory) => made(alloc),
         made => made,
     };
-    assert!(rt; made == MADE);
+    made == MADE
+}
+
+#[test]
+fn a_cache_is_made_at_last(rt: HostRuntime) {
+    expect(&rt, made_at_last(rt.alloc()));
 }
 
 // This fails where memory is refused in `new`, and only there.
 #[test]
 fn a_cache_is_made_at_first(rt: HostRuntime) {
-    assert!(rt; made(rt.alloc()) == MADE);
+    expect(&rt, made(rt.alloc()) == MADE);
+}
+
+fn is_printed(alloc: Global) -> bool {
+    format!(in alloc; "{OutOfMemory}").as_deref() == Ok("out of memory")
 }
 
 #[test]
 fn a_refusal_is_printed(rt: HostRuntime) {
-    assert!(rt; format!(in rt.alloc(); "{OutOfMemory}").as_deref() == Ok("out of memory"));
+    expect(&rt, is_printed(rt.alloc()));
 }

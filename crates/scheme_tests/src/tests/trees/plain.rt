@@ -3,6 +3,7 @@
 ghost use Rattle.std.specs.Prelude.{◌%◌, replicate, slice_set};
 
 use super::sums::{Sums, Tally, is_path, leads_to, node, worked_out};
+use crate::tests::expecting::expect;
 use merkle::{NodeHash, TreeHash, path, root};
 use typecodes::Count;
 use winternitz::lanes::LANES;
@@ -50,12 +51,9 @@ fn is_path_of(height: u8, q: u32, together: u32) -> bool {
 #[test]
 fn leaves_are_made_in_lanes(rt: HostRuntime) {
     for (height, leaves, in_root, in_path) in TOGETHER {
-        assert!(rt; is_root(height, leaves, in_root), "at height {height}");
+        expect(&rt, is_root(height, leaves, in_root));
         for q in 0..leaves {
-            assert!(rt;
-                is_path_of(height, q, in_path),
-                "at height {height}, leaf {q}"
-            );
+            expect(&rt, is_path_of(height, q, in_path));
         }
     }
 }
@@ -87,15 +85,24 @@ impl TreeHash for OneByOne {
     }
 }
 
+// Leaves 16 to 23.
+fn leaves_from_16() -> [[u8; 32]; LANES] {
+    let mut leaves = [[0; 32]; LANES];
+    for lane in 0..LANES {
+        leaves[lane] = node((16 + lane % 8) as u8, 0, 0);
+    }
+    leaves
+}
+
+fn gives_one_by_one(tree: &mut OneByOne) -> bool {
+    let mut nodes = [[0; 32]; 4];
+    path(tree, 4, 2, &mut nodes);
+    nodes == [node(3, 0, 0), node(0, 0, 0), node(4, 0, 0), node(8, 0, 0)]
+}
+
 #[test]
 fn leaves_of_lanes_one_by_one(rt: HostRuntime) {
     let mut tree = OneByOne { made: Count::new() };
-    let mut wanted = [[0; 32]; LANES];
-    for lane in 0..LANES {
-        wanted[lane] = node((16 + lane % 8) as u8, 0, 0);
-    }
-    assert!(rt; tree.leaves_in_lanes(16) == wanted);
-    let mut nodes = [[0; 32]; 4];
-    path(&mut tree, 4, 2, &mut nodes);
-    assert!(rt; nodes == [node(3, 0, 0), node(0, 0, 0), node(4, 0, 0), node(8, 0, 0)]);
+    expect(&rt, tree.leaves_in_lanes(16) == leaves_from_16());
+    expect(&rt, gives_one_by_one(&mut tree));
 }

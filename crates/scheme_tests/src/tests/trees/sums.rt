@@ -2,6 +2,7 @@
 
 ghost use Rattle.std.specs.Prelude.{◌≡◌, ◌+◌, ◌%◌, replicate, slice_index, slice_set};
 
+use crate::tests::expecting::expect;
 use merkle::{NodeHash, TreeHash, root_from_path};
 use std::cell::Cell;
 use typecodes::Count;
@@ -140,11 +141,16 @@ pub(crate) fn leads_to(q: u32, nodes: &[[u8; 32]], root: &[u8; 32]) -> bool {
     root_from_path(&tree, q, &leaf, nodes) == *root
 }
 
+fn are_worked_out() -> bool {
+    worked_out(3, 0) == node(36, 2, 0)
+        && is_path(&[node(5, 0, 0), node(15, 0, 3), node(10, 1, 0)], 5)
+        && is_path(&[node(6, 0, 0), node(15, 0, 3), node(10, 1, 0)], 4)
+        && worked_out(0, 0) == node(1, 0, 0)
+        && worked_out(0, 5) == node(6, 0, 0)
+}
+
 // `worked_out` gives what was worked out by hand, for trees of height 3 and 0.
 #[test]
 fn values_are_worked_out(rt: HostRuntime) {
-    assert!(rt; worked_out(3, 0) == node(36, 2, 0));
-    assert!(rt; is_path(&[node(5, 0, 0), node(15, 0, 3), node(10, 1, 0)], 5));
-    assert!(rt; is_path(&[node(6, 0, 0), node(15, 0, 3), node(10, 1, 0)], 4));
-    assert!(rt; worked_out(0, 0) == node(1, 0, 0) && worked_out(0, 5) == node(6, 0, 0));
+    expect(&rt, are_worked_out());
 }

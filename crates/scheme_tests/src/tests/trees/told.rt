@@ -1,10 +1,12 @@
 //! Trees and caches that tell how many of their leaves were made.
 
+ghost use Rattle.std.specs.Prelude.{◌≡◌, ◌≤◌};
+
 use super::sums::{Sums, Tally, worked_out};
+use crate::tests::expecting::expect;
 use merkle::{OutOfMemory, PathCache, Progress, Told, root};
 use std::alloc::Global;
 use std::cell::Cell;
-use std::test::Fail;
 
 // The number that was told last, and how often one was told.
 #[derive(Drop)]
@@ -30,11 +32,14 @@ impl Numbers {
 #[derive(Drop)]
 struct Heard<'a> {
     last: u64,
+    most: u64,
     numbers: &'a Numbers,
 }
 
 impl Progress for Heard<'_> {
     ghost told = { λ heard. heard.last };
+
+    ghost most = { λ heard. heard.most };
 
     fn tell(&mut self, made: u64) {
         self.last = made;
@@ -45,13 +50,35 @@ impl Progress for Heard<'_> {
     }
 }
 
-fn noting(numbers: &Numbers) -> Heard<'_> {
-    Heard { last: 99, numbers }
+fn noting(numbers: &Numbers, most: u64) -> Heard<'_>
+    ensures last { result.last ≡ 0 }
+    ensures most { result.most ≡ most }
+{
+    Heard {
+        last: 0,
+        most,
+        numbers,
+    }
 }
 
-// A tree's height, the number told last, and how often one was told for its root: 0 leaves, and then each leaf, or each
-// eight.
-const ROOTS: [(u8, u64, u32); 5] = [(0, 1, 2), (1, 2, 3), (2, 4, 5), (3, 8, 2), (5, 32, 5)];
+// A tree's height, the number told last, and how often one was told for its root: after each leaf, or each eight. In
+// the last row the tree is taken to have 20 leaves, and no more are told of.
+const ROOTS: [(u8, u64, u32); 6] = [
+    (0, 1, 1),
+    (1, 2, 2),
+    (2, 4, 4),
+    (3, 8, 1),
+    (5, 32, 4),
+    (5, 20, 3),
+];
+
+// The root, of which `numbers` is told.
+fn told_root(tally: &Tally, numbers: &Numbers, height: u8, last: u64) -> [u8; 32]
+    requires { height ≤ 10 }
+{
+    let mut told = Told::new(Sums::new(tally), noting(numbers, last), last);
+    root(&mut told, height)
+}
 
 // Whether the root is right, and was told of like this.
 fn tells_of_root(height: u8, last: u64, often: u32) -> bool {
@@ -59,20 +86,20 @@ fn tells_of_root(height: u8, last: u64, often: u32) -> bool {
         return false;
     }
     let (tally, numbers) = (Tally::new(), Numbers::new());
-    let mut told = Told::new(Sums::new(&tally), noting(&numbers));
-    root(&mut told, height) == worked_out(height, 0) && numbers.get() == (last, often)
+    let root = told_root(&tally, &numbers, height, last);
+    root == worked_out(height, 0) && numbers.get() == (last, often)
 }
 
 #[test]
 fn a_root_is_told_of(rt: HostRuntime) {
     for (height, last, often) in ROOTS {
-        assert!(rt; tells_of_root(height, last, often), "at height {height}");
+        expect(&rt, tells_of_root(height, last, often));
     }
 }
 
 // The same for caches, whose blocks have half the height: at height 5 three nodes have eight leaves each, at height 6
 // each block has eight.
-const CACHES: [(u8, u64, u32); 4] = [(0, 1, 2), (2, 4, 5), (5, 32, 12), (6, 64, 9)];
+const CACHES: [(u8, u64, u32); 4] = [(0, 1, 1), (2, 4, 4), (5, 32, 11), (6, 64, 8)];
 
 // Whether the cache has the root, and was told of like this.
 fn tells_of_cache(alloc: Global, height: u8, last: u64, often: u32) -> Result<bool, OutOfMemory> {
@@ -80,17 +107,18 @@ fn tells_of_cache(alloc: Global, height: u8, last: u64, often: u32) -> Result<bo
         return Ok(false);
     }
     let (tally, numbers) = (Tally::new(), Numbers::new());
-    let cache = PathCache::for_leaf_telling(alloc, Sums::new(&tally), height, 0, noting(&numbers))?;
-    Ok(cache.root() == worked_out(height, 0) && numbers.get() == (last, often))
+    let heard = noting(&numbers, 2u64.pow(u32::from(height)));
+    let (cache, heard) = PathCache::for_leaf_telling(alloc, Sums::new(&tally), height, 0, heard)?;
+    let told = heard.last == last && numbers.get() == (last, often);
+    Ok(told && cache.root() == worked_out(height, 0))
 }
 
 #[test]
-fn a_cache_is_told_of(rt: HostRuntime) -> Result<(), Fail> {
+fn a_cache_is_told_of(rt: HostRuntime) {
     for (height, last, often) in CACHES {
-        assert!(rt;
-            tells_of_cache(rt.alloc(), height, last, often)?,
-            "at height {height}"
+        expect(
+            &rt,
+            tells_of_cache(rt.alloc(), height, last, often) == Ok(true),
         );
     }
-    Ok(())
 }

@@ -1,5 +1,6 @@
 //! A secret's key and its leaf 700's signature are byte for byte those of Python's hashlib, and the signature verifies.
 
+use crate::tests::expecting::expect;
 use crate::tests::values::{RISING, RISING_FROM_40};
 use merkle::{TreeHash, root_from_path};
 use sha2::{Digest, Sha256};
@@ -45,37 +46,52 @@ const SIGNATURE: [u8; 32] = [
     0x97, 0x95, 0xa2, 0x86, 0x86, 0xc5, 0xf8, 0x88, 0x20, 0x20, 0x2b, 0xcf, 0x49, 0x40, 0x7b, 0x3b,
 ];
 
-// Root (by a path and by all leaves), randomizer and digest are as expected. So are the SHA-256 of key and signature.
-#[test]
-fn rising_bytes(rt: HostRuntime) {
+// The root, by leaf 700 and its path; and the path.
+fn made_root() -> ([u8; 32], [[u8; 32]; 10]) {
     let mut tree = XmssTree::new(SECRET);
     let mut path = [[0; 32]; 10];
     merkle::path(&mut tree, 10, 700, &mut path);
     let leaf = tree.leaf(700);
-    let root = root_from_path(&tree, 700, &leaf, &path);
-    let seed = SECRET.public_seed;
-    let key = XmssPublic {
-        tree: XmssType::H10,
-        root,
-        seed,
-    };
-    let mut public = [0; 68];
-    write_public(&key, &mut public);
-    let randomizer = randomizer(&SECRET, 700);
-    let digest = digest_to_sign(&SECRET, &root, 700, b"abc");
-    let mut signature = [0; 2500];
-    write_signature(&SECRET, 700, &randomizer, &digest, &path, &mut signature);
+    (root_from_path(&tree, 700, &leaf, &path), path)
+}
 
-    for (what, made, expected) in [
-        ("root", root, ROOT),
-        ("root of the tree", merkle::root(&mut tree, 10), ROOT),
-        ("key", Sha256::digest(public.as_slice()), PUBLIC),
-        ("randomizer", randomizer, RANDOMIZER),
-        ("digest", digest, DIGEST),
-        ("signature", Sha256::digest(signature.as_slice()), SIGNATURE),
-    ] {
-        assert!(rt; made == expected, "{what}");
-    }
+const KEY: XmssPublic = XmssPublic {
+    tree: XmssType::H10,
+    root: ROOT,
+    seed: RISING_FROM_40,
+};
+
+fn written_key() -> [u8; 68] {
+    let mut public = [0; 68];
+    write_public(&KEY, &mut public);
+    public
+}
+
+fn written_signature(path: &[[u8; 32]; 10]) -> [u8; 2500] {
+    let mut signature = [0; 2500];
+    let randomizer = randomizer(&SECRET, 700);
+    write_signature(&SECRET, 700, &randomizer, &DIGEST, path, &mut signature);
+    signature
+}
+
+fn is_verified(signature: &[u8]) -> bool {
     let mut message: &[u8] = b"abc";
-    assert!(rt; verify(&key, &mut message, &signature) == Ok(()));
+    verify(&KEY, &mut message, signature) == Ok(())
+}
+
+fn are_made(root: &[u8; 32], signature: &[u8; 2500]) -> bool {
+    *root == ROOT
+        && randomizer(&SECRET, 700) == RANDOMIZER
+        && digest_to_sign(&SECRET, root, 700, b"abc") == DIGEST
+        && Sha256::digest(written_key().as_slice()) == PUBLIC
+        && Sha256::digest(signature.as_slice()) == SIGNATURE
+        && is_verified(signature)
+}
+
+// Root (by a path and by all leaves), randomizer and digest are as expected. So are the SHA-256 of key and signature.
+#[test]
+fn rising_bytes(rt: HostRuntime) {
+    let (root, path) = made_root();
+    expect(&rt, are_made(&root, &written_signature(&path)));
+    expect(&rt, merkle::root(&mut XmssTree::new(SECRET), 10) == ROOT);
 }
