@@ -600,6 +600,31 @@ def carried(record):
     return bound_body(*bound_fields(record, 1), 2) if record[0] == 3 else record
 
 
+def behind(content):
+    """The slot of the last record of a state file, if bytes stand behind what an append can leave; None if not."""
+    count = len(records_of(content))
+    return count - 1 if len(content) > 256 * (count + 1) + 1 else None
+
+
+def listing_of(content):
+    """The lines of a listing of a state file."""
+    slot = behind(content)
+    return Signer.of(records_of(content)).listing() + ([f"behind {slot}"] if slot is not None else [])
+
+
+def warning(path, content):
+    """What standard error says of the state file at this path as it is opened: nothing, or that bytes stand behind its
+    last record."""
+    try:
+        slot = behind(content)
+    except Refused:
+        return ""
+    if slot is None:
+        return ""
+    return (f"hbsign: {path}: bytes stand behind the last record (slot {slot}): the file seems cut short or damaged; "
+            "don't sign, compare it with an anchor\n")
+
+
 def sealed(old):
     """An old file that signs no more: its records, and a Moved as the last."""
     key = Signer.of(records_of(old))
