@@ -1,8 +1,9 @@
 -- Where a key's root stands in its bytes, and what a computed root tells.
-use Rattle.std.proofs.Common.{◌≡◌, ◌∙◌, sym, ap, subst, ℕ, ◌-◌, List, ◌++◌, append-nil, length, take, drop, nat_eq, if◌then◌else◌, take_at, Ok, Err}
+use Rattle.std.proofs.Common.{◌≡◌, ◌∙◌, refl, sym, ap, subst, ℕ, ◌-◌, inl, inr, List, ◌++◌, append-nil, length, take, drop, nat_eq, if◌then◌else◌, take_at, Ok, Err}
 use Rattle.std.proofs.lemmas.List.{drop-drop, drop_at}
-use Rattle.std.specs.Prelude.{◌↔◌}
+use Rattle.std.specs.Prelude.{◌≢◌, ◌↔◌}
 use Rattle.typecodes.specs.declared.refusal.Refusal.{Refusal}
+use Rattle.typecodes.specs.declared.refusal.Refusal.TheVariants.{MessageRead}
 use Rattle.typecodes.specs.Layout.{Layout, Spells, ◌>>=◌}
 use Rattle.typecodes.specs.Fields.{block, lms_type, ots_type, xmss_type}
 use Rattle.typecodes.specs.Types.{lms_code, lms_types, ots_code, ots_types}
@@ -21,7 +22,8 @@ use Rattle.boot_verify.specs.declared.key.Key.{Key}
 use Rattle.boot_verify.specs.declared.key.Key.TheVariants.{Lms, Hss, Xmss}
 use Rattle.boot_verify.specs.Key.{Signs, SpellsKey}
 use Rattle.boot_verify.specs.inner.Key.{KeyGivesRoot, key_root}
-use Rattle.boot_verify.specs.Answer.{GivesExactly, IsSigned, root_of}
+use Rattle.boot_verify.specs.Answer.{GivesExactly, GivesRoot, IsSigned, RefusesKey, ready, root_of, verdict_answer}
+use Rattle.boot_verify.proofs.Answers.{refused_spells_none}
 use Rattle.boot_verify.proofs.Keys.{of_levels, of_top, one_key, size-hss_key, size-level_number, size-xmss_key, size-xmss_type}
 
 -- ---- where the root stands
@@ -100,20 +102,50 @@ by_key : (key : Key) (public message bytes : List ℕ) → SpellsKey key public 
 by_key key public message bytes spelled (other, spelled_too, signs) =
     subst (λ key. Signs key message bytes) (one_key other key public spelled_too spelled) signs
 
-pub gives_exactly : (key : Key) (public message bytes old root : List ℕ) → SpellsKey key public → KeyGivesRoot key message bytes (Ok root)
-    → GivesExactly public message bytes old root
-gives_exactly key public message bytes old root spelled gives = λ other.
+-- a computed root is the key's exactly where the signature is valid
+exact_root : (key : Key) (public message bytes root : List ℕ) → SpellsKey key public → KeyGivesRoot key message bytes (Ok root)
+    → (root ≡ root_of public) ↔ IsSigned public message bytes
+exact_root key public message bytes root spelled gives =
     let is = root_is key public spelled in
     let exact = of_key key message bytes root gives in (
       λ same. (key, spelled, exact.0 (same ∙ is)),
       λ signed. exact.1 (by_key key public message bytes spelled signed) ∙ sym is,
     )
 
+pub gives_exactly : (key : Key) (public message bytes old root : List ℕ) → SpellsKey key public → KeyGivesRoot key message bytes (Ok root)
+    → GivesExactly public message bytes old root
+gives_exactly key public message bytes old root spelled gives = λ other. exact_root key public message bytes root spelled gives
+
+pub gives_root : (key : Key) (public message bytes old root : List ℕ) (answer : ℕ) → SpellsKey key public → KeyGivesRoot key message bytes (Ok root)
+    → answer ≡ ready → GivesRoot public message bytes old root answer
+gives_root key public message bytes old root answer spelled gives is = inl (is, exact_root key public message bytes root spelled gives)
+
+-- nothing is signed where no root is given
+unsigned : (key : Key) (public message bytes : List ℕ) (refusal : Refusal) → SpellsKey key public → KeyGivesRoot key message bytes (Err refusal)
+    → IsSigned public message bytes → ⊥
+unsigned key public message bytes refusal spelled gives signed = of_no_root key message bytes refusal gives (by_key key public message bytes spelled signed)
+
+pub refuses_root : (key : Key) (public message bytes old : List ℕ) (refusal : Refusal) (answer : ℕ) → SpellsKey key public
+    → KeyGivesRoot key message bytes (Err refusal) → refusal ≢ MessageRead → answer ≡ verdict_answer (Err refusal)
+    → GivesRoot public message bytes old old answer
+refuses_root key public message bytes old refusal answer spelled gives read is =
+    inr (refl, unsigned key public message bytes refusal spelled gives, inr (refusal, read, is))
+
+-- bytes that spell no key have signed nothing
+key_unsigned : (public message bytes : List ℕ) (answer : ℕ) → RefusesKey public answer → IsSigned public message bytes → ⊥
+key_unsigned public message bytes answer refused (key, spelled, signs) = refused_spells_none public answer key refused spelled
+
+pub refuses_key : (public message bytes old : List ℕ) (answer : ℕ) → RefusesKey public answer → GivesRoot public message bytes old old answer
+refuses_key public message bytes old answer refused = inr (refl, key_unsigned public message bytes answer refused, inl refused)
+
 -- what was in the room stays, where the signature isn't valid
-pub stays : (public message bytes old : List ℕ) → (IsSigned public message bytes → ⊥) → GivesExactly public message bytes old old
+stays : (public message bytes old : List ℕ) → (IsSigned public message bytes → ⊥) → GivesExactly public message bytes old old
 stays public message bytes old never = λ other. (λ same. absurd (other same), λ signed. absurd (never signed))
 
 pub stays_refused : (key : Key) (public message bytes old : List ℕ) (refusal : Refusal) → SpellsKey key public → KeyGivesRoot key message bytes (Err refusal)
     → GivesExactly public message bytes old old
 stays_refused key public message bytes old refusal spelled gives =
-    stays public message bytes old (λ signed. of_no_root key message bytes refusal gives (by_key key public message bytes spelled signed))
+    stays public message bytes old (unsigned key public message bytes refusal spelled gives)
+
+pub stays_without_key : (public message bytes old : List ℕ) (answer : ℕ) → RefusesKey public answer → GivesExactly public message bytes old old
+stays_without_key public message bytes old answer refused = stays public message bytes old (key_unsigned public message bytes answer refused)

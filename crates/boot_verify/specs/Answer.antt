@@ -87,9 +87,12 @@ GivesPrefix public bytes room answer =
 abbrev pub root_of : List ℕ → List ℕ
 root_of public = take 32 (drop (if nat_eq (length public) 68 then 4 else length public - 32) public)
 
--- There is a root, or a refusal, and what was in the room stays.
-abbrev pub GivesRoot : List ℕ → List ℕ → List ℕ → ℕ → Type 0
-GivesRoot public old new answer = (answer ≡ ready) ⊎ ((new ≡ old) × (RefusesKey public answer
+-- Either a root was written, which is the key's exactly where the signature is valid, and the answer is that it's ready.
+-- Or there is a refusal, of no valid signature, and what was in the room stays.
+abbrev pub GivesRoot : List ℕ → List ℕ → List ℕ → List ℕ → List ℕ → ℕ → Type 0
+GivesRoot public message bytes old new answer =
+    ((answer ≡ ready) × ((new ≡ root_of public) ↔ IsSigned public message bytes))
+    ⊎ ((new ≡ old) × (IsSigned public message bytes → ⊥) × (RefusesKey public answer
     ⊎ ((refusal : Refusal) × (refusal ≢ MessageRead) × (answer ≡ verdict_answer (Err refusal)))))
 
 -- Where other bytes than the key's root were in the room, the root is in it exactly where the signature is valid.

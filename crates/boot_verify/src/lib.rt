@@ -81,8 +81,8 @@ pub extern "C" fn hbs_proved_verify_digest(
 
 /// Writes the root to which the signature leads to `root`, and compares it with none. Where the caller filled `root`
 /// with other bytes, it is then the key's root exactly where the signature is valid. So the caller's comparison
-/// decides, and it can be made twice, against forced faults. Answers 9. Else a refusal as `hbs_proved_verify` has, but
-/// of HSS the lowest level's, and `root` stays as it is.
+/// decides, and it can be made twice, against forced faults. Answers 9 where it wrote a root. Else a refusal as
+/// `hbs_proved_verify` has, but of HSS the lowest level's; then no signature is valid, and `root` stays as it is.
 #[unsafe(no_mangle)]
 pub extern "C" fn hbs_proved_root(
     public: &[u8],
@@ -90,7 +90,7 @@ pub extern "C" fn hbs_proved_root(
     signature: &[u8],
     root: &mut [u8; 32],
 ) -> u64
-    ensures answer { GivesRoot public.now root.old root.new result }
+    ensures answer { GivesRoot public.now message.now signature.now root.old root.new result }
     ensures exact { GivesExactly public.now message.now signature.now root.old root.new }
 {
     match Key::read(public) {
