@@ -1,25 +1,22 @@
 /*
- * A boot loader for a bare aarch64 machine, QEMU's `virt`. It finds an image with its signature in memory, verifies it
- * under the public key that is linked in, says so on the serial port, and jumps to the image or stops.
+ * A boot loader for a bare machine of QEMU: aarch64, RISC-V or Cortex-M3. It finds an image with its signature in
+ * memory, verifies it under the public key that is linked in, says so on the serial port, and jumps to the image or
+ * stops.
  *
  * A device may change the flash while it is read, so all that is judged is copied first: the copy is verified, and the
  * copy is started.
  */
+#include "board.h"
 #include "hbs_verify.h"
 
-/* Serial port (PL011): its data, and in its flags whether it takes no more. */
-#define SERIAL ((volatile uint32_t *)0x09000000)
-#define SERIAL_FLAGS 6
-#define SERIAL_FULL (1u << 5)
-
 /* Where the maker of the machine puts what may be started: HEAD, the image's length, the signature's, and both. */
-#define FLASH ((const volatile uint8_t *)0x48000000)
+#define FLASH ((const volatile uint8_t *)FLASH_PLACE)
 #define FLASH_BYTES 0x200000u
 #define HEAD_BYTES 16u
 static const uint8_t HEAD[8] = {'H', 'B', 'S', 'I', 'M', 'A', 'G', 'E'};
 
 /* Where an image runs. */
-#define IMAGE ((uint8_t *)0x44000000)
+#define IMAGE ((uint8_t *)IMAGE_PLACE)
 #define MOST_IMAGE_BYTES 0x100000u
 
 extern const uint8_t public_key[], public_key_end[];
@@ -48,13 +45,13 @@ void *memset(void *to, int value, size_t count) {
 
 static void print(const char *text) {
     for (; *text; text++) {
-        while (SERIAL[SERIAL_FLAGS] & SERIAL_FULL) {}
+        while (SERIAL_IS_FULL) {}
         SERIAL[0] = (uint8_t)*text;
     }
 }
 
-static void print_number(uint64_t number) {
-    char digits[21], *first = digits + 20;
+static void print_number(uint32_t number) {
+    char digits[11], *first = digits + 10;
     *first = '\0';
     do *--first = (char)('0' + number % 10);
     while (number /= 10);
@@ -116,8 +113,8 @@ void load(void) {
         return;
     }
     print("loader: refused ");
-    print_number(HBS_NUMBER(answer));
+    print_number((uint32_t)HBS_NUMBER(answer));
     print(" detail ");
-    print_number(HBS_DETAIL(answer));
+    print_number((uint32_t)HBS_DETAIL(answer));
     print("\n");
 }
