@@ -1,16 +1,18 @@
 /*
- * Calls the library on a machine without a system, and gives its answers and the stack that it took. It runs under
- * QEMU, and asks it for files by semihosting: it reads the file `cases`, writes the file `answers`, and ends.
+ * Calls the library on a machine without a system, and gives its answers, the stack and the time that it took. It runs
+ * under QEMU, and asks it for files by semihosting: it reads the file `cases`, writes the file `answers`, and ends.
  *
  * A case has four numbers of 32 bits, which of the calls is made and the lengths of key, message and signature, and
- * then their bytes. Its answer has two numbers of 64 bits: what the call returned, and the bytes of stack that it wrote
- * over. The message of hbs_verify_digest is the digest. For hbs_root the answer is 0 where the key's root came out, and
- * for a message in pieces that of hbs_begin, if it refuses, and else that of hbs_end.
+ * then their bytes. Its answer has three numbers of 64 bits: what the call returned, the bytes of stack that it wrote
+ * over, and the time in ticks of the machine's clock. The stack is measured where MEASURED is added to the call's
+ * number, since that takes as long as some refusals; else it is 0. The message of hbs_verify_digest is the digest. For
+ * hbs_root the answer is 0 where the key's root came out, and for a message in pieces that of hbs_begin, if it refuses,
+ * and else that of hbs_end.
  */
 #include "hbs_verify.h"
 
 enum { OPEN = 1, CLOSE = 2, WRITE = 5, READ = 6, EXIT = 24 };
-enum { VERIFY, PREFIX, DIGEST, ROOT, PIECES };
+enum { VERIFY, PREFIX, DIGEST, ROOT, PIECES, MEASURED = 256 };
 /* Painted words of 32 bits below the stack pointer, and those that the caller may be using. */
 #define PAINTED 4096
 #define CALLER 32
@@ -44,6 +46,31 @@ static intptr_t ask(intptr_t what, void *with) {
     __asm__ volatile("svc #0x123456" : "+r"(r0) : "r"(r1) : "memory");
 #endif
     return r0;
+#endif
+}
+
+/* The machine's clock. On Cortex-M it counts down, in the upper 24 bits, so that differences wrap as numbers do. */
+static uint32_t ticks(void) {
+#if defined(__ARM_ARCH_PROFILE) && __ARM_ARCH_PROFILE == 'M'
+    volatile uint32_t *const clock = (volatile uint32_t *)0xe000e010u;
+    if ((clock[0] & 1) == 0) {
+        clock[1] = 0xffffffu;
+        clock[2] = 0;
+        clock[0] = 5;
+    }
+    return 0u - (clock[2] << 8);
+#elif defined(__riscv)
+    uintptr_t now;
+    __asm__ volatile("csrr %0, mcycle" : "=r"(now));
+    return (uint32_t)now;
+#elif defined(__aarch64__)
+    uint64_t now;
+    __asm__ volatile("isb\nmrs %0, cntpct_el0" : "=r"(now));
+    return (uint32_t)now;
+#else
+    uint32_t now, upper;
+    __asm__ volatile("isb\nmrrc p15, 0, %0, %1, c14" : "=r"(now), "=r"(upper));
+    return now;
 #endif
 }
 
@@ -98,7 +125,7 @@ static uint64_t in_pieces(const uint32_t *numbers, const uint8_t *message, const
 
 static uint64_t called(const uint32_t *numbers) {
     const uint8_t *message = bytes + numbers[1], *signature = message + numbers[2];
-    switch (numbers[0]) {
+    switch (numbers[0] % MEASURED) {
     case VERIFY: return hbs_verify(bytes, numbers[1], message, numbers[2], signature, numbers[3]);
     case PREFIX: return hbs_message_prefix(bytes, numbers[1], signature, numbers[3], prefix);
     case DIGEST: return hbs_verify_digest(bytes, numbers[1], signature, numbers[3], message);
@@ -107,7 +134,7 @@ static uint64_t called(const uint32_t *numbers) {
     }
 }
 
-/* The answer to a case, and the words of the painted stack that are written over. */
+/* The answer to a case, and the bytes of the painted stack that are written over. */
 static uint64_t measured(const uint32_t *numbers, uint64_t *taken) {
     volatile uint32_t here = PAINT;
     volatile uint32_t *painted = &here - PAINTED - CALLER;
@@ -120,14 +147,21 @@ static uint64_t measured(const uint32_t *numbers, uint64_t *taken) {
     return answer;
 }
 
+static void answer_case(const uint32_t *numbers, uint64_t *answer) {
+    const uint32_t begin = ticks();
+    answer[1] = 0;
+    answer[0] = numbers[0] >= MEASURED ? measured(numbers, &answer[1]) : called(numbers);
+    answer[2] = ticks() - begin;
+}
+
 void start(void) {
     uint32_t numbers[4];
-    uint64_t answer[2];
+    uint64_t answer[3];
     intptr_t cases = open("cases", 5, 1), answers = open("answers", 7, 5);
     while (moved(READ, cases, numbers, sizeof numbers) &&
            (size_t)numbers[1] + numbers[2] + numbers[3] <= sizeof bytes &&
            moved(READ, cases, bytes, (size_t)numbers[1] + numbers[2] + numbers[3])) {
-        answer[0] = measured(numbers, &answer[1]);
+        answer_case(numbers, answer);
         moved(WRITE, answers, answer, sizeof answer);
     }
     ask(CLOSE, &answers);

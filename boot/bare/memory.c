@@ -9,9 +9,14 @@ void start(void);
 void begin(void);
 extern uint32_t stack_end[];
 
+/* Eight bytes in a turn, as QEMU has to run each instruction. */
 void *memcpy(void *to, const void *from, size_t length) {
     uint8_t *t = to;
     const uint8_t *f = from;
+    for (; length >= 8; length -= 8, t += 8, f += 8) {
+        t[0] = f[0], t[1] = f[1], t[2] = f[2], t[3] = f[3];
+        t[4] = f[4], t[5] = f[5], t[6] = f[6], t[7] = f[7];
+    }
     while (length--) *t++ = *f++;
     return to;
 }
@@ -26,7 +31,11 @@ void *memmove(void *to, const void *from, size_t length) {
 
 void *memset(void *to, int byte, size_t length) {
     uint8_t *t = to;
-    while (length--) *t++ = (uint8_t)byte;
+    const uint8_t b = (uint8_t)byte;
+    for (; length >= 8; length -= 8, t += 8) {
+        t[0] = b, t[1] = b, t[2] = b, t[3] = b, t[4] = b, t[5] = b, t[6] = b, t[7] = b;
+    }
+    while (length--) *t++ = b;
     return to;
 }
 
