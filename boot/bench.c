@@ -1,7 +1,8 @@
 /*
  * Times one verification by the library for boot loaders, by the verifiers of the program, and by boot/plain.c, in one
  * process and in turn: bench ROUNDS PUBLIC MESSAGE SIGNATURE. It prints the shortest time of each in microseconds of
- * the processor.
+ * the processor. With the word `bytes` behind these it prints nanoseconds for a byte of a long message in place of
+ * that, also of hbs_add.
  */
 #define _DEFAULT_SOURCE
 #include <stdio.h>
@@ -56,16 +57,43 @@ static double once(verifier *verify) {
     return (now() - begin) / CALLS;
 }
 
+/* A message so long that a signature's own time doesn't count. */
+#define LONG_BYTES (1 << 22)
+static uint8_t long_message[LONG_BYTES];
+
+/* Nanoseconds for a byte of a long message, of which the signature is none. */
+static double each_byte(verifier *verify) {
+    const double begin = now();
+    if (verify(parts[0].bytes, parts[0].length, long_message, LONG_BYTES, parts[2].bytes, parts[2].length) ==
+        HBS_VERIFIED) {
+        exit(1);
+    }
+    return 1e3 * (now() - begin) / LONG_BYTES;
+}
+
+static double each_added_byte(void) {
+    hbs_message it;
+    double begin;
+    if (hbs_begin(&it, parts[0].bytes, parts[0].length, parts[2].bytes, parts[2].length) != HBS_READY) exit(1);
+    begin = now();
+    hbs_add(&it, long_message, LONG_BYTES);
+    return 1e3 * (now() - begin) / LONG_BYTES;
+}
+
+static void keep_shorter(double *shortest, double took) {
+    if (*shortest == 0 || took < *shortest) *shortest = took;
+}
+
 int main(int count, char **words) {
-    double shortest[VERIFIERS] = {0};
-    if (count != 5) return 2;
+    double shortest[VERIFIERS] = {0}, added = 0;
+    const int bytes = count == 6;
+    if (count != 5 && !bytes) return 2;
     for (int i = 0; i < 3; i++) read_into(&parts[i], words[2 + i]);
     for (long round = strtol(words[1], NULL, 10); round > 0; round--) {
-        for (int i = 0; i < VERIFIERS; i++) {
-            const double took = once(EACH[i]);
-            if (shortest[i] == 0 || took < shortest[i]) shortest[i] = took;
-        }
+        for (int i = 0; i < VERIFIERS; i++) keep_shorter(&shortest[i], bytes ? each_byte(EACH[i]) : once(EACH[i]));
+        if (bytes) keep_shorter(&added, each_added_byte());
     }
-    for (int i = 0; i < VERIFIERS; i++) printf("%s %.1f\n", NAMES[i], shortest[i]);
+    for (int i = 0; i < VERIFIERS; i++) printf(bytes ? "%s %.2f\n" : "%s %.1f\n", NAMES[i], shortest[i]);
+    if (bytes) printf("hbs_add %.2f\n", added);
     return 0;
 }
