@@ -77,10 +77,34 @@
 extern "C" {
 #endif
 
+/* The version of this header, of hbsign and of the archive: 65536 times the first number, 256 times the second, and
+ * the third. */
+#define HBS_VERSION 0x000200
+
 /* The bytes of a public key, whose number names the scheme (RFC 8554 5.3 and 6.1, RFC 8391 4.1.7). */
 #define HBS_LMS_KEY_BYTES 56
 #define HBS_HSS_KEY_BYTES 60
 #define HBS_XMSS_KEY_BYTES 68
+
+/*
+ * The bytes of a signature, for a room or an array of it:
+ *   - of LMS, by the tree's height and the width W (RFC 8554 4.5 and 5.4): HBS_LMS_SIGNATURE_BYTES(10, 8)
+ *   - of HSS, by the sum of its levels (RFC 8554 6.2):
+ *     HBS_HSS_SIGNATURE_BYTES(HBS_HSS_LEVEL_BYTES(10, 8) + HBS_HSS_LEVEL_BYTES(5, 4))
+ *   - of XMSS, by the tree's height (RFC 8391 4.1.8): HBS_XMSS_SIGNATURE_BYTES(10)
+ * A height or width that no type has makes the number negative, so that no array has it.
+ */
+#define HBS_LMS_SIGNATURE_BYTES(height, width) (44 + 32 * (HBS_LMS_HEIGHT(height) + HBS_CHAINS(width)))
+#define HBS_HSS_LEVEL_BYTES(height, width) (HBS_LMS_SIGNATURE_BYTES(height, width) + HBS_LMS_KEY_BYTES)
+#define HBS_HSS_SIGNATURE_BYTES(levels) (4 - HBS_LMS_KEY_BYTES + (levels))
+#define HBS_XMSS_SIGNATURE_BYTES(height) (36 + 32 * (67 + HBS_XMSS_HEIGHT(height)))
+
+/* For these: a number that types have, or a negative one; and the chains of a width (RFC 8554 4.1, p of table 1). */
+#define HBS_NO_TYPE (-0x100000)
+#define HBS_LMS_HEIGHT(height) ((height) % 5 == 0 && (height) >= 5 && (height) <= 25 ? (height) : HBS_NO_TYPE)
+#define HBS_XMSS_HEIGHT(height) ((height) == 10 || (height) == 16 || (height) == 20 ? (height) : HBS_NO_TYPE)
+#define HBS_CHAINS(width) \
+    ((width) == 1 ? 265 : (width) == 2 ? 133 : (width) == 4 ? 67 : (width) == 8 ? 34 : HBS_NO_TYPE)
 
 /* The most bytes that a signature has: HSS with eight levels of H25/W1 (RFC 8554 6.2). A longer one is refused. */
 #define HBS_MOST_SIGNATURE_BYTES 74988
