@@ -77,8 +77,7 @@
 extern "C" {
 #endif
 
-/* The version of this header, of hbsign and of the archive: 65536 times the first number, 256 times the second, and
- * the third. */
+/* The version of this header and of hbsign: 65536 times its first number, 256 times the second, and the third. */
 #define HBS_VERSION 0x000200
 
 /* The bytes of a public key, whose number names the scheme (RFC 8554 5.3 and 6.1, RFC 8391 4.1.7). */
@@ -135,6 +134,9 @@ extern "C" {
 /* The number of an answer, and its detail, each of the type uint64_t. */
 #define HBS_NUMBER(answer) ((answer) & 0xffffffffu)
 #define HBS_DETAIL(answer) ((answer) >> 32)
+
+/* The version of the archive, which is HBS_VERSION where the header is of the same release. */
+extern const uint32_t hbs_version;
 
 /*
  * 0 exactly where `signature` is a valid signature of `message` under `public_key`. Otherwise the first refusal.
