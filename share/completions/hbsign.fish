@@ -59,7 +59,7 @@ complete -c hbsign -n __fish_use_subcommand -a retire -d 'Skips signatures'
 complete -c hbsign -n '__hbsign_at retire 1' -F
 set -l seen '__fish_seen_subcommand_from retire'
 complete -c hbsign -n $seen -s h -l help -d 'Print help'
-complete -c hbsign -n __fish_use_subcommand -a audit -d 'Shows the public key'
+complete -c hbsign -n __fish_use_subcommand -a audit -d 'Shows the public key, how many records there are and the free leaves of each level'
 complete -c hbsign -n '__hbsign_at audit 1' -F
 set -l seen '__fish_seen_subcommand_from audit'
 complete -c hbsign -n $seen -l count -x -d 'Decimal number of records that the file once had'
@@ -70,7 +70,7 @@ complete -c hbsign -n '__hbsign_at audit-given 1' -F
 complete -c hbsign -n '__hbsign_at audit-given 2 or-later' -F
 set -l seen '__fish_seen_subcommand_from audit-given'
 complete -c hbsign -n $seen -s h -l help -d 'Print help'
-complete -c hbsign -n __fish_use_subcommand -a serve -d 'Signs messages that come as requests on standard input'
+complete -c hbsign -n __fish_use_subcommand -a serve -d 'Signs messages that come as requests on standard input, and replies on standard output'
 complete -c hbsign -n '__hbsign_at serve 1' -F
 set -l seen '__fish_seen_subcommand_from serve'
 complete -c hbsign -n $seen -l random -r -F -d 'Where random bytes come from'
