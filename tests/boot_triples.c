@@ -109,16 +109,20 @@ static void lengthen(content *it) {
 /* Changes a triple; a part may become another triple's. */
 static void change(content *parts, const content *other) {
     size_t which = below(4) ? SIGNATURE : below(PARTS);
-    switch (below(10)) {
+    switch (below(14)) {
     case 0:
         break;
     case 1:
         memcpy(parts[which].bytes, other[which].bytes, parts[which].length = other[which].length);
         break;
     case 2:
+    case 10:
+    case 11:
         cut(&parts[which]);
         break;
     case 3:
+    case 12:
+    case 13:
         lengthen(&parts[which]);
         break;
     case 4:
