@@ -1,24 +1,18 @@
--- What `clap` finds in the words of a line of each command.
-use Rattle.std.proofs.Common.{◌≡◌, ◌≢◌, ◌==◌, ◌∙◌, ◌+◌, ℕ, Bool, List, [], ◌∷◌, ◌++◌, Ok, Some, None, true, false, refl, codes, nat_eq, fold, is_some, ap, ap₂, subst, sym, inl, inr, append-nil, append_assoc}
-use Rattle.std.specs.Prelude.{⊤}
-use Rattle.std.proofs.lemmas.Bool.{cases_eq, ne_eqb}
+-- Walks of `clap` over the words of a line, and what it finds in them.
+use Rattle.std.proofs.Common.{◌≡◌, ◌≢◌, ◌==◌, ◌&&◌, ◌∙◌, ◌+◌, ℕ, zero, suc, Bool, List, [], ◌∷◌, ◌++◌, Option, Some, None, Result, true, false, not, refl, codes, length, nat_eq, fold, is_some, ap, subst, sym, inl, inr, append-nil, append_assoc, arith}
+use Rattle.std.specs.Prelude.{⊤, min, nat_lt}
+use Rattle.std.proofs.Math.Bool.{or-false}
+use Rattle.std.proofs.lemmas.Bool.{cases_eq, false≢true, ne_eqb, not-true}
 use Rattle.clap.specs.Simple.{App, Shape, built, built_leaf, entered, names_of, inherited, with_leaf_noted, marked_built}
-use Rattle.clap.specs.Walk.{Held as Collected, Names, Walk, idle, walked, word_met, value, to_positional, arg_by_index, rows_after, nothing_held as nothing_collected, walk_from, finished, settled, walk}
+use Rattle.clap.specs.Walk.{Held, Names, Waiting, Walk, after_step, idle, option, positional, plain_word, subcommand_met, walked, word_met, value, to_positional, arg_by_index, is_multiple, rows_after, nothing_held, settled, walk_from, finished, walk}
 use Rattle.clap.specs.Faults.{turn_fault, step_fault, word_fault, walk_fault, settle_fault, defaults_fault, check_fault, entered_fault, level_fault}
 use Rattle.clap.specs.Kinds.{Kinds, or_else}
+use Rattle.clap.specs.Lexer.{usize_max}
 use Rattle.clap.specs.Words.{Rule, Text, is_simple, subcommand_of, fault_of, is_simple_and_free}
 use Rattle.clap.proofs.OnLiterals.{clap_on_literals}
-use Rattle.command.specs.Line.{ArePlainWords, GivesValues, IsCommandLine, IsLineOf, IsPlainWord, Task, audit, audit_given, hbsign_app, list, make, migrate, publish, retire, retire_number, retire_task, serve, sign, task_found, verify}
-use Rattle.command.specs.Audit.{audit_app}
-use Rattle.command.specs.AuditGiven.{audit_given_app}
-use Rattle.command.specs.ListState.{list_app}
-use Rattle.command.specs.Make.{make_app}
-use Rattle.command.specs.Migrate.{migrate_app}
-use Rattle.command.specs.Public.{public_app}
-use Rattle.command.specs.Retire.{retire_app}
-use Rattle.command.specs.Serve.{serve_app}
-use Rattle.command.specs.Sign.{sign_app}
-use Rattle.command.specs.Verify.{verify_app}
+use Rattle.clap.proofs.WalkLemmas.{both}
+use Rattle.command.specs.Line.{ArePlainWords, GivesValues, IsCommandLine, IsPlainWord, Task, hbsign_app, task_found}
+use Rattle.command.specs.declared.usage_fault.UsageFault.{UsageFault}
 
 -- `clap`'s model covers the program
 pub simple : is_simple hbsign_app ≡ true
@@ -29,49 +23,78 @@ pub simple_and_free : is_simple_and_free hbsign_app ≡ true
 unfolding clap_on_literals
 simple_and_free = refl
 
--- a walk that waits for a positional, before `--` or after it
-abbrev pub at : Bool → Collected → ℕ → Walk
-at trailing collected position =
-    record { held = collected; waiting = idle; position = position; is_trailing = trailing; stopped = None }
+-- ---- one word
+
+-- a walk in a command, before `--` or after it
+abbrev pub waits_at : Waiting → Bool → Held → ℕ → Walk
+waits_at waiting trailing held position =
+    record { held = held; waiting = waiting; position = position; is_trailing = trailing; stopped = None }
+
+-- .. where no option waits for a value
+abbrev pub at : Bool → Held → ℕ → Walk
+at = waits_at idle
 
 -- a word that is taken for a value: no option, or after `--`
-abbrev pub IsTaken : Bool → List ℕ → Type 0
+abbrev pub IsTaken : Bool → Text → Type 0
 IsTaken true word = ⊤
 IsTaken false word = IsPlainWord word
+
+abbrev pub AllTaken : Bool → List Text → Type 0
+AllTaken b [] = ⊤
+AllTaken b (word ∷ words) = IsTaken b word × AllTaken b words
+
+pub plain_taken : (words : List Text) → ArePlainWords words → AllTaken false words
+plain_taken [] plain = tt
+plain_taken (word ∷ words) (first, others) = (first, plain_taken words others)
+
+pub any_taken : (words : List Text) → AllTaken true words
+any_taken [] = tt
+any_taken (word ∷ words) = (tt, any_taken words)
 
 -- both forms of the test for a hyphen
 pub is_no_hyphen : (byte : ℕ) → byte ≢ 45 → (nat_eq byte 45 ≡ false) × ((byte == 45) ≡ false)
 is_no_hyphen byte plain = (ne_eqb byte 45 plain, ne_eqb byte 45 plain)
 
-pub word_is_value : (c : List Rule) (b : Bool) (position : ℕ) (word : List ℕ) (h : Collected) → IsTaken b word
-    → word_met c [] b idle position word h ≡ (h, value)
-word_is_value c true position word h taken = refl
-word_is_value c false position [] h plain = refl
-word_is_value c false position (x ∷ []) h plain = elim (cases_eq x 45) [
-  | inl same ↦ rw same refl
-  | inr other ↦ rw ((is_no_hyphen x other).0, (is_no_hyphen x other).1) refl
-]
-word_is_value c false position (x ∷ y ∷ xs) h plain = rw ((is_no_hyphen x plain).0, (is_no_hyphen x plain).1) refl
+none_met : (waiting : Waiting) (word : Text) → subcommand_met [] waiting word ≡ None
+none_met idle word = refl
+none_met (option id) word = refl
+none_met positional word = refl
 
--- The walk takes such a word to the next positional.
-pub word_walks : (c : List Rule) (b : Bool) (position : ℕ) (word : List ℕ) (h : Collected) → IsTaken b word
-    → walked c [] (at b h position) word ≡ to_positional c (arg_by_index c position) word (at b h position) h
+-- A plain word is a value, whatever waits for it, and no flag.
+pub plain_met : (s : Shape) (waiting : Waiting) (position : ℕ) (word : Text) (h : Held) → IsPlainWord word
+    → (word_met s.rules [] false waiting position word h ≡ plain_word s.rules waiting word h)
+    × (word_fault s [] false waiting word h ≡ [])
+plain_met s waiting position [] h plain = rw (none_met waiting []) (refl, refl)
+plain_met s waiting position (x ∷ []) h plain = elim (cases_eq x 45) [
+  | inl same ↦ rw (none_met waiting (x ∷ []), same) (refl, refl)
+  | inr other ↦ rw (none_met waiting (x ∷ []), (is_no_hyphen x other).0, (is_no_hyphen x other).1) (refl, refl)
+]
+plain_met s waiting position (x ∷ y ∷ xs) h plain =
+    rw (none_met waiting (x ∷ y ∷ xs), (is_no_hyphen x plain).0, (is_no_hyphen x plain).1) (refl, refl)
+
+-- the walk after such a word, and what may refuse it
+abbrev pub after_plain : Shape → Walk → Text → Walk
+after_plain s w word =
+    let met = plain_word s.rules w.waiting word w.held in after_step s.rules word w met.0 met.1
+
+abbrev pub plain_fault : Shape → Walk → Text → Kinds
+plain_fault s w word =
+    let met = plain_word s.rules w.waiting word w.held in step_fault s w.position met.0 met.1
+
+pub plain_turn : (s : Shape) (waiting : Waiting) (h : Held) (position : ℕ) (word : Text) → IsPlainWord word
+    → (walked s.rules [] (waits_at waiting false h position) word ≡ after_plain s (waits_at waiting false h position) word)
+    × (turn_fault s [] (waits_at waiting false h position) word ≡ plain_fault s (waits_at waiting false h position) word)
 unfolding walked
-word_walks c b position word h taken = rw (word_is_value c b position word h taken) refl
+plain_turn s waiting h position word plain =
+    rw (plain_met s waiting position word h plain).0 (refl, rw (plain_met s waiting position word h plain).1 refl)
 
-word_passes : (s : Shape) (b : Bool) (word : List ℕ) (h : Collected) → IsTaken b word → word_fault s [] b idle word h ≡ []
-word_passes s true word h taken = refl
-word_passes s false [] h plain = refl
-word_passes s false (x ∷ []) h plain = elim (cases_eq x 45) [
-  | inl same ↦ rw same refl
-  | inr other ↦ rw ((is_no_hyphen x other).0, (is_no_hyphen x other).1) refl
-]
-word_passes s false (x ∷ y ∷ xs) h plain = rw ((is_no_hyphen x plain).0, (is_no_hyphen x plain).1) refl
-
--- Only that positional can refuse it.
-pub turn_passes : (s : Shape) (b : Bool) (position : ℕ) (word : List ℕ) (h : Collected) → IsTaken b word
-    → turn_fault s [] (at b h position) word ≡ step_fault s position h value
-turn_passes s b position word h taken = rw (word_is_value s.rules b position word h taken, word_passes s b word h taken) refl
+-- A value goes to the next positional, which alone can refuse it.
+pub value_turn : (s : Shape) (b : Bool) (h : Held) (position : ℕ) (word : Text) → IsTaken b word
+    → (walked s.rules [] (at b h position) word ≡ to_positional s.rules (arg_by_index s.rules position) word (at b h position) h)
+    × (turn_fault s [] (at b h position) word ≡ step_fault s position h value)
+unfolding walked
+value_turn s true h position word taken = (refl, refl)
+value_turn s false h position word taken = plain_turn s idle h position word taken
 
 -- ---- the walk of a command
 
@@ -92,89 +115,153 @@ goes s from next to word words step well (ends, passes) = (
       ∙ ap (λ w. walk_fault s [] w words) step ∙ passes,
 )
 
-over_hyphens : (s : Shape) (h : Collected) (position : ℕ) (words : List Text) (to : Walk) → Goes s (at true h position) words to
+pub none_of : (a b : Kinds) → or_else a b ≡ [] → (a ≡ []) × (b ≡ [])
+none_of [] b none = (refl, none)
+none_of (k ∷ ks) b none = cc
+
+pub goes_on : (s : Shape) (from mid to : Walk) (words more : List Text) → Goes s from words mid → Goes s mid more to → Goes s from (words ++ more) to
+unfolding walk_fault
+goes_on s from mid to [] more (ends, passes) rest = subst (λ w. Goes s w more to) (sym ends) rest
+goes_on s from mid to (word ∷ words) more (ends, passes) rest =
+    let (turn, others) = none_of (turn_fault s [] from word) (walk_fault s [] (walked s.rules [] from word) words) passes in
+    goes s from (walked s.rules [] from word) to word (words ++ more) refl turn
+    (goes_on s (walked s.rules [] from word) mid to words more (ends, others) rest)
+
+pub over_hyphens : (s : Shape) (h : Held) (position : ℕ) (words : List Text) (to : Walk) → Goes s (at true h position) words to
     → Goes s (at false h position) (codes "--" ∷ words) to
 unfolding walked
 over_hyphens s h position words to rest = goes s (at false h position) (at true h position) to (codes "--") words refl refl rest
 
--- The positional at this place takes the word: the matches are `next` then, and the next place follows.
-abbrev pub Takes : Shape → Bool → ℕ → Collected → Text → Collected → Type 0
-Takes s b position h word next =
-    to_positional s.rules (arg_by_index s.rules position) word (at b h position) h ≡ at b next (position + 1)
+-- the faults at the end of a command's walk
+abbrev pub end_fault : Shape → Held → Kinds
+end_fault s h = or_else (settle_fault s.rules s.args_override_self h)
+    (or_else (defaults_fault (settled s.rules h).rows s.rules) (check_fault s (finished s.rules h) false))
 
-pub record TakesValue (s : Shape) (position : ℕ) (h : Collected) (word : Text) (next : Collected) : Type 0 where
-  pub before : Takes s false position h word next
-  pub after : Takes s true position h word next
-  pub well : step_fault s position h value ≡ []
+-- ---- values, one for each positional
 
-pub takes_either : (s : Shape) (b : Bool) (position : ℕ) (h : Collected) (word : Text) (next : Collected)
-    → TakesValue s position h word next → Takes s b position h word next
-takes_either s true position h word next takes = takes.after
-takes_either s false position h word next takes = takes.before
+-- what is held after one value, and after all
+abbrev pub after_value : Shape → ℕ → Text → Held → Held
+after_value s position word h = (to_positional s.rules (arg_by_index s.rules position) word (at false h position) h).held
 
--- The positionals from this place on take these words: the matches are `to` then, at place `last`.
-abbrev pub TakesAll : Shape → ℕ → Collected → List Text → ℕ → Collected → Type 0
-TakesAll s position h [] last to = (h ≡ to) × (position ≡ last)
-TakesAll s position h (word ∷ words) last to =
-    (next : Collected) × TakesValue s position h word next × TakesAll s (position + 1) next words last to
+abbrev pub after_values : Shape → ℕ → Held → List Text → Held
+after_values s position h [] = h
+after_values s position h (word ∷ words) = after_values s (position + 1) (after_value s position word h) words
 
-abbrev pub AllTaken : Bool → List Text → Type 0
-AllTaken b [] = ⊤
-AllTaken b (word ∷ words) = IsTaken b word × AllTaken b words
+-- the place after them
+abbrev pub place_after : ℕ → List Text → ℕ
+place_after position [] = position
+place_after position (word ∷ words) = place_after (position + 1) words
 
-pub plain_taken : (words : List Text) → ArePlainWords words → AllTaken false words
-plain_taken [] plain = tt
-plain_taken (word ∷ words) (first, others) = (first, plain_taken words others)
+abbrev pub no_fault : Kinds → Bool
+no_fault [] = true
+no_fault (k ∷ ks) = false
 
-pub any_taken : (words : List Text) → AllTaken true words
-any_taken [] = tt
-any_taken (word ∷ words) = (tt, any_taken words)
+-- The positional at this place has one value. Nothing was wrong before it, and the line can't end there.
+abbrev has_one_value : Option Rule → ℕ → Bool
+has_one_value None position = false
+has_one_value (Some a) position = not (is_multiple a) && (not a.trailing_var_arg && nat_lt position usize_max)
 
-pub over_all : (s : Shape) (b : Bool) (position : ℕ) (h : Collected) (words : List Text) (last : ℕ) (to : Collected)
-    → AllTaken b words → TakesAll s position h words last to → Goes s (at b h position) words (at b to last)
-over_all s b position h [] last to taken (same, ends) = stays s (at b h position) (at b to last) (ap₂ (λ x n. at b x n) same ends)
-over_all s b position h (word ∷ words) last to (first, others) (next, takes, rest) =
-    goes s (at b h position) (at b next (position + 1)) (at b to last) word words
-    (word_walks s.rules b position word h first ∙ takes_either s b position h word next takes)
-    (turn_passes s b position word h first ∙ takes.well)
-    (over_all s b (position + 1) next words last to others rest)
+abbrev wants_value : Shape → ℕ → Held → Bool
+wants_value s position h = has_one_value (arg_by_index s.rules position) position
+    && (no_fault (step_fault s position h value) && not (no_fault (end_fault s h)))
 
--- also with `--` among the words of the values
-over_before : (s : Shape) (position : ℕ) (h : Collected) (before after : List Text) (last : ℕ) (to : Collected)
-    → ArePlainWords before → TakesAll s position h (before ++ after) last to
-    → Goes s (at false h position) (before ++ codes "--" ∷ after) (at true to last)
-over_before s position h [] after last to plain takes =
-    over_hyphens s h position after (at true to last) (over_all s true position h after last to (any_taken after) takes)
-over_before s position h (word ∷ before) after last to (first, others) (next, takes, rest) =
-    goes s (at false h position) (at false next (position + 1)) (at true to last) word (before ++ codes "--" ∷ after)
-    (word_walks s.rules false position word h first ∙ takes.before)
-    (turn_passes s false position word h first ∙ takes.well)
-    (over_before s (position + 1) next before after last to others rest)
+-- There is no more positional, and the line can end.
+abbrev wants_none : Shape → ℕ → Held → Bool
+wants_none s position h = not (is_some (arg_by_index s.rules position)) && no_fault (end_fault s h)
 
-over_given : (s : Shape) (position : ℕ) (h : Collected) (words values : List Text) (last : ℕ) (to : Collected)
-    → GivesValues words values → TakesAll s position h values last to
-    → (b : Bool) × Goes s (at false h position) words (at b to last)
-over_given s position h words values last to (inl (same, plain)) takes = (
+-- The command waits for n values.
+abbrev pub Waits : Shape → ℕ → ℕ → Held → Type 0
+Waits s zero position h = (h.skip ≡ 0) × (wants_none s position h ≡ true)
+Waits s (suc n) position h = (h.skip ≡ 0) × (wants_value s position h ≡ true)
+    × ((word : Text) → Waits s n (position + 1) (after_value s position word h))
+
+pub skips : (s : Shape) (n position : ℕ) (h : Held) → Waits s n position h → h.skip ≡ 0
+skips s zero position h waits = waits.0
+skips s (suc n) position h waits = waits.0
+
+none_is : (ks : Kinds) → no_fault ks ≡ true → ks ≡ []
+none_is [] none = refl
+none_is (k ∷ ks) none = absurd (false≢true none)
+
+some_is : (ks : Kinds) → not (no_fault ks) ≡ true → ks ≢ []
+some_is [] some none = false≢true some
+some_is (k ∷ ks) some none = cc
+
+-- Such a positional takes a value, before `--` and after it.
+takes_one : (c : List Rule) (rule : Option Rule) (b : Bool) (position : ℕ) (word : Text) (h : Held) → has_one_value rule position ≡ true
+    → to_positional c rule word (at b h position) h ≡ at b (to_positional c rule word (at false h position) h).held (position + 1)
+takes_one c None b position word h one = absurd (false≢true one)
+takes_one c (Some a) b position word h one =
+    let (single, rest) = both (not (is_multiple a)) (not a.trailing_var_arg && nat_lt position usize_max) one in
+    let (free, low) = both (not a.trailing_var_arg) (nat_lt position usize_max) rest in
+    let next : min (position + 1) usize_max ≡ position + 1 = grind (arith, low) in
+    rw (not-true _ single, not-true _ free, next, or-false b) refl
+
+pub wanted : (s : Shape) (b : Bool) (position : ℕ) (h : Held) (word : Text) → wants_value s position h ≡ true
+    → (to_positional s.rules (arg_by_index s.rules position) word (at b h position) h ≡ at b (after_value s position word h) (position + 1))
+    × (step_fault s position h value ≡ []) × (end_fault s h ≢ [])
+wanted s b position h word wants =
+    let (one, rest) = both (has_one_value (arg_by_index s.rules position) position) (no_fault (step_fault s position h value) && not (no_fault (end_fault s h))) wants in
+    let (well, misses) = both (no_fault (step_fault s position h value)) (not (no_fault (end_fault s h))) rest in
+    (takes_one s.rules (arg_by_index s.rules position) b position word h one, none_is _ well, some_is _ misses)
+
+pub not_wanted : (s : Shape) (position : ℕ) (h : Held) → wants_none s position h ≡ true
+    → (arg_by_index s.rules position ≡ None) × (end_fault s h ≡ [])
+not_wanted s position h wants =
+    let (none, well) = both (not (is_some (arg_by_index s.rules position))) (no_fault (end_fault s h)) wants in
+    (no_rule (arg_by_index s.rules position) none, none_is _ well)
+  where
+    no_rule : (rule : Option Rule) → not (is_some rule) ≡ true → rule ≡ None
+    no_rule None none = refl
+    no_rule (Some a) none = absurd (false≢true none)
+
+-- The walk passes as many values as the command waits for,
+pub over_values : (s : Shape) (b : Bool) (position : ℕ) (h : Held) (values : List Text) → Waits s (length values) position h → AllTaken b values
+    → Goes s (at b h position) values (at b (after_values s position h values) (place_after position values))
+over_values s b position h [] waits taken = stays s (at b h position) (at b h position) refl
+over_values s b position h (word ∷ words) (skips, wants, waits) (first, others) =
+    let (takes, well, misses) = wanted s b position h word wants in
+    let (walks, turns) = value_turn s b h position word first in
+    goes s (at b h position) (at b (after_value s position word h) (position + 1)) _ word words (walks ∙ takes) (turns ∙ well)
+    (over_values s b (position + 1) (after_value s position word h) words (waits word) others)
+
+-- also with `--` among them,
+over_before : (s : Shape) (position : ℕ) (h : Held) (before after : List Text) → Waits s (length (before ++ after)) position h
+    → ArePlainWords before → Goes s (at false h position) (before ++ codes "--" ∷ after)
+    (at true (after_values s position h (before ++ after)) (place_after position (before ++ after)))
+over_before s position h [] after waits plain =
+    over_hyphens s h position after _ (over_values s true position h after waits (any_taken after))
+over_before s position h (word ∷ before) after (skips, wants, waits) (first, others) =
+    let (takes, well, misses) = wanted s false position h word wants in
+    let (walks, turns) = value_turn s false h position word first in
+    goes s (at false h position) (at false (after_value s position word h) (position + 1)) _ word (before ++ codes "--" ∷ after) (walks ∙ takes) (turns ∙ well)
+    (over_before s (position + 1) (after_value s position word h) before after (waits word) others)
+
+over_given : (s : Shape) (position : ℕ) (h : Held) (words values : List Text) → Waits s (length values) position h → GivesValues words values
+    → (b : Bool) × Goes s (at false h position) words (at b (after_values s position h values) (place_after position values))
+over_given s position h words values waits (inl (same, plain)) = (
   false,
-  subst (λ l. Goes s (at false h position) l (at false to last)) (sym same)
-      (over_all s false position h values last to (plain_taken values plain) takes),
+  subst (λ l. Goes s (at false h position) l (at false (after_values s position h values) (place_after position values))) (sym same)
+      (over_values s false position h values waits (plain_taken values plain)),
 )
-over_given s position h words values last to (inr (before, after, same, parts, plain)) takes = (
+over_given s position h words values waits (inr (before, after, same, parts, plain)) = (
   true,
-  subst (λ l. Goes s (at false h position) l (at true to last)) (sym same)
-      (over_before s position h before after last to plain (subst (λ l. TakesAll s position h l last to) parts takes)),
+  subst (λ l. Goes s (at false h position) words (at true (after_values s position h l) (place_after position l))) (sym parts)
+      (subst (λ l. Goes s (at false h position) l (at true (after_values s position h (before ++ after)) (place_after position (before ++ after)))) (sym same)
+      (over_before s position h before after (subst (λ l. Waits s (length l) position h) parts waits) plain)),
 )
 
--- the faults at the end of a walk that enters no subcommand
-abbrev pub end_fault : Shape → Walk → Kinds
-end_fault s w = or_else (settle_fault s.rules s.args_override_self w.held)
-    (or_else (defaults_fault (settled s.rules w.held).rows s.rules) (check_fault s (finished s.rules w.held) false))
+-- and then the line can end.
+pub ends_well : (s : Shape) (position : ℕ) (h : Held) (values : List Text) → Waits s (length values) position h
+    → end_fault s (after_values s position h values) ≡ []
+ends_well s position h [] (skips, wants) = (not_wanted s position h wants).1
+ends_well s position h (word ∷ words) (skips, wants, waits) = ends_well s (position + 1) (after_value s position word h) words (waits word)
 
 -- ---- the program's walk, up to a command's name
 
 -- where it stops: at this name, with these words after it
 abbrev pub stopped_at : Text → List Text → Walk
-stopped_at name words = record (walk_from nothing_collected) { stopped = Some (name, words) }
+stopped_at name words = record (walk_from nothing_held) { stopped = Some (name, words) }
 
 stops : (c : List Rule) (subcommands : Names) (name : Text) (words more : List Text)
     → fold (walked c subcommands) (stopped_at name words) more ≡ stopped_at name (words ++ more)
@@ -193,7 +280,7 @@ abbrev pub whole : App
 whole = built hbsign_app
 
 -- the faults of a line, by the faults of its walk and its end
-abbrev pub whole_fault : Walk → Kinds → Kinds
+abbrev whole_fault : Walk → Kinds → Kinds
 whole_fault w walking = or_else walking (or_else (entered_fault whole w.stopped)
     (or_else (settle_fault whole.top.rules whole.top.args_override_self w.held)
     (or_else (defaults_fault (settled whole.top.rules w.held).rows whole.top.rules)
@@ -201,286 +288,74 @@ whole_fault w walking = or_else walking (or_else (entered_fault whole w.stopped)
 
 -- The walk stops at this name, and the faults and rows of the words after it are the command's.
 pub record Enters (name : Text) (s : Shape) : Type 0 where
-  pub step : walked whole.top.rules (names_of whole) (walk_from nothing_collected) name ≡ stopped_at name []
-  pub well : turn_fault whole.top (names_of whole) (walk_from nothing_collected) name ≡ []
+  pub step : walked whole.top.rules (names_of whole) (walk_from nothing_held) name ≡ stopped_at name []
+  pub well : turn_fault whole.top (names_of whole) (walk_from nothing_held) name ≡ []
   pub rows : (words : List Text) → entered whole (Some (name, words)) ≡ Some (name, rows_after s.rules [] words)
   pub fault : (words : List Text)
-      → whole_fault (stopped_at name words) [] ≡ or_else (level_fault s [] nothing_collected words false []) []
+      → whole_fault (stopped_at name words) [] ≡ or_else (level_fault s [] nothing_held words false []) []
 
-line_walk : (name : Text) (s : Shape) (names : List Text) → Enters name s
-    → walk whole.top.rules (names_of whole) nothing_collected (name ∷ names) ≡ stopped_at name names
-line_walk name s names enters =
-    ap (λ w. fold (walked whole.top.rules (names_of whole)) w names) enters.step ∙ stops whole.top.rules (names_of whole) name [] names
+pub line_walk : (name : Text) (names : List Text) → walked whole.top.rules (names_of whole) (walk_from nothing_held) name ≡ stopped_at name []
+    → walk whole.top.rules (names_of whole) nothing_held (name ∷ names) ≡ stopped_at name names
+line_walk name names step =
+    ap (λ w. fold (walked whole.top.rules (names_of whole)) w names) step ∙ stops whole.top.rules (names_of whole) name [] names
 
 line_well : (name : Text) (s : Shape) (names : List Text) → Enters name s
-    → walk_fault whole.top (names_of whole) (walk_from nothing_collected) (name ∷ names) ≡ []
+    → walk_fault whole.top (names_of whole) (walk_from nothing_held) (name ∷ names) ≡ []
 unfolding walk_fault
 line_well name s names enters =
-    ap (λ k. or_else k (walk_fault whole.top (names_of whole) (walked whole.top.rules (names_of whole) (walk_from nothing_collected) name) names)) enters.well
+    ap (λ k. or_else k (walk_fault whole.top (names_of whole) (walked whole.top.rules (names_of whole) (walk_from nothing_held) name) names)) enters.well
     ∙ ap (λ w. walk_fault whole.top (names_of whole) w names) enters.step ∙ stops_well whole.top (names_of whole) name [] names
 
 -- The rows and faults of the line are the command's.
 pub entered_rows : (name : Text) (s : Shape) (names : List Text) → Enters name s
     → subcommand_of hbsign_app (name ∷ names) ≡ Some (name, rows_after s.rules [] names)
-entered_rows name s names enters = ap (λ (w : Walk). entered whole w.stopped) (line_walk name s names enters) ∙ enters.rows names
+entered_rows name s names enters = ap (λ (w : Walk). entered whole w.stopped) (line_walk name names enters.step) ∙ enters.rows names
 
 pub entered_faults : (name : Text) (s : Shape) (names : List Text) → Enters name s
-    → fault_of hbsign_app (name ∷ names) ≡ or_else (level_fault s [] nothing_collected names false []) []
+    → fault_of hbsign_app (name ∷ names) ≡ or_else (level_fault s [] nothing_held names false []) []
 entered_faults name s names enters =
-    ap (λ w. whole_fault w (walk_fault whole.top (names_of whole) (walk_from nothing_collected) (name ∷ names))) (line_walk name s names enters)
+    ap (λ w. whole_fault w (walk_fault whole.top (names_of whole) (walk_from nothing_held) (name ∷ names))) (line_walk name names enters.step)
     ∙ ap (whole_fault (stopped_at name names)) (line_well name s names enters) ∙ enters.fault names
 
--- A command's line has no fault and these rows, if all values are taken, and nothing is wrong at its end.
-pub takes_line : (words : List Text) (name : Text) (values : List Text) (s : Shape) (last : ℕ) (to : Collected) → Enters name s
-    → TakesAll s 1 nothing_collected values last to → ((b : Bool) → end_fault s (at b to last) ≡ []) → IsCommandLine words name values
-    → (fault_of hbsign_app words ≡ []) × (subcommand_of hbsign_app words ≡ Some (name, finished s.rules to))
-takes_line words name values s last to enters takes well (names, same, given) =
-    let (b, (ends, passes)) = over_given s 1 nothing_collected names values last to given takes in
-    let level : level_fault s [] nothing_collected names false [] ≡ [] =
-    ap (λ k. or_else k (end_fault s (walk s.rules [] nothing_collected names))) passes ∙ ap (end_fault s) ends ∙ well b in (
-      ap (fault_of hbsign_app) same ∙ entered_faults name s names enters ∙ ap (λ k. or_else k []) level,
-      ap (subcommand_of hbsign_app) same ∙ entered_rows name s names enters
-          ∙ ap (λ (w : Walk). Some (name, finished s.rules w.held)) ends,
+-- ---- every line of a command
+
+-- a command's shape, as `clap` builds it
+abbrev pub shape : App → Shape
+shape app = built_leaf (inherited (with_leaf_noted (marked_built hbsign_app.top)) app.top)
+
+-- A command that waits for n values.
+pub record Command (app : App) (n : ℕ) : Type 0 where
+  pub enters : Enters app.top.name (shape app)
+  pub waits : Waits (shape app) n 1 nothing_held
+
+-- what is held after its values
+abbrev pub held_after : App → List Text → Held
+held_after app values = after_values (shape app) 1 nothing_held values
+
+-- what is requested by what is held at the end
+abbrev pub requested : App → Held → Result Task UsageFault
+requested app held = task_found (Some (app.top.name, finished (shape app).rules held))
+
+-- `clap` accepts the words, and finds this.
+abbrev pub Finds : List Text → Result Task UsageFault → Type 0
+Finds words found = (fault_of hbsign_app words ≡ []) × (task_found (subcommand_of hbsign_app words) ≡ found)
+
+-- .. if the walk passes the words of a command, and nothing is wrong at its end.
+pub finds_walk : (app : App) (words names : List Text) (to : Walk) → Enters app.top.name (shape app) → words ≡ app.top.name ∷ names
+    → Goes (shape app) (at false nothing_held 1) names to → end_fault (shape app) to.held ≡ [] → Finds words (requested app to.held)
+finds_walk app words names to enters same (ends, passes) well =
+    let s = shape app in
+    let level : level_fault s [] nothing_held names false [] ≡ [] =
+    ap (λ k. or_else k (end_fault s (walk s.rules [] nothing_held names).held)) passes ∙ ap (λ (w : Walk). end_fault s w.held) ends ∙ well in (
+      ap (fault_of hbsign_app) same ∙ entered_faults app.top.name s names enters ∙ ap (λ k. or_else k []) level,
+      ap (λ l. task_found (subcommand_of hbsign_app l)) same ∙ ap task_found (entered_rows app.top.name s names enters)
+          ∙ ap (λ (w : Walk). requested app w.held) ends,
     )
 
--- ---- verify
-
-abbrev pub verify_shape : Shape
-verify_shape = built_leaf (inherited (with_leaf_noted (marked_built hbsign_app.top)) verify_app.top)
-
-pub enters_verify : Enters (codes "verify") verify_shape
-unfolding clap_on_literals
-enters_verify = record { step = refl; well = refl; rows = λ words. refl; fault = λ words. refl }
-
--- the matches after a first word
-abbrev pub first_collected : Text → Text → Collected
-first_collected id word = record nothing_collected { pending = Some (id, word ∷ []) }
-
--- .. and after one more
-abbrev pub next_collected : Shape → ℕ → Text → Collected → Collected
-next_collected s position word h = (to_positional s.rules (arg_by_index s.rules position) word (at false h position) h).held
-
-abbrev pub verify_1 : Text → Collected
-verify_1 p = first_collected (codes "PUBLIC") p
-
-abbrev pub verify_2 : Text → Text → Collected
-verify_2 p m = next_collected verify_shape 2 m (verify_1 p)
-
-abbrev pub verify_3 : Text → Text → Text → Collected
-verify_3 p m s = next_collected verify_shape 3 s (verify_2 p m)
-
-pub takes_public : (p : Text) → TakesValue verify_shape 1 nothing_collected p (verify_1 p)
-takes_public p = record { before = refl; after = refl; well = refl }
-
-pub takes_message : (p m : Text) → TakesValue verify_shape 2 (verify_1 p) m (verify_2 p m)
-takes_message p m = record { before = refl; after = refl; well = refl }
-
-pub takes_signature : (p m s : Text) → TakesValue verify_shape 3 (verify_2 p m) s (verify_3 p m s)
-takes_signature p m s = record { before = refl; after = refl; well = refl }
-
-verify_ends : (p m s : Text) (b : Bool) → end_fault verify_shape (at b (verify_3 p m s) 4) ≡ []
-unfolding clap_on_literals
-verify_ends p m s b = refl
-
-verify_found : (p m s : Text) → task_found (Some (codes "verify", finished verify_shape.rules (verify_3 p m s))) ≡ Ok (verify p m s)
-verify_found p m s = refl
-
--- ---- retire
-
-abbrev pub retire_shape : Shape
-retire_shape = built_leaf (inherited (with_leaf_noted (marked_built hbsign_app.top)) retire_app.top)
-
-pub enters_retire : Enters (codes "retire") retire_shape
-unfolding clap_on_literals
-enters_retire = record { step = refl; well = refl; rows = λ words. refl; fault = λ words. refl }
-
-abbrev pub retire_1 : Text → Collected
-retire_1 state = first_collected (codes "STATE") state
-
-abbrev pub retire_2 : Text → Text → Collected
-retire_2 state upto = next_collected retire_shape 2 upto (retire_1 state)
-
-pub takes_state : (state : Text) → TakesValue retire_shape 1 nothing_collected state (retire_1 state)
-takes_state state = record { before = refl; after = refl; well = refl }
-
-pub takes_upto : (state upto : Text) → TakesValue retire_shape 2 (retire_1 state) upto (retire_2 state upto)
-takes_upto state upto = record { before = refl; after = refl; well = refl }
-
-retire_ends : (state upto : Text) (b : Bool) → end_fault retire_shape (at b (retire_2 state upto) 3) ≡ []
-unfolding clap_on_literals
-retire_ends state upto b = refl
-
-retire_found : (state upto : Text)
-    → task_found (Some (codes "retire", finished retire_shape.rules (retire_2 state upto))) ≡ retire_task (Some state) (Some upto)
-retire_found state upto = refl
-
--- ---- migrate
-
-abbrev pub migrate_shape : Shape
-migrate_shape = built_leaf (inherited (with_leaf_noted (marked_built hbsign_app.top)) migrate_app.top)
-
-pub enters_migrate : Enters (codes "migrate") migrate_shape
-unfolding clap_on_literals
-enters_migrate = record { step = refl; well = refl; rows = λ words. refl; fault = λ words. refl }
-
-abbrev pub migrate_1 : Text → Collected
-migrate_1 old = first_collected (codes "OLD") old
-
-abbrev pub migrate_2 : Text → Text → Collected
-migrate_2 old new = next_collected migrate_shape 2 new (migrate_1 old)
-
-pub takes_old : (old : Text) → TakesValue migrate_shape 1 nothing_collected old (migrate_1 old)
-takes_old old = record { before = refl; after = refl; well = refl }
-
-pub takes_new : (old new : Text) → TakesValue migrate_shape 2 (migrate_1 old) new (migrate_2 old new)
-takes_new old new = record { before = refl; after = refl; well = refl }
-
-migrate_ends : (old new : Text) (b : Bool) → end_fault migrate_shape (at b (migrate_2 old new) 3) ≡ []
-unfolding clap_on_literals
-migrate_ends old new b = refl
-
-migrate_found : (old new : Text) → task_found (Some (codes "migrate", finished migrate_shape.rules (migrate_2 old new))) ≡ Ok (migrate old new)
-migrate_found old new = refl
-
--- ---- list
-
-abbrev pub list_shape : Shape
-list_shape = built_leaf (inherited (with_leaf_noted (marked_built hbsign_app.top)) list_app.top)
-
-pub enters_list : Enters (codes "list") list_shape
-unfolding clap_on_literals
-enters_list = record { step = refl; well = refl; rows = λ words. refl; fault = λ words. refl }
-
-abbrev pub list_1 : Text → Collected
-list_1 state = first_collected (codes "STATE") state
-
-pub takes_listed : (state : Text) → TakesValue list_shape 1 nothing_collected state (list_1 state)
-takes_listed state = record { before = refl; after = refl; well = refl }
-
-list_ends : (state : Text) (b : Bool) → end_fault list_shape (at b (list_1 state) 2) ≡ []
-unfolding clap_on_literals
-list_ends state b = refl
-
-list_found : (state : Text) → task_found (Some (codes "list", finished list_shape.rules (list_1 state))) ≡ Ok (list state)
-list_found state = refl
-
--- ---- public
-
-abbrev pub public_shape : Shape
-public_shape = built_leaf (inherited (with_leaf_noted (marked_built hbsign_app.top)) public_app.top)
-
-pub enters_public : Enters (codes "public") public_shape
-unfolding clap_on_literals
-enters_public = record { step = refl; well = refl; rows = λ words. refl; fault = λ words. refl }
-
-abbrev pub public_1 : Text → Collected
-public_1 state = first_collected (codes "STATE") state
-
-abbrev pub public_2 : Text → Text → Collected
-public_2 state path = next_collected public_shape 2 path (public_1 state)
-
-pub takes_published : (state : Text) → TakesValue public_shape 1 nothing_collected state (public_1 state)
-takes_published state = record { before = refl; after = refl; well = refl }
-
-pub takes_path : (state path : Text) → TakesValue public_shape 2 (public_1 state) path (public_2 state path)
-takes_path state path = record { before = refl; after = refl; well = refl }
-
-public_ends : (state path : Text) (b : Bool) → end_fault public_shape (at b (public_2 state path) 3) ≡ []
-unfolding clap_on_literals
-public_ends state path b = refl
-
-public_found : (state path : Text) → task_found (Some (codes "public", finished public_shape.rules (public_2 state path))) ≡ Ok (publish state path)
-public_found state path = refl
-
--- ---- make and sign
-
-abbrev pub make_shape : Shape
-make_shape = built_leaf (inherited (with_leaf_noted (marked_built hbsign_app.top)) make_app.top)
-
-pub enters_make : Enters (codes "make") make_shape
-unfolding clap_on_literals
-enters_make = record { step = refl; well = refl; rows = λ words. refl; fault = λ words. refl }
-
-abbrev pub sign_shape : Shape
-sign_shape = built_leaf (inherited (with_leaf_noted (marked_built hbsign_app.top)) sign_app.top)
-
-pub enters_sign : Enters (codes "sign") sign_shape
-unfolding clap_on_literals
-enters_sign = record { step = refl; well = refl; rows = λ words. refl; fault = λ words. refl }
-
--- ---- serve
-
-abbrev pub serve_shape : Shape
-serve_shape = built_leaf (inherited (with_leaf_noted (marked_built hbsign_app.top)) serve_app.top)
-
-pub enters_serve : Enters (codes "serve") serve_shape
-unfolding clap_on_literals
-enters_serve = record { step = refl; well = refl; rows = λ words. refl; fault = λ words. refl }
-
--- ---- audit and audit-given
-
-abbrev pub audit_shape : Shape
-audit_shape = built_leaf (inherited (with_leaf_noted (marked_built hbsign_app.top)) audit_app.top)
-
-pub enters_audit : Enters (codes "audit") audit_shape
-unfolding clap_on_literals
-enters_audit = record { step = refl; well = refl; rows = λ words. refl; fault = λ words. refl }
-
-abbrev pub audit_given_shape : Shape
-audit_given_shape = built_leaf (inherited (with_leaf_noted (marked_built hbsign_app.top)) audit_given_app.top)
-
-pub enters_audit_given : Enters (codes "audit-given") audit_given_shape
-unfolding clap_on_literals
-enters_audit_given = record { step = refl; well = refl; rows = λ words. refl; fault = λ words. refl }
-
--- ---- every line of a task
-
--- A line of each of these commands has no fault, and its task.
-pub finds_verify : (words : List Text) (p m s : Text) → IsCommandLine words (codes "verify") (p ∷ m ∷ s ∷ [])
-    → (fault_of hbsign_app words ≡ []) × (task_found (subcommand_of hbsign_app words) ≡ Ok (verify p m s))
-finds_verify words p m s line =
-    let (none, rows) = takes_line words (codes "verify") (p ∷ m ∷ s ∷ []) verify_shape 4 (verify_3 p m s) enters_verify
-    (verify_1 p, takes_public p, (verify_2 p m, takes_message p m, (verify_3 p m s, takes_signature p m s, (refl, refl))))
-    (verify_ends p m s) line in (none, ap task_found rows ∙ verify_found p m s)
-
-pub finds_migrate : (words : List Text) (old new : Text) → IsCommandLine words (codes "migrate") (old ∷ new ∷ [])
-    → (fault_of hbsign_app words ≡ []) × (task_found (subcommand_of hbsign_app words) ≡ Ok (migrate old new))
-finds_migrate words old new line =
-    let (none, rows) = takes_line words (codes "migrate") (old ∷ new ∷ []) migrate_shape 3 (migrate_2 old new) enters_migrate
-    (migrate_1 old, takes_old old, (migrate_2 old new, takes_new old new, (refl, refl)))
-    (migrate_ends old new) line in (none, ap task_found rows ∙ migrate_found old new)
-
-pub finds_list : (words : List Text) (state : Text) → IsCommandLine words (codes "list") (state ∷ [])
-    → (fault_of hbsign_app words ≡ []) × (task_found (subcommand_of hbsign_app words) ≡ Ok (list state))
-finds_list words state line =
-    let (none, rows) = takes_line words (codes "list") (state ∷ []) list_shape 2 (list_1 state) enters_list
-    (list_1 state, takes_listed state, (refl, refl)) (list_ends state) line in (none, ap task_found rows ∙ list_found state)
-
-pub finds_public : (words : List Text) (state path : Text) → IsCommandLine words (codes "public") (state ∷ path ∷ [])
-    → (fault_of hbsign_app words ≡ []) × (task_found (subcommand_of hbsign_app words) ≡ Ok (publish state path))
-finds_public words state path line =
-    let (none, rows) = takes_line words (codes "public") (state ∷ path ∷ []) public_shape 3 (public_2 state path) enters_public
-    (public_1 state, takes_published state, (public_2 state path, takes_path state path, (refl, refl)))
-    (public_ends state path) line in (none, ap task_found rows ∙ public_found state path)
-
-pub finds_retire : (words : List Text) (state upto : Text) → IsCommandLine words (codes "retire") (state ∷ upto ∷ [])
-    → (fault_of hbsign_app words ≡ []) × (task_found (subcommand_of hbsign_app words) ≡ retire_task (Some state) (Some upto))
-finds_retire words state upto line =
-    let (none, rows) = takes_line words (codes "retire") (state ∷ upto ∷ []) retire_shape 3 (retire_2 state upto) enters_retire
-    (retire_1 state, takes_state state, (retire_2 state upto, takes_upto state upto, (refl, refl)))
-    (retire_ends state upto) line in (none, ap task_found rows ∙ retire_found state upto)
-
--- The line of a task has no fault, and `clap` finds the task.
-pub finds_task : (words : List Text) (task : Task) → IsLineOf words task
-    → (fault_of hbsign_app words ≡ []) × (task_found (subcommand_of hbsign_app words) ≡ Ok task)
-finds_task words (make state public spec version random) found = found
-finds_task words (sign state name message out random) found = found
-finds_task words (verify p m s) line = finds_verify words p m s line
-finds_task words (retire state upto) (text, spells, line) =
-    let (none, found) = finds_retire words state text line in (none, found ∙ ap (retire_number state) spells)
-finds_task words (audit state anchor) found = found
-finds_task words (audit_given public files) found = found
-finds_task words (serve state random) found = found
-finds_task words (migrate old new) line = finds_migrate words old new line
-finds_task words (list state) line = finds_list words state line
-finds_task words (publish state path) line = finds_public words state path line
+-- after the command's values
+pub finds_values : (app : App) (values : List Text) → Command app (length values) → (words : List Text) → IsCommandLine words app.top.name values
+    → Finds words (requested app (held_after app values))
+finds_values app values command words (names, same, given) =
+    let (b, walks) = over_given (shape app) 1 nothing_held names values command.waits given in
+    finds_walk app words names (at b (held_after app values) (place_after 1 values)) command.enters same walks
+    (ends_well (shape app) 1 nothing_held values command.waits)

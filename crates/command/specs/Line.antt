@@ -170,38 +170,37 @@ abbrev pub audit_given_task : Option Text → Option (List Text) → Result Task
 audit_given_task (Some public) (Some paths) = audit_given_pairs public (path_pairs paths)
 audit_given_task _ _ = Err Command
 
--- the task of a command with a fixed number of values, by its name and the rows of its values
-abbrev pub fixed_task_named : Text → List Row → Result Task UsageFault
-fixed_task_named name rows =
+-- the task of a command with a fixed number of values, by its name and the values that are found
+abbrev pub fixed_task_named : (name : Text) (found : Text → Option Text) → Result Task UsageFault
+fixed_task_named name found =
     if bytes_eq name (codes "make")
-    then make_task (first_of (codes "STATE") rows) (first_of (codes "PUBLIC") rows) (first_of (codes "SPEC") rows)
-    (first_of (codes "format") rows) (first_of (codes "random") rows)
+    then make_task (found (codes "STATE")) (found (codes "PUBLIC")) (found (codes "SPEC")) (found (codes "format"))
+    (found (codes "random"))
     else (if bytes_eq name (codes "sign")
-    then sign_task (first_of (codes "STATE") rows) (first_of (codes "NAME") rows) (first_of (codes "MESSAGE") rows)
-    (first_of (codes "OUT") rows) (first_of (codes "random") rows)
+    then sign_task (found (codes "STATE")) (found (codes "NAME")) (found (codes "MESSAGE")) (found (codes "OUT"))
+    (found (codes "random"))
     else (if bytes_eq name (codes "verify")
-    then verify_task (first_of (codes "PUBLIC") rows) (first_of (codes "MESSAGE") rows)
-    (first_of (codes "SIGNATURE") rows)
+    then verify_task (found (codes "PUBLIC")) (found (codes "MESSAGE")) (found (codes "SIGNATURE"))
     else (if bytes_eq name (codes "retire")
-    then retire_task (first_of (codes "STATE") rows) (first_of (codes "UPTO") rows)
+    then retire_task (found (codes "STATE")) (found (codes "UPTO"))
     else (if bytes_eq name (codes "audit")
-    then audit_task (first_of (codes "STATE") rows) (first_of (codes "count") rows) (first_of (codes "tag") rows)
+    then audit_task (found (codes "STATE")) (found (codes "count")) (found (codes "tag"))
     else (if bytes_eq name (codes "serve")
-    then serve_task (first_of (codes "STATE") rows) (first_of (codes "random") rows)
+    then serve_task (found (codes "STATE")) (found (codes "random"))
     else (if bytes_eq name (codes "migrate")
-    then migrate_task (first_of (codes "OLD") rows) (first_of (codes "NEW") rows)
+    then migrate_task (found (codes "OLD")) (found (codes "NEW"))
     else (if bytes_eq name (codes "list")
-    then list_task (first_of (codes "STATE") rows)
+    then list_task (found (codes "STATE"))
     else (if bytes_eq name (codes "public")
-    then publish_task (first_of (codes "STATE") rows) (first_of (codes "PUBLIC") rows)
+    then publish_task (found (codes "STATE")) (found (codes "PUBLIC"))
     else Err Command))))))))
 
--- .. of any command
+-- .. of any command, by the rows of its values
 abbrev pub task_named : Text → List Row → Result Task UsageFault
 task_named name rows =
     if bytes_eq name (codes "audit-given")
     then audit_given_task (first_of (codes "PUBLIC") rows) (all_of (codes "FILES") rows)
-    else fixed_task_named name rows
+    else fixed_task_named name (λ id. first_of id rows)
 
 abbrev pub task_found : Option (Text × List Row) → Result Task UsageFault
 task_found None = Err Command

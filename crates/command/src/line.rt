@@ -2,7 +2,7 @@
 
 ghost use Rattle.std.specs.Prelude.{◌≡◌, ◌≢◌, ◌⊎◌, ◌+◌, ℕ, [], Ok, IfErr, IfOk, MatchResult, map};
 ghost use Rattle.clap.specs.Words.{HasKind, app_of, fault_of, kind_of, subcommand_of, subcommand_rows_of};
-ghost use Rattle.clap.specs.Words.{found_of, rows_of};
+ghost use Rattle.clap.specs.Words.{first_value, found_of};
 ghost use Rattle.command.specs.Line.{AreTexts, FindsTask, IsLineOf, IsShownLineOf, bare_app, fixed_task_named};
 ghost use Rattle.command.specs.Line.{hbsign_app, usage_kind, task_found, task_of};
 ghost use Rattle.command.specs.inner.Line.{task_or_fault};
@@ -296,7 +296,7 @@ fn find_request<'a>(
 
 // The request of a subcommand with a fixed number of values.
 fn find_fixed_request<'a>(name: &str, words: &ArgMatches<'a>) -> Result<Request<'a>, UsageFault>
-    ensures { task_or_fault result ≡ fixed_task_named name.now (rows_of (found_of words.now)) }
+    ensures { task_or_fault result ≡ fixed_task_named name.now (first_value (found_of words.now)) }
 {
     match name {
         Make::NAME => match Make::of(words) {
