@@ -129,7 +129,7 @@ fn run_line<'a, O: Output, E: Output>(
         },
         output,
         errors,
-        &Bar::new(rt, standard),
+        &&Bar::new(rt, standard),
     )
 }
 

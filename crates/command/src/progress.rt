@@ -13,7 +13,7 @@ use crate::foreground::is_in_foreground;
 use crate::number::read_number;
 use crate::standard::Standard;
 use arrayvec::ArrayVec;
-use sign_core::TreeProgress;
+use sign_core::{Progress, TreeProgress};
 use std::cell::Cell;
 use std::env::{Env, FillError};
 use std::fs::{File, Files};
@@ -115,8 +115,8 @@ impl<'a, R: Env + Clock + Files<File = File>> Bar<'a, R> {
     }
 }
 
-impl<R: Env + Clock + Files<File = File>> TreeProgress for Bar<'_, R> {
-    fn begin(&self, level: u8, leaves: u64) {
+impl<R: Env + Clock + Files<File = File>> Bar<'_, R> {
+    fn begin_tree(&self, level: u8, leaves: u64) {
         if self.look.is_none() {
             return;
         }
@@ -136,7 +136,7 @@ impl<R: Env + Clock + Files<File = File>> TreeProgress for Bar<'_, R> {
         });
     }
 
-    fn tell(&self, made: u64) {
+    fn show_made(&self, made: u64) {
         let Some(look) = self.look else {
             return;
         };
@@ -161,6 +161,42 @@ impl<R: Env + Clock + Files<File = File>> TreeProgress for Bar<'_, R> {
             tree.shown = now;
         }
         self.tree.set(tree);
+    }
+}
+
+/// The leaves of one tree, which a bar shows.
+#[derive(Drop)]
+pub struct BarLeaves<'b, 'a, R> {
+    bar: &'b Bar<'a, R>,
+    level: u8,
+    told: u64,
+    leaves: u64,
+}
+
+impl<'b, 'a, R: Env + Clock + Files<File = File>> TreeProgress for &'b Bar<'a, R> {
+    type Tree = BarLeaves<'b, 'a, R>;
+
+    ghost level_of = { λ tree. tree.level };
+
+    fn begin(&self, level: u8, leaves: u64) -> BarLeaves<'b, 'a, R> {
+        self.begin_tree(level, leaves);
+        BarLeaves {
+            bar: *self,
+            level,
+            told: 0,
+            leaves,
+        }
+    }
+}
+
+impl<R: Env + Clock + Files<File = File>> Progress for BarLeaves<'_, '_, R> {
+    ghost told = { λ tree. tree.told };
+
+    ghost most = { λ tree. tree.leaves };
+
+    fn tell(&mut self, made: u64) {
+        self.told = made;
+        self.bar.show_made(made);
     }
 }
 

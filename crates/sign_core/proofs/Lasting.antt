@@ -22,7 +22,7 @@ use Rattle.sign_core.specs.inner.Cases.{extended, bound_trees}
 use Rattle.sign_core.proofs.Cases.{created_load, extended_identifier, extended_seed}
 use Rattle.sign_core.specs.World.{new_key, no_memory, open_state, opened, randomizer_of_fields, reopen}
 use Rattle.sign_core.proofs.Cases.{opened_illegal, opened_key, published, repeated}
-use Rattle.sign_core.specs.World.{request}
+use Rattle.sign_core.specs.World.{request, requested}
 use Rattle.sign_core.proofs.Cases.{repeated_sound}
 use Rattle.sign_core.specs.World.{retire, retired, run, secret_of_fields, stop, migrate}
 use Rattle.sign_core.specs.inner.Cases.{requested_binding}
@@ -36,21 +36,25 @@ use Rattle.state_file.specs.declared.record.Version.TheVariants.{One, Two}
 use Rattle.std.proofs.lemmas.Bool.{cases_Bool}
 use Rattle.std.specs.List.{AllByRecursion}
 
--- the records begin with these
-abbrev Grown : {A : Type 0} → List Record → Outcome A → Type 0
-Grown records outcome = (more : List Record) × (outcome.state.records ≡ records ++ more)
+abbrev Begins : (records all : List Record) → Type 0
+Begins records all = (more : List Record) × (all ≡ records ++ more)
 
-unchanged : (records : List Record) → (more : List Record) × (records ≡ records ++ more)
-unchanged records = ([], sym (append-nil records))
+-- the records begin with these, and so do the acknowledged ones
+abbrev Grown : {A : Type 0} → List Record → Outcome A → Type 0
+Grown records outcome = Begins records outcome.state.records × Begins records outcome.acknowledged
+
+unchanged : (records : List Record) → Begins records records × Begins records records
+unchanged records = (([], sym (append-nil records)), ([], sym (append-nil records)))
 
 grown_more : {A : Type 0} (records : List Record) (entry : Record) (outcome : Outcome A) → Grown (records ++ entry ∷ []) outcome → Grown records outcome
-grown_more records entry outcome (more, are) = (entry ∷ more, are ∙ append_assoc records (entry ∷ []) more)
+grown_more records entry outcome ((more, are), (kept, have)) =
+    ((entry ∷ more, are ∙ append_assoc records (entry ∷ []) more), (entry ∷ kept, have ∙ append_assoc records (entry ∷ []) kept))
 
 grown_append : {A : Type 0} (state : State) (entry : Record) (fate : Fate) (next : List Record → Outcome A)
     → ((records : List Record) → Grown records (next records)) → Grown state.records (appended state entry fate next)
 grown_append state entry acked next later = grown_more state.records entry (next (state.records ++ entry ∷ [])) (later (state.records ++ entry ∷ []))
 grown_append state entry cut_old next later = unchanged state.records
-grown_append state entry cut_new next later = (entry ∷ [], refl)
+grown_append state entry cut_new next later = ((entry ∷ [], refl), ([], sym (append-nil state.records)))
 grown_append state entry no_memory next later = unchanged state.records
 
 grown_choice : {A : Type 0} (records : List Record) (test : Bool) (x y : Outcome A) → Grown records x → Grown records y → Grown records (if test then x else y)
@@ -156,6 +160,11 @@ grown_key limit state name chance (Some key) = grown_choice state.records (not s
     (grown_choice state.records (has_moved state.records) _ _ (unchanged state.records)
     (grown_of limit state key name chance (binding_at state.records name)))
 
+-- what a request acknowledges begins with the records before it
+pub acknowledges_more : (limit : ℕ) (state : State) (name : List ℕ) (chance : Chance)
+    → (more : List Record) × ((requested limit state name chance).acknowledged ≡ state.records ++ more)
+acknowledges_more limit state name chance = (grown_key limit state name chance (the_key state.records)).1
+
 -- ---- retire
 
 grown_retired : (limit : ℕ) (state : State) (upto : ℕ) (fate : Fate) (found : Option Key) → Grown state.records (retired_key limit state upto fate found)
@@ -171,7 +180,7 @@ grown_retired limit state upto fate (Some key) = grown_choice state.records (not
 
 only_grown : {A : Type 0} (world : World) (outcome : Outcome A) → Grown world.state.records outcome
     → LastsInto world (record { state = outcome.state; handed = world.handed })
-only_grown world outcome (more, are) = record { records = more; handed = []; records_are = are; handed_are = sym (append-nil world.handed) }
+only_grown world outcome ((more, are), acknowledged) = record { records = more; handed = []; records_are = are; handed_are = sym (append-nil world.handed) }
 
 extends_after : (limit : ℕ) (world : World) (event : Event) → IsNoMigration event → LastsInto world (after limit world event)
 extends_after limit world (create spec chance) none =
@@ -179,7 +188,7 @@ extends_after limit world (create spec chance) none =
 extends_after limit world (reopen chance) none =
     only_grown world (opened world.state chance) (grown_opened world.state chance (first_illegal world.state.records))
 extends_after limit world (request name chance) none =
-    let (more, are) = grown_key limit world.state name chance (the_key world.state.records) in
+    let ((more, are), acknowledged) = grown_key limit world.state name chance (the_key world.state.records) in
     record { records = more; handed = _; records_are = are; handed_are = refl }
 extends_after limit world (retire upto fate) none =
     only_grown world (retired limit world.state upto fate) (grown_retired limit world.state upto fate (the_key world.state.records))

@@ -55,6 +55,7 @@ pub mod Retiring
 pub mod StandingChain
 pub mod Signs
 pub mod CurrentChain
+pub mod Heights
 pub mod WritingParts
 pub mod Draws
 pub mod BindsBelow
@@ -74,6 +75,7 @@ pub mod RefusalOrder
 pub mod Reported
 pub mod InputReading
 pub mod Exchanges
+pub mod SameTypes
 pub mod Replying
 pub mod RefusedDraws
 pub mod AfterRefusal

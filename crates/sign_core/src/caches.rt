@@ -9,6 +9,7 @@ ghost use Rattle.state_file.specs.declared.record.Key.{Key as K};
 ghost use Rattle.state_file.specs.declared.record.Record.TheVariants.{Key as KeyRecord};
 ghost use Rattle.sign_core.specs.Signing.{IsXmssKey};
 ghost use Rattle.sign_core.specs.Textbook.{damaged_at};
+ghost use Rattle.sign_core.specs.inner.Progress.{height_at};
 
 use crate::fault::SignFault;
 use crate::progress::{KeyProgress, TreeMaker, TreeProgress};
@@ -32,6 +33,7 @@ pub(crate) struct TreeRequest<'a, X: TreeSecret, P> {
 impl<'a, X: TreeSecret, P: TreeProgress> TreeRequest<'a, X, P> {
     pub(crate) fn new(level: u8, secret: X, leaf: u32, progress: &KeyProgress<'a, P>) -> Self
         requires within_limit { level < 8 }
+        requires of_key { height_at progress.now.spec level ≡ Some (X.tree_height secret) }
         ensures level { result.level ≡ level }
         ensures secret { result.secret ≡ secret }
         ensures leaf { result.leaf ≡ leaf }
@@ -73,7 +75,7 @@ impl<X: TreeSecret> TreeCache<X> {
         // a tree whose leaves are used up has no leaf of this number
         let leaf = asked.leaf.min(2u32.pow(u32::from(secret.height())) - 1);
         let made = asked.maker.cache(alloc, secret, leaf);
-        let cache = made.map_err(|_| SignFault::OutOfMemory)?;
+        let (cache, _) = made.map_err(|_| SignFault::OutOfMemory)?;
         Ok(TreeCache { secret, cache })
     }
 }
@@ -121,7 +123,7 @@ impl<X: TreeSecret, P: TreeProgress> TreeRequest<'_, X, P> {
                 return cache.cache.root();
             }
         }
-        self.maker.root_and_path(self.secret, self.leaf, into)
+        self.maker.root_and_path(self.secret, self.leaf, into).0
     }
 }
 

@@ -6,7 +6,7 @@ ghost use Rattle.std.specs.Prelude.{IfErr, OnOk, IfOk, OnErr};
 ghost use Rattle.arrayvec.specs.ArrayVec.{array_vec_len};
 ghost use Rattle.typecodes.specs.Types.{height_of};
 ghost use Rattle.state_file.specs.Laws.{levels_of};
-ghost use Rattle.sign_core.specs.Records.{free_at};
+ghost use Rattle.sign_core.specs.Records.{free_at, types_of};
 ghost use Rattle.sign_core.specs.Textbook.{damaged_at, current_at};
 
 use crate::caches::{Caches, TreeRequest};
@@ -72,6 +72,7 @@ impl SecretTrees {
         requires level { level < levels_of ledger.now.key.secret }
         requires within_limit { level < 8 }
         requires free { 0 < free_at ledger.now.key.secret ledger.now.records level }
+        requires types { progress.now.spec ≡ types_of ledger.now.key.secret }
         ensures sound { OnOk result (damaged_at ledger.now.key level ledger.now.records
             (current_at level ledger.now.records (length ledger.now.records)) ≡ None) }
         ensures damaged { IfErr result (λ k. damaged_at ledger.now.key level ledger.now.records
@@ -161,6 +162,7 @@ impl KeyTrees {
         requires inside { let secret = secret_at (chain_trees self.now) ledger.now.records place in
             leaf < 2 ^ height_of secret.pair.tree }
         requires room { array_vec_len above.old + level < 8 }
+        requires types { progress.now.spec ≡ types_of ledger.now.key.secret }
         ensures sound { OnOk result (damaged_at ledger.now.key level ledger.now.records place ≡ None) }
         ensures damaged { IfErr result (λ k. damaged_at ledger.now.key level ledger.now.records place ≡ Some k) }
         ensures signings { OnOk result (signings_of above.new.items ≡ signings_of above.old.items
@@ -203,8 +205,11 @@ impl Caches {
         before: u32,
         progress: &KeyProgress<'_, P>,
     ) -> Result<(), SignFault>
+        requires legal { IsLegal ledger.now.records }
+        requires keyed { the_key ledger.now.records ≡ Some ledger.now.key }
         requires trees { AreTreesOf trees.now ledger.now.key }
         requires within_limit { level < 8 }
+        requires types { progress.now.spec ≡ types_of ledger.now.key.secret }
         ensures there { OnOk result (HasOwn (chain_trees trees.now) ledger.now.records level before self.new) }
         ensures fault { IfErr result (λ fault. fault ≡ SignFault.OutOfMemory) }
         ensures lacking { OnErr result (LacksOwn (chain_trees trees.now) ledger.now.records level before self.old) }
@@ -239,6 +244,7 @@ impl Caches {
         requires trees { MakesTrees ledger.now.key.secret keys.now }
         requires within_limit { level < 8 }
         requires stands { IsTreeAt ledger.now.records level place }
+        requires types { progress.now.spec ≡ types_of ledger.now.key.secret }
         ensures kept { OnOk result (HasCaches ledger.now.key ledger.now.records (Some level) before self.new) }
         ensures fault { IfErr result (λ fault. fault ≡ SignFault.OutOfMemory) }
         ensures lacking { OnErr result

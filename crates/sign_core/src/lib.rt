@@ -60,8 +60,8 @@ pub use crate::laws::{
 };
 pub use crate::ledger::{Ledger, LedgerFault};
 pub use crate::migration::{migrate_key, migrate_key_telling};
-pub use crate::progress::{KeyProgress, TreeProgress};
+pub use crate::progress::{KeyProgress, SilentLeaves, TreeProgress};
 pub use crate::serving::{serve, serve_telling};
 pub use crate::signer::{Signer, types_of};
 pub use crate::source::{RngSource, Source, SourceFault, TapeSource};
-pub use merkle::Silent;
+pub use merkle::{Progress, Silent};

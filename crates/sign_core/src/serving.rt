@@ -1,10 +1,12 @@
 //! `serve`: requests from an input, each with its reply on an output.
 
-ghost use Rattle.std.specs.Prelude.{◌≡◌, ◌<◌, vec_capacity};
+ghost use Rattle.std.specs.Prelude.{◌≡◌, ◌<◌, Some, vec_capacity};
 ghost use Rattle.sign_core.specs.inner.Frames.{WasReadOrFailed};
 ghost use Rattle.sign_core.specs.inner.Serving.{Asks, Finishes, Turns, WritesReply, is_unread};
 ghost use Rattle.sign_core.specs.Serving.{Serves};
 ghost use Rattle.sign_core.specs.Serving.{reply_bytes, reply_frame};
+ghost use Rattle.sign_core.specs.Progress.{types_of_key};
+ghost use Rattle.sign_core.specs.Records.{the_key};
 ghost use Rattle.sign_core.specs.Signing.{KeepsCapacity};
 
 use crate::fault::{ServeFault, SignFault};
@@ -75,6 +77,7 @@ pub fn serve_telling<S: Store, R: Source, I: Message, W: Write, P: TreeProgress>
     writer: &mut W,
     progress: &KeyProgress<'_, P>,
 ) -> Result<u64, ServeFault>
+    requires { types_of_key (the_key signer.old.records) ≡ Some progress.now.spec }
     ensures { Serves S.Store R.Source I.Message signer.old signer.new reader.old reader.new
         (W.contents writer.old) (W.contents writer.new) result }
 {
@@ -96,6 +99,7 @@ fn take_turn<S: Store, R: Source, I: Message, W: Write, P: TreeProgress>(
     signature: &mut Vec<u8>,
     progress: &KeyProgress<'_, P>,
 ) -> Result<bool, ServeFault>
+    requires { types_of_key (the_key signer.old.records) ≡ Some progress.now.spec }
     ensures { Turns S.Store R.Source I.Message signer.old signer.new reader.old reader.new
         (W.contents writer.old) (W.contents writer.new) (vec_capacity signature.old) (vec_capacity signature.new)
         result }
@@ -141,6 +145,7 @@ fn ask<S: Store, R: Source, M: Message, P: TreeProgress>(
     signature: &mut Vec<u8>,
     progress: &KeyProgress<'_, P>,
 ) -> Reply
+    requires { types_of_key (the_key signer.old.records) ≡ Some progress.now.spec }
     ensures asks { Asks S.Store R.Source M.Message name.now signer.old signer.new message.old message.new
         (vec_capacity signature.old) signature.new.items result }
     ensures capacity { KeepsCapacity signer.old.records (vec_capacity signature.old) (vec_capacity signature.new) }

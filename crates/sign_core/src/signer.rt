@@ -98,17 +98,19 @@ pub fn types_of(secret: &Secret) -> Spec
 
 // The root of a key's top tree.
 fn root_of<P: TreeProgress>(secret: &Secret, maker: TreeMaker<'_, P>) -> [u8; 32]
-    requires { maker.height ≡ height_at (types_of secret.now) 0 }
+    requires { height_at (types_of secret.now) 0 ≡ Some maker.height }
     ensures { result ≡ key_root secret.now }
 {
     match secret {
-        Secret::Lms(secret) => maker.root(*secret),
+        Secret::Lms(secret) => maker.root(*secret).0,
         Secret::Hss {
             levels,
             identifier,
             seed,
-        } => maker.root(LmsSecret::new(levels.as_slice()[0], *identifier, *seed)),
-        Secret::Xmss(secret) => maker.root(*secret),
+        } => maker
+            .root(LmsSecret::new(levels.as_slice()[0], *identifier, *seed))
+            .0,
+        Secret::Xmss(secret) => maker.root(*secret).0,
     }
 }
 
@@ -122,7 +124,7 @@ fn create_key<S: Store, R: Source, P: TreeProgress>(
     maker: TreeMaker<'_, P>,
 ) -> Result<Ledger, SignFault>
     requires room { 1 ≤ S.most store.old }
-    requires top { maker.height ≡ height_at spec.now 0 }
+    requires top { height_at spec.now 0 ≡ Some maker.height }
     ensures makes { MakesKey S.Store R.Source version spec.now store.old store.new random.old random.new
         (IsTakenUp result) }
     ensures tied { IfOk result (λ table. IsTied S.Store store.new table.records) }
@@ -190,6 +192,7 @@ fn load_all<S: Store>(alloc: Global, store: &mut S) -> Result<Ledger, SignFault>
 
 impl<S: Store, R: Source> Signer<S, R> {
     ghost use Rattle.sign_core.specs.Records.{can_follow, free_counts, has_moved, the_key};
+    ghost use Rattle.sign_core.specs.Progress.{types_of_key};
     ghost use Rattle.state_file.specs.declared.record.Key.{Key as K};
     ghost use Rattle.sign_core.specs.Textbook.{public_of_key};
     ghost use Rattle.sign_core.specs.inner.Signer.{Adds, HoldsParts, AreBottomLeaves};
@@ -292,7 +295,7 @@ impl<S: Store, R: Source> Signer<S, R> {
 
     /// The types of the key's trees.
     pub fn spec(&self) -> Spec
-        ensures { (key : K) → the_key self.now.records ≡ Some key → result ≡ types_of key.secret }
+        ensures { types_of_key (the_key self.now.records) ≡ Some result }
     {
         types_of(&self.ledger.key().secret)
     }

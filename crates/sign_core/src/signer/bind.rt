@@ -3,7 +3,8 @@
 ghost use Rattle.std.specs.Prelude.{◌≡◌, ◌<◌, ◌-◌, [], None, Some, true, false, length, vec_capacity};
 ghost use Rattle.std.specs.Prelude.{◌+◌, IfErr, OnOk};
 ghost use Rattle.state_file.specs.Laws.{levels_of, bottom_of};
-ghost use Rattle.sign_core.specs.Records.{binding_at, free_at, has_moved, is_long};
+ghost use Rattle.sign_core.specs.Records.{binding_at, free_at, has_moved, is_long, the_key};
+ghost use Rattle.sign_core.specs.Progress.{types_of_key};
 ghost use Rattle.sign_core.specs.inner.Request.{Prepares};
 ghost use Rattle.sign_core.specs.inner.Signing.{BindsBelow, BindsNext, CanBind, DrawsTree, Extends};
 ghost use Rattle.sign_core.specs.inner.Signing.{IsReady, Stands};
@@ -59,6 +60,7 @@ impl<S: Store, R: Source> Signer<S, R> {
         requires goes_on { has_moved self.old.records ≡ false }
         requires level { UnderKey self.old.records (λ key. level < levels_of key.secret) }
         requires free { UnderKey self.old.records (λ key. 0 < free_at key.secret self.old.records level) }
+        requires types { types_of_key (the_key self.old.records) ≡ Some progress.now.spec }
         ensures room { UnderKey self.old.records (Prepares (S.most self.old.store) level self.old self.new
             (vec_capacity out.old) (length out.new.items) result) }
         ensures capacity { KeepsCapacity self.old.records (vec_capacity out.old) (vec_capacity out.new) }
@@ -93,6 +95,7 @@ impl<S: Store, R: Source> Signer<S, R> {
         requires ready { IsReady (S.most self.old.store) 1 self.old }
         requires below { UnderKey self.old.records (λ key. level + 1 < levels_of key.secret) }
         requires stands { UnderKey self.old.records (Stands self.old.records level) }
+        requires types { types_of_key (the_key self.old.records) ≡ Some progress.now.spec }
         ensures step { UnderKey self.old.records
             (Extends S.Store R.Source (level + 1) self.old self.new (answered_value result [])) }
         ensures stands { OnOk result (UnderKey self.new.records (Stands self.new.records (level + 1))) }
@@ -174,6 +177,7 @@ impl<S: Store, R: Source> Signer<S, R> {
         requires can { UnderKey self.old.records (λ key. CanBind (S.most self.old.store) (levels_of key.secret - level)
             name.now (length out.old) self.old) }
         requires stands { UnderKey self.old.records (Stands self.old.records level) }
+        requires types { types_of_key (the_key self.old.records) ≡ Some progress.now.spec }
         ensures step { UnderKey self.old.records (λ key. BindsBelow S.Store R.Source M.Message name.now
             (bottom_of key.secret - level) self.old self.new message.old message.new
             (answered_value result out.new) key) }

@@ -3,7 +3,8 @@
 ghost use Rattle.std.specs.Prelude.{◌≡◌, List, ℕ, None, Some, length, vec_capacity, IfErr, OnOk};
 ghost use Rattle.sign_core.specs.Signer.{KeepsForRepeat, is_before_repeat, is_fault, signature_size, state_of};
 ghost use Rattle.sign_core.specs.inner.Signing.{IsBindingOf, IsSomeBinding, RepeatsBinding};
-ghost use Rattle.sign_core.specs.Records.{binding_at};
+ghost use Rattle.sign_core.specs.Records.{binding_at, the_key, types_of};
+ghost use Rattle.sign_core.specs.Progress.{types_of_key};
 ghost use Rattle.sign_core.specs.Signing.{KeepsCapacity, MakesCaches, UnderKey, answered_value};
 
 use super::Signer;
@@ -41,6 +42,7 @@ impl SecretTrees {
         requires trees { MakesTrees ledger.now.key.secret self.now }
         requires kept { IsSomeBinding ledger.now.records binding.now }
         requires room { length out.old ≡ signature_size ledger.now.key.secret }
+        requires types { progress.now.spec ≡ types_of ledger.now.key.secret }
         ensures sound { OnOk result (damaged_at ledger.now.key (bottom_of ledger.now.key.secret) ledger.now.records
             binding.now.tree ≡ None) }
         ensures damaged { IfErr result (λ k. damaged_at ledger.now.key (bottom_of ledger.now.key.secret)
@@ -85,6 +87,7 @@ impl<S: Store, R: Source> Signer<S, R> {
         progress: &KeyProgress<'_, P>,
     ) -> Result<(), SignFault>
         requires kept { IsSomeBinding self.old.records binding.now }
+        requires types { types_of_key (the_key self.old.records) ≡ Some progress.now.spec }
         ensures step { RepeatsBinding M.Message (state_of self.old) self.old.cached binding.now message.old message.new
             (vec_capacity out.old) (answered_value result out.new.items) }
         ensures capacity { KeepsCapacity self.old.records (vec_capacity out.old) (vec_capacity out.new) }

@@ -5,7 +5,8 @@ ghost use Rattle.typecodes.specs.declared.secret.XmssSecret.{XmssSecret as X};
 ghost use Rattle.sign_core.specs.Caches.{HasAll, HasCurrent};
 ghost use Rattle.sign_core.specs.Textbook.{Trees, trees_of};
 ghost use Rattle.state_file.specs.Laws.{bottom_of, levels_of};
-ghost use Rattle.sign_core.specs.Records.{binding_at};
+ghost use Rattle.sign_core.specs.Records.{binding_at, the_key};
+ghost use Rattle.sign_core.specs.Progress.{types_of_key};
 ghost use Rattle.sign_core.specs.Signer.{KeepsForRepeat, Signs, is_before_repeat, is_fault};
 ghost use Rattle.sign_core.specs.Signing.{IsXmssKey, KeepsCapacity, MakesCaches, UnderKey, answered_value};
 ghost use Rattle.typecodes.specs.Message.{Digests};
@@ -142,6 +143,7 @@ impl<S: Store, R: Source> Signer<S, R> {
         out: &mut Vec<u8>,
         progress: &KeyProgress<'_, P>,
     ) -> Result<(), SignFault>
+        requires types { types_of_key (the_key self.old.records) ≡ Some progress.now.spec }
         ensures step { Signs S.Store R.Source M.Message self.old self.new name.now message.old message.new
             (vec_capacity out.old) (answered_value result out.new.items) }
         ensures empty { OnErr result (out.new.items ≡ []) }
@@ -169,6 +171,7 @@ impl<S: Store, R: Source> Signer<S, R> {
         out: &mut Vec<u8>,
         progress: &KeyProgress<'_, P>,
     ) -> Result<(), SignFault>
+        requires types { types_of_key (the_key self.old.records) ≡ Some progress.now.spec }
         ensures step { Signs S.Store R.Source M.Message self.old self.new name.now message.old message.new
             (vec_capacity out.old) (answered_value result out.new.items) }
         ensures capacity { KeepsCapacity self.old.records (vec_capacity out.old) (vec_capacity out.new) }

@@ -4,7 +4,7 @@ ghost use Rattle.std.specs.Prelude.{◌≤◌};
 
 use super::steps::Numbers;
 use super::*;
-use sign_core::{KeyProgress, TreeProgress, serve_telling};
+use sign_core::{KeyProgress, Progress, TreeProgress, serve_telling};
 use std::cell::Cell;
 
 // A tree's level, and its number of leaves.
@@ -34,8 +34,21 @@ impl Listener<'_> {
     }
 }
 
-impl TreeProgress for Listener<'_> {
-    fn begin(&self, level: u8, leaves: u64) {
+// Hears of one tree's leaves for a listener.
+#[derive(Drop)]
+struct TreeListener<'b, 'a> {
+    listener: &'b Listener<'a>,
+    level: u8,
+    told: u64,
+    leaves: u64,
+}
+
+impl<'b, 'a> TreeProgress for &'b Listener<'a> {
+    type Tree = TreeListener<'b, 'a>;
+
+    ghost level_of = { λ tree. tree.level };
+
+    fn begin(&self, level: u8, leaves: u64) -> TreeListener<'b, 'a> {
         let mut next = None;
         if let Some(awaited) = self.awaited.get() {
             if let Some((tree, trees)) = awaited.trees.split_first() {
@@ -50,10 +63,22 @@ impl TreeProgress for Listener<'_> {
             }
         }
         self.awaited.set(next);
+        TreeListener {
+            listener: *self,
+            level,
+            told: 0,
+            leaves,
+        }
     }
+}
 
-    // First no leaf is made, then one or eight at a time.
-    fn tell(&self, made: u64) {
+impl Progress for TreeListener<'_, '_> {
+    ghost told = { λ tree. tree.told };
+
+    ghost most = { λ tree. tree.leaves };
+
+    // One leaf more is made, or eight.
+    fn tell(&mut self, made: u64) {
         let mut next = None;
         if let Some(
             Awaited {
@@ -61,10 +86,10 @@ impl TreeProgress for Listener<'_> {
                 leaves,
                 made: before,
             },
-        ) = self.awaited.get()
+        ) = self.listener.awaited.get()
         {
             let more = made.wrapping_sub(before);
-            if more == 1 || more == 8 || made == 0 && before == 0 {
+            if more == 1 || more == 8 {
                 next = Some(Awaited {
                     trees,
                     leaves,
@@ -72,7 +97,8 @@ impl TreeProgress for Listener<'_> {
                 });
             }
         }
-        self.awaited.set(next);
+        self.listener.awaited.set(next);
+        self.told = made;
     }
 }
 
@@ -123,7 +149,7 @@ fn created_of<'a, S: Store + Drop>(
 ) -> Option<Signer<S, Numbers<'a>>>
     requires { 1 ≤ S.most store }
 {
-    let progress = KeyProgress::of(&spec, listener);
+    let progress = KeyProgress::of(&spec, &listener);
     match Signer::create_telling(alloc, Version::One, spec, store, random, progress) {
         Ok(signer) if listener.is_done() => Some(signer),
         _ => None,
@@ -149,7 +175,7 @@ fn signs_telling_of<S: Store, R: Source>(
     listener: &Listener<'_>,
 ) -> bool {
     let mut text: &[u8] = &[1];
-    let progress = KeyProgress::of(&signer.spec(), listener);
+    let progress = KeyProgress::of(&signer.spec(), &listener);
     signer.sign_telling(name, &mut text, out, &progress) == Ok(()) && listener.is_done()
 }
 
@@ -159,7 +185,7 @@ fn serves_telling<S: Store, R: Source>(
     signer: &mut Signer<S, R>,
     trees: &[Tree],
 ) -> bool {
-    let listener = awaiting(trees);
+    let listener = &awaiting(trees);
     let mut input = b"\x012\0\0\0\x01\x01".as_slice();
     let mut replies = Vec::new(alloc);
     let progress = KeyProgress::of(&signer.spec(), &listener);

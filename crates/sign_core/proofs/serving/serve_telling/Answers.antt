@@ -1,7 +1,12 @@
 use Rattle.std.proofs.Common.{rules, ◌≡◌, Err, subst, sym}
 use Rattle.sign_core.specs.Serving.{Serves}
 use Rattle.sign_core.proofs.Exchanges.{HasServed, served_more, served_none, serves_to_end, serves_to_fault}
+use Rattle.sign_core.proofs.SameTypes.{exchanges_keep}
 use Rattle.sign_core.proofs.serving.serve_telling.Goals as goal
+
+pub take_turn-requires : goal.take_turn-requires
+take_turn-requires g c =
+    exchanges_keep g.S.Store g.R.Source _ _ _ _ _ c.args.progress.now.spec c.loop-count.invariant.answers c.requires
 
 pub returns-then-not-branch : goal.returns-then-not-branch
 returns-then-not-branch g c =

@@ -2,6 +2,7 @@ use Rattle.std.proofs.Common.{◌≡◌, ◌∙◌, Some, ap, subst, sym, arith}
 use Rattle.sign_core.specs.Caches.{cache_at}
 use Rattle.sign_core.specs.Textbook.{trees_of}
 use Rattle.sign_core.specs.inner.Links.{MakesTrees, chain_trees}
+use Rattle.sign_core.proofs.Heights.{height_of_xmss}
 use Rattle.sign_core.proofs.KeptCaches.{kept_level, lacks_level, on_err, on_ok}
 use Rattle.sign_core.proofs.LinkParts.{IsUnder, is_under, top_level}
 use Rattle.sign_core.proofs.Signs.{is_none}
@@ -23,7 +24,11 @@ pub keep_trees-requires : goal.keep_trees-requires
 keep_trees-requires g t c κs within =
     let r = c.requires in
     let below = under g t (goal.at.keep_trees-requires g t c).In-Some in
-    (omega (arith, c.decreases, below.some), (within, (r.legal, (r.keyed, (r.trees, (omega (arith, r.within_limit), below.parent))))))
+    (omega (arith, c.decreases, below.some), (within.0, (within.1, (r.legal, (r.keyed, (r.trees, (omega (arith, r.within_limit), (below.parent, r.types))))))))
+
+pub new-requires-clause-of_key : goal.new-requires-clause-of_key
+new-requires-clause-of_key g t c =
+    height_of_xmss _ _ _ (subst (MakesTrees c.args.ledger.now.key.secret) c.in-Xmss.is c.requires.trees) c.requires.types
 
 pub returns-clause-kept : goal.returns-clause-kept
 returns-clause-kept g t c =

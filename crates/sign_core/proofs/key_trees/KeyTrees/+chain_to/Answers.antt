@@ -1,6 +1,10 @@
 use Rattle.std.proofs.Common.{rules, ◌≡◌, ◌∙◌, [], ◌∷◌, ◌++◌, Some, ap, subst, sym, arith}
+use Rattle.typecodes.specs.declared.secret.LmsSecret.{LmsSecret}
+use Rattle.typecodes.specs.Types.{height_of}
 use Rattle.sign_core.specs.inner.Links.{chain_trees}
+use Rattle.sign_core.specs.inner.Progress.{height_at}
 use Rattle.sign_core.specs.Textbook.{damaged_at}
+use Rattle.sign_core.proofs.Heights.{height_of_tree}
 use Rattle.sign_core.proofs.LinkParts.{IsUnder, Reaches, chain_damaged_above, is_under, reaches_below, reaches_top}
 use Rattle.sign_core.proofs.Signs.{is_none}
 use Rattle.sign_core.proofs.key_trees.KeyTrees.+chain_to.Goals.{After-secret_at-secret, In-Some, in-Some+in_ok-tree, in_default}
@@ -21,7 +25,14 @@ pub chain_to-requires : goal.chain_to-requires
 chain_to-requires g t c κs within =
     let r = c.requires in
     let below = under g t (goal.at.chain_to-requires g t c).In-Some in
-    (omega (arith, c.decreases, below.some), (within, (r.legal, (r.keyed, (r.trees, (below.parent, (below.inside, omega (arith, r.room, below.some))))))))
+    (omega (arith, c.decreases, below.some), (within.0, (within.1, (r.legal, (r.keyed, (r.trees, (below.parent, (below.inside, (omega (arith, r.room, below.some), r.types)))))))))
+
+pub new-requires-2-clause-of_key : goal.new-requires-2-clause-of_key
+new-requires-2-clause-of_key g t c =
+    let a = c.args in
+    let r = c.requires in
+    subst (λ (s : LmsSecret). height_at a.progress.now.spec a.level ≡ Some (height_of s.pair.tree)) (sym c.secret_at-secret.ensures)
+    (height_of_tree a.ledger.now.key (chain_trees a.self.now) a.ledger.now.records a.level a.place _ r.legal r.keyed r.trees r.types r.stands)
 
 pub returns-in_err-tree-clause-damaged : goal.returns-in_err-tree-clause-damaged
 returns-in_err-tree-clause-damaged g t c =

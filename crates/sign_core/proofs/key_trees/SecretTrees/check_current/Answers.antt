@@ -6,6 +6,7 @@ use Rattle.sign_core.specs.inner.Links.{MakesTrees, chain_trees}
 use Rattle.sign_core.specs.Textbook.{damaged_at, current_at}
 use Rattle.sign_core.proofs.ChainParts.{key_chain}
 use Rattle.sign_core.proofs.CurrentChain.{has_free, leaf_inside, not_free, tree_stands}
+use Rattle.sign_core.proofs.Heights.{height_of_xmss}
 use Rattle.sign_core.proofs.Signs.{is_none}
 use Rattle.sign_core.proofs.key_trees.SecretTrees.check_current.Goals as goal
 
@@ -27,6 +28,10 @@ chain_to-requires-clause-inside g c =
     let these = subst (MakesTrees l.key.secret) c.in-Chain.is c.requires.trees in
     leaf_inside l.key (chain_trees c.in-Chain.trees) l.records c.args.level c.in-Some.tree.place c.in-Some.tree.next
     (c.key-key.ensures.first ∙ ap Some c.key-key.ensures.key) these c.requires.level has
+
+pub new-asked-requires-clause-of_key : goal.new-asked-requires-clause-of_key
+new-asked-requires-clause-of_key g c =
+    height_of_xmss _ _ _ (subst (MakesTrees c.args.ledger.now.key.secret) c.in-Xmss.is c.requires.trees) c.requires.types
 
 pub returns-in-Xmss-clause-sound : goal.returns-in-Xmss-clause-sound
 returns-in-Xmss-clause-sound g c =

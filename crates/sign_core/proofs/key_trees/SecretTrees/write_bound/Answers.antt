@@ -12,6 +12,7 @@ use Rattle.sign_core.specs.inner.Links.{AreMade, IsTreeAt, MakesTrees, signings_
 use Rattle.sign_core.specs.inner.Signing.{WritesChain, pairs_of}
 use Rattle.sign_core.specs.Textbook.{damaged_at, chain_signings, trees_of}
 use Rattle.sign_core.proofs.ChainParts.{links_pairs}
+use Rattle.sign_core.proofs.Heights.{height_of_xmss}
 use Rattle.sign_core.proofs.LedgerReading.{key_levels}
 use Rattle.sign_core.proofs.LinkParts.{more_made, tree_signs}
 use Rattle.sign_core.proofs.Repeats.{bound_chain, bound_xmss_leaf, links_bound, links_signs, none_made, xmss_bound_chain, xmss_bound_signed}
@@ -121,6 +122,10 @@ returns-in_ok-tree-in-Chain-clause-signature g c k bound is =
     (links_bound T l.records (c.levels-level.result - 1) l.key.secret k bound b _ level is signs)
 
 -- ---- XMSS
+
+pub new-asked-requires-clause-of_key : goal.new-asked-requires-clause-of_key
+new-asked-requires-clause-of_key g c =
+    height_of_xmss _ _ _ (subst (MakesTrees c.args.ledger.now.key.secret) c.in-Xmss.is c.requires.trees) c.requires.types
 
 pub xmss_path-requires-clause-inside : goal.xmss_path-requires-clause-inside
 xmss_path-requires-clause-inside g c =

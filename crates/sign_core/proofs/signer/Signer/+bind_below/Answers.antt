@@ -7,7 +7,8 @@ use Rattle.state_file.specs.declared.record.Record.{Record}
 use Rattle.sign_core.specs.declared.fault.SignFault.{SignFault}
 use Rattle.sign_core.specs.Caches.{Cached, HasAll}
 use Rattle.sign_core.specs.Signing.{answered_value}
-use Rattle.sign_core.specs.Records.{is_long, the_key}
+use Rattle.sign_core.specs.Progress.{types_of_key}
+use Rattle.sign_core.specs.Records.{is_long, the_key, types_of}
 use Rattle.sign_core.specs.inner.Links.{MakesTrees}
 use Rattle.sign_core.specs.Signer.{signature_size, view_of}
 use Rattle.sign_core.specs.inner.Signing.{CanBind, Extends, BindsBelow}
@@ -15,6 +16,7 @@ use Rattle.sign_core.proofs.Adding.{levels_range}
 use Rattle.sign_core.proofs.Binding.{bound_last, never_damaged, sound_last, written_last}
 use Rattle.sign_core.proofs.ChainParts.{same_key}
 use Rattle.sign_core.proofs.BindsBelow.{Recorded, at_end, binds_below_after, binds_below_refused, is_recorded, key_after, ready_after, unbound_after}
+use Rattle.sign_core.proofs.Heights.{types_are}
 use Rattle.sign_core.proofs.KeptCaches.{anyway, has_bound, keeps_below, keeps_same, on_ok}
 use Rattle.sign_core.proofs.Stays.{key_stays, some_keyed}
 use Rattle.sign_core.proofs.signer.Signer.+bind_below.Goals as goal
@@ -83,11 +85,17 @@ bind_below-requires g t c κs within =
           (
             within.1.1.0,
             (
-              within.1.1.1,
+              within.1.1.1.0,
               (
-                λ key keyed. subst (λ (k : Key). CanBind (g.S.Store.most c.extend.new.self.store) (levels_of k.secret - (a.level + 1))
-                    a.name.now (length a.out.now) c.extend.new.self) (same_Some _ _ (sym next ∙ keyed)) go_on,
-                c.in_ok-extend.ensures.stands,
+                within.1.1.1.1,
+                (
+                  λ key keyed. subst (λ (k : Key). CanBind (g.S.Store.most c.extend.new.self.store) (levels_of k.secret - (a.level + 1))
+                      a.name.now (length a.out.now) c.extend.new.self) (same_Some _ _ (sym next ∙ keyed)) go_on,
+                  (
+                    c.in_ok-extend.ensures.stands,
+                    ap types_of_key (next ∙ sym own) ∙ c.requires.types,
+                  ),
+                ),
               ),
             ),
           ),
@@ -146,6 +154,18 @@ write_bound-requires-clause-kept g t c other others =
       a.name.now,
       bound_last c.key.result.now other a.self.now.records c.bind.new.self.records L.records a.name.now bound c.in_ok-binding.binding last records same,
     )
+
+pub write_bound-requires-clause-types : goal.write_bound-requires-clause-types
+write_bound-requires-clause-types g t c =
+    let a = c.args in
+    let L = c.self-2.inside.ledger in
+    let own : the_key a.self.now.records ≡ Some c.key.result.now = ap (λ w. the_key w.records) (sym c.self.view_is) ∙ c.key.ensures.first in
+    let (bound, binds_below, last) = c.in_ok-binding.ensures.step c.key.result.now own in
+    let next : the_key c.bind.new.self.records ≡ Some c.key.result.now =
+    ap the_key last.grown ∙ key_stays a.self.now.records (BoundRecord bound ∷ []) c.key.result.now own in
+    let same : c.key.result.now ≡ L.key = same_key c.bind.new.self.records c.key.result.now L.key next
+    (ap (λ w. the_key w.records) (sym c.self-2.view_is) ∙ c.self-2.invariant.1) in
+    types_are (the_key a.self.now.records) c.key.result.now a.progress.now.spec c.requires.types own ∙ ap (λ (k : Key). types_of k.secret) same
 
 pub write_bound-requires-clause-room : goal.write_bound-requires-clause-room
 write_bound-requires-clause-room g t c =

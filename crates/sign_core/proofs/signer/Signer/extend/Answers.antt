@@ -2,6 +2,8 @@ use Rattle.std.proofs.Common.{rules, ◌≡◌, ◌∙◌, ℕ, ◌+◌, true, f
 use Rattle.lmots.specs.Key.{message_digest_of}
 use Rattle.lms.specs.Secret.{rooted_public, root_of_secret}
 use Rattle.typecodes.specs.declared.secret.LmsSecret.{LmsSecret}
+use Rattle.typecodes.specs.declared.types.LmsPair.{LmsPair}
+use Rattle.typecodes.specs.Types.{height_of}
 use Rattle.lms.specs.Writing.{public_bytes}
 use Rattle.state_file.specs.Laws.{levels_of}
 use Rattle.state_file.specs.declared.record.Extend.{Extend}
@@ -15,6 +17,7 @@ use Rattle.sign_core.specs.Signing.{answered_value}
 use Rattle.sign_core.specs.Records.{has_moved, the_key}
 use Rattle.sign_core.specs.inner.Caches.{KeepsDownTo}
 use Rattle.sign_core.specs.inner.Links.{MakesTrees, chain_trees}
+use Rattle.sign_core.specs.inner.Progress.{height_at}
 use Rattle.sign_core.specs.Signer.{View, view_of}
 use Rattle.sign_core.specs.inner.Signing.{Extends, Stands}
 use Rattle.sign_core.proofs.Adding.{levels_range}
@@ -22,6 +25,7 @@ use Rattle.sign_core.proofs.Appended.{added_records}
 use Rattle.sign_core.proofs.ChainParts.{same_key}
 use Rattle.sign_core.proofs.CurrentChain.{has_free, not_free}
 use Rattle.sign_core.proofs.Extends.{Rests, drawn_below, undrawn, ungrown}
+use Rattle.sign_core.proofs.Heights.{height_of_level, types_are}
 use Rattle.sign_core.proofs.KeptCaches.{begun_secret, has_begun, keeps_begun, keeps_same}
 use Rattle.sign_core.proofs.Signs.{is_none}
 use Rattle.sign_core.proofs.StandingChain.{can_extend, entry_is, if_added, no_chain, stands_below}
@@ -56,12 +60,22 @@ overflow_add-below g c =
     let most = (levels_range i.ledger.records i.ledger.key (levels_of i.ledger.key.secret) c.self.invariant.0.sizes c.self.invariant.1 refl).1 in
     omega (arith, c.requires.below i.ledger.key kept, most)
 
-pub new-asked-requires : goal.new-asked-requires
-new-asked-requires g c =
+pub new-asked-requires-clause-within_limit : goal.new-asked-requires-clause-within_limit
+new-asked-requires-clause-within_limit g c =
     let i = c.self.inside in
     let kept : the_key c.args.self.now.records ≡ Some i.ledger.key = ap (λ w. the_key w.records) (sym c.self.view_is) ∙ c.self.invariant.1 in
     let most = (levels_range i.ledger.records i.ledger.key (levels_of i.ledger.key.secret) c.self.invariant.0.sizes c.self.invariant.1 refl).1 in
-    record { within_limit = omega (arith, c.requires.below i.ledger.key kept, most) }
+    omega (arith, c.requires.below i.ledger.key kept, most)
+
+pub new-asked-requires-clause-of_key : goal.new-asked-requires-clause-of_key
+new-asked-requires-clause-of_key g c =
+    let K = c.self.inside.ledger.key in
+    let T = chain_trees c.in-Chain.chain in
+    let below : ℕ = c.args.level + 1 in
+    let kept : the_key c.args.self.now.records ≡ Some K = ap (λ w. the_key w.records) (sym c.self.view_is) ∙ c.self.invariant.1 in
+    let these = subst (MakesTrees K.secret) c.in-Chain.is (subst (λ (k : Key). MakesTrees k.secret c.of.result) c.key.ensures.key c.of.ensures) in
+    ap (λ s. height_at s below) (types_are (the_key c.args.self.now.records) K c.args.progress.now.spec c.requires.types kept) ∙ height_of_level K.secret T below these (c.requires.below K kept)
+    ∙ ap (λ (pair : LmsPair). Some (height_of pair.tree)) (sym (c.in_ok-secret.ensures.4 ∙ c.pair.ensures))
 
 pub returns-in_err-secret-clause-step : goal.returns-in_err-secret-clause-step
 returns-in_err-secret-clause-step g c key keyed =

@@ -7,7 +7,7 @@ use Rattle.state_file.specs.declared.record.Record.{Record}
 use Rattle.sign_core.specs.declared.fault.SignFault.TheVariants.{Changed}
 use Rattle.sign_core.specs.declared.ledger.Binding.{Binding}
 use Rattle.sign_core.specs.Caches.{Cached, HasCaches, LacksCache}
-use Rattle.sign_core.specs.Records.{the_key}
+use Rattle.sign_core.specs.Records.{the_key, types_of}
 use Rattle.sign_core.specs.Signer.{is_before_repeat, signature_size, state_of}
 use Rattle.sign_core.specs.inner.Links.{IsTreeAt, MakesTrees}
 use Rattle.sign_core.specs.Signing.{IsPrepared, UnderKey, is_unprepared}
@@ -15,6 +15,7 @@ use Rattle.sign_core.specs.inner.Signing.{IsBindingOf, Repeats}
 use Rattle.sign_core.specs.Textbook.{damaged_at}
 use Rattle.sign_core.proofs.Capacities.{capacity_grows, capacity_stays}
 use Rattle.sign_core.proofs.ChainParts.{same_key}
+use Rattle.sign_core.proofs.Heights.{types_are}
 use Rattle.sign_core.proofs.KeptCaches.{bound_stands, made_bound, refused_bound}
 use Rattle.sign_core.proofs.LedgerReading.{key_levels}
 use Rattle.sign_core.proofs.Repeats.{changed, damaged, fault_of, found_chain, found_digest, found_kept, found_signature, is_found, lacks_cache, lacks_room, linked_ok, given_back, same_size, signed, unread}
@@ -123,6 +124,18 @@ pub returns-in_err-keep_trees-clause-capacity : goal.returns-in_err-keep_trees-c
 returns-in_err-keep_trees-clause-capacity g c =
     capacity_grows _ c.key.result.now _ _ (ap (λ w. the_key w.records) (sym c.self.view_is) ∙ c.key.ensures.first)
     c.make_room.ensures.capacity c.make_room.ensures.most
+
+pub keep_trees-requires-clause-types : goal.keep_trees-requires-clause-types
+keep_trees-requires-clause-types g c =
+    let keyed = ap (λ w. the_key w.records) (sym c.self.view_is) ∙ c.key.ensures.first in
+    types_are (the_key c.args.self.now.records) c.key.result.now c.args.progress.now.spec c.requires.types keyed
+    ∙ ap (λ (k : Key). types_of k.secret) c.key.ensures.key
+
+pub write_bound-requires-clause-types : goal.write_bound-requires-clause-types
+write_bound-requires-clause-types g c =
+    let keyed = ap (λ w. the_key w.records) (sym c.self.view_is) ∙ c.key.ensures.first in
+    types_are (the_key c.args.self.now.records) c.key.result.now c.args.progress.now.spec c.requires.types keyed
+    ∙ ap (λ (k : Key). types_of k.secret) c.key.ensures.key
 
 pub write_bound-requires-clause-trees : goal.write_bound-requires-clause-trees
 write_bound-requires-clause-trees g c = subst (λ (k : Key). MakesTrees k.secret c.of-trees.result) c.key.ensures.key c.of-trees.ensures

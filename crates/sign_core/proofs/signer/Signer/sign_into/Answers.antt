@@ -6,7 +6,8 @@ use Rattle.state_file.specs.declared.record.Key.{Key}
 use Rattle.state_file.specs.declared.record.Record.{Record}
 use Rattle.sign_core.specs.Caches.{HasAll}
 use Rattle.sign_core.specs.Ledger.{binding_kept, kept_of}
-use Rattle.sign_core.specs.Records.{binding_at, deepest, is_long, the_key}
+use Rattle.sign_core.specs.Progress.{types_of_key}
+use Rattle.sign_core.specs.Records.{binding_at, deepest, is_long, the_key, types_of}
 use Rattle.sign_core.specs.Signer.{IsSigner, KeepsForRepeat, Signs, is_before_caches, is_before_repeat, view_of}
 use Rattle.sign_core.specs.Signing.{IsPrepared, UnderKey, answered_value, is_unprepared}
 use Rattle.sign_core.specs.Textbook.{damaged_at, current_at}
@@ -15,6 +16,7 @@ use Rattle.sign_core.specs.inner.Caches.{KeepsDownTo}
 use Rattle.sign_core.specs.inner.Links.{MakesTrees}
 use Rattle.sign_core.specs.inner.Signing.{CanBind, BindsBelow, IsBindingOf, Stands}
 use Rattle.sign_core.proofs.ChainParts.{same_key}
+use Rattle.sign_core.proofs.Heights.{types_are}
 use Rattle.sign_core.proofs.KeptCaches.{anyway, made_new, never_bound, on_ok, prepared_later, refused_early, refused_new}
 use Rattle.sign_core.proofs.Leaves.{deepest_is}
 use Rattle.sign_core.proofs.LedgerReading.{key_levels}
@@ -147,6 +149,17 @@ check_current-requires-clause-free g c =
     (deepest_is i.key.secret i.records c.in_ok-level.level
     (deepest_after first.records i.records first.key i.key c.in_ok-level.level records c.self.invariant.1 c.self-2.invariant.1 (sym c.deepest.ensures ∙ some))).1
 
+pub check_current-requires-clause-types : goal.check_current-requires-clause-types
+check_current-requires-clause-types g c =
+    let v = c.args.self.now in
+    let first = c.self.inside.ledger in
+    let i = c.self-2.inside.ledger in
+    let keyed = ap (λ w. the_key w.records) (sym c.self.view_is) ∙ c.self.invariant.1 in
+    let made = c.in_ok-prepare.ensures.room first.key keyed in
+    let still : the_key v.records ≡ Some i.key =
+    ap the_key (sym made.keeps.records) ∙ ap (λ w. the_key w.records) (sym c.self-2.view_is) ∙ c.self-2.invariant.1 in
+    types_are (the_key v.records) i.key c.args.progress.now.spec c.requires.types still
+
 pub returns-in_err-map_err-clause-step : goal.returns-in_err-map_err-clause-step
 returns-in_err-map_err-clause-step g c =
     let unbound = none_mapped (kept_of c.self.inside.ledger.key.secret c.args.self.now.records) (binding_at c.args.self.now.records c.args.name.now)
@@ -211,6 +224,13 @@ bind_below-requires-clause-stands g c key keyed =
     let sound = linked_ok c.check_current.result c.map_err.result _ _ c.map_err.ensures.cases c.in_ok-map_err.was c.check_current.ensures.sound in
     subst (Stands i.records c.in_ok-level.level) (same_key i.records i.key key c.self-2.invariant.1 keyed)
     (record { inside = deepest.0; free = deepest.1; sound = sound })
+
+pub bind_below-requires-clause-types : goal.bind_below-requires-clause-types
+bind_below-requires-clause-types g c =
+    let first = c.self.inside.ledger in
+    let keyed = ap (λ w. the_key w.records) (sym c.self.view_is) ∙ c.self.invariant.1 in
+    let made = c.in_ok-prepare.ensures.room first.key keyed in
+    ap (λ w. types_of_key (the_key w.records)) c.self-2.view_is ∙ ap (λ l. types_of_key (the_key l)) made.keeps.records ∙ c.requires.types
 
 pub returns-clause-step : goal.returns-clause-step
 returns-clause-step g c =
