@@ -90,7 +90,7 @@ module _ {F : Type 0} (f : offset_file.Ghosts F) where
     ended A at n buffer old new (inl (full, reads)) fewer = absurd (omega (arith, full, fewer))
     ended A at n buffer old new (inr (less, (outcomes, reads, gave))) fewer =
         let (keeps, calls) = reads_keep f at (length buffer) (outcomes ++ Ok [] ∷ []) 0 old n new reads in record {
-          reads = inr (n, take n buffer, (outcomes, reads_noted at (length buffer) (outcomes ++ Ok [] ∷ []) 0 old n new reads, gave));
+          reads = (n, take n buffer, (outcomes, reads_noted at (length buffer) (outcomes ++ Ok [] ∷ []) 0 old n new reads, gave));
           shows = λ honest steady.
               let ((done, middle), before, last) = step_parts (RestReads f at (length buffer)) outcomes (Ok [] ∷ []) (0, old) (n, new) reads in
               end_before at (length buffer) outcomes old done middle n new honest steady before last less;
@@ -113,7 +113,7 @@ module _ {F : Type 0} (f : offset_file.Ghosts F) where
         → DiskReads {A = A} f at buffer (Err fault.Failed) old new
     broke A at error buffer old new (n, (outcomes, reads, gave)) =
         let (keeps, calls) = reads_keep f at (length buffer) (outcomes ++ Err (error_kind error) ∷ []) 0 old n new reads in record {
-          reads = (
+          reads = inr (
             n,
             (
               error_kind error,

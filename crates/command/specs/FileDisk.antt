@@ -10,6 +10,8 @@ use Rattle.command.specs.declared.offset_file.OffsetFile as offset_file
 use Rattle.command.specs.declared.refusal.Refusal.{Refusal}
 use Rattle.command.specs.declared.refusal.Refusal.TheVariants.{FileFailed, Locked}
 use Rattle.command.specs.declared.state.StateAlarm.{StateAlarm}
+use Rattle.command.specs.declared.state.StateFile.{StateFile}
+use Rattle.command.specs.StateFile.{IsOpenedAt}
 use Rattle.command.specs.Trace.{Happening, measured, read_at, synced, written_at}
 
 abbrev pub file_of : {F : Type 0} → FileDisk F → F
@@ -44,22 +46,14 @@ slots_of alarm = alarm.slots
 abbrev pub IsStateRefusal : Refusal → Type 0
 IsStateRefusal refusal = (refusal ≡ FileFailed) ⊎ (refusal ≡ Locked)
 
--- an open state file: its path, and what happened to it since it was opened
-pub record OpenedState : Type 0 where
-  pub path : List ℕ
-  pub happenings : List Happening
-
-abbrev pub opened_at : (path : List ℕ) → OpenedState
-opened_at path = record { path = path; happenings = [] }
-
 -- The state file at this path was opened, and nothing happened to it yet; or it was refused.
-abbrev pub OpensState : (path : List ℕ) → Result OpenedState Refusal → Type 0
-OpensState path (Ok file) = file ≡ opened_at path
+abbrev pub OpensState : {F : Type 0} → (path : List ℕ) → Result (StateFile F) Refusal → Type 0
+OpensState path (Ok file) = IsOpenedAt path file
 OpensState path (Err refusal) = IsStateRefusal refusal
 
 -- As `OpensState`, without a lock, so that 54 can't come.
-abbrev pub OpensUnlocked : (path : List ℕ) → Result OpenedState Refusal → Type 0
-OpensUnlocked path (Ok file) = file ≡ opened_at path
+abbrev pub OpensUnlocked : {F : Type 0} → (path : List ℕ) → Result (StateFile F) Refusal → Type 0
+OpensUnlocked path (Ok file) = IsOpenedAt path file
 OpensUnlocked path (Err refusal) = refusal ≡ FileFailed
 
 -- ---- a part of the bytes, and then the rest
@@ -88,15 +82,15 @@ EndsBeyond at size old new = (2 ^ 64 ≤ at + size) × (new ≡ old)
 
 -- ---- the calls of the disk
 
--- These bytes were read at an offset. Or the file ended before them, or a read failed.
+-- These bytes were read at an offset. Or the file ended before them, or a read failed, or no file is so long.
 abbrev pub ReadsAt : {A : Type 0} → (at : ℕ) (bytes : List ℕ) → Result A DiskFault → (old new : List Happening)
     → Type 0
 ReadsAt at bytes (Ok _) old new =
     GivesText (ReadsRest at (length bytes)) bytes (0, old) (length bytes, new)
-ReadsAt at bytes (Err PastEnd) old new = EndsBeyond at (length bytes) old new
-    ⊎ ((done : ℕ) × (first : List ℕ) × GivesAll (ReadsRest at (length bytes)) first (0, old) (done, new))
-ReadsAt at bytes (Err Failed) old new =
-    (done : ℕ) × Breaks (ReadsRest at (length bytes)) (0, old) (done, new)
+ReadsAt at bytes (Err PastEnd) old new =
+    (done : ℕ) × (first : List ℕ) × GivesAll (ReadsRest at (length bytes)) first (0, old) (done, new)
+ReadsAt at bytes (Err Failed) old new = EndsBeyond at (length bytes) old new
+    ⊎ ((done : ℕ) × Breaks (ReadsRest at (length bytes)) (0, old) (done, new))
 ReadsAt at bytes (Err OutOfMemory) old new = ⊥
 
 -- These bytes were written at an offset. Or a write took nothing, or failed.

@@ -25,6 +25,7 @@ pub mod Retire
 pub mod Serve
 pub mod Sign
 pub mod Signing
+pub mod StateFile
 pub mod Streams
 pub mod Target
 pub mod Trace

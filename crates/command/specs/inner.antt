@@ -6,3 +6,4 @@ pub mod ListingText
 pub mod RandomFile
 pub mod Sign
 pub mod StateFile
+pub mod SystemFile

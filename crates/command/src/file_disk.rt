@@ -60,7 +60,7 @@ fn fill_at<F: OffsetFile>(file: &mut F, at: u64, into: &mut [u8]) -> Result<(), 
     ensures { DiskReads F.OffsetFile at into.new result file.old file.new }
 {
     if at.checked_add(into.len() as u64).is_none() {
-        return Err(DiskFault::PastEnd);
+        return Err(DiskFault::Failed);
     }
     match read_full(&mut AtOffset { file, at }, into) {
         Ok(n) => if n < into.len() {

@@ -2,7 +2,8 @@
 
 ghost use Rattle.std.specs.Prelude.{◌≡◌, ◌++◌, ◌∷◌, [], List, None, IfErr, IfOk, ⊤};
 ghost use Rattle.std.specs.Io.{ReadsAtMost};
-ghost use Rattle.command.specs.FileDisk.{file_of, opened_at};
+ghost use Rattle.command.specs.FileDisk.{file_of};
+ghost use Rattle.command.specs.StateFile.{IsOpenedAt};
 ghost use Rattle.command.specs.Trace.{Happening, opening};
 
 use crate::file_disk::FileDisk;
@@ -12,7 +13,8 @@ use crate::key_start::has_key;
 use crate::random_file::RandomFile;
 use crate::refusal::Refusal;
 use crate::standard::Standard;
-use crate::state::{Access, StateAlarm, StateFile};
+use crate::state::{StateAlarm, StateFile};
+use crate::system_file::{Access, SystemFile};
 use crate::target::{NotReplaced, Target, replace};
 use crate::trace::{Event, Role, Trace, Traced};
 use sign_core::RngSource;
@@ -288,7 +290,7 @@ impl<'a, R: Files<File = File>> Machine<'a, R> {
     }
 
     // Remembers the file, so that it is never overwritten.
-    fn disk_over(&mut self, file: StateFile<'a>) -> FileDisk<StateFile<'a>>
+    fn disk_over(&mut self, file: StateFile<'a, SystemFile>) -> FileDisk<StateFile<'a, SystemFile>>
         ensures trace { self.new ≡ self.old }
         ensures file { file_of result ≡ file.entry }
     {
@@ -330,18 +332,21 @@ impl<R: Files<File = File>> Outlet for Machine<'_, R> {
 }
 
 impl<'a, R: Files<File = File>> SignerFolder<'a> for Machine<'a, R> {
-    type Disk = FileDisk<StateFile<'a>>;
+    type Disk = FileDisk<StateFile<'a, SystemFile>>;
 
     type Random = RngSource<RandomFile<MachineFile<'a>>>;
 
     type Alarm = StateAlarm<'a>;
 
     // nothing happened to it yet; no more is known of a disk over a file of the machine
-    ghost is_opened = { λ path disk. file_of disk ≡ opened_at path };
+    ghost is_opened = { λ path disk. IsOpenedAt path (file_of disk) };
 
     ghost is_closed = { λ _ _. ⊤ };
 
-    fn open_state(&mut self, path: &'a str) -> Result<FileDisk<StateFile<'a>>, Refusal> {
+    fn open_state(
+        &mut self,
+        path: &'a str,
+    ) -> Result<FileDisk<StateFile<'a, SystemFile>>, Refusal> {
         match StateFile::open(&self.rt, self.standard, path, Access::ReadAndWrite) {
             Ok(file) => {
                 self.trace.note(&Event::Opened(Role::State, path));
@@ -357,7 +362,10 @@ impl<'a, R: Files<File = File>> SignerFolder<'a> for Machine<'a, R> {
         }
     }
 
-    fn open_state_to_read(&mut self, path: &'a str) -> Result<FileDisk<StateFile<'a>>, Refusal> {
+    fn open_state_to_read(
+        &mut self,
+        path: &'a str,
+    ) -> Result<FileDisk<StateFile<'a, SystemFile>>, Refusal> {
         match StateFile::open(&self.rt, self.standard, path, Access::Read) {
             Ok(file) => {
                 self.trace.note(&Event::OpenedToRead(path));
@@ -373,7 +381,10 @@ impl<'a, R: Files<File = File>> SignerFolder<'a> for Machine<'a, R> {
         }
     }
 
-    fn open_state_unlocked(&mut self, path: &'a str) -> Result<FileDisk<StateFile<'a>>, Refusal> {
+    fn open_state_unlocked(
+        &mut self,
+        path: &'a str,
+    ) -> Result<FileDisk<StateFile<'a, SystemFile>>, Refusal> {
         match StateFile::open_unlocked(&self.rt, self.standard, path) {
             Ok(file) => {
                 self.trace.note(&Event::OpenedUnlocked(path));
@@ -390,7 +401,7 @@ impl<'a, R: Files<File = File>> SignerFolder<'a> for Machine<'a, R> {
         &mut self,
         path: &'a str,
         content: NewContent,
-    ) -> Result<FileDisk<StateFile<'a>>, Refusal> {
+    ) -> Result<FileDisk<StateFile<'a, SystemFile>>, Refusal> {
         match StateFile::open_or_make(&self.rt, self.standard, path, content) {
             Ok(file) => {
                 self.trace.note(&Event::Made(path));
@@ -410,7 +421,7 @@ impl<'a, R: Files<File = File>> SignerFolder<'a> for Machine<'a, R> {
         StateAlarm::new(self.standard, path)
     }
 
-    fn close_state(&mut self, disk: FileDisk<StateFile<'a>>) {
+    fn close_state(&mut self, disk: FileDisk<StateFile<'a, SystemFile>>) {
         drop(disk);
     }
 

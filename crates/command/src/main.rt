@@ -19,9 +19,10 @@
 //! - the answer: `answer`, `refusal`, `listing_text` and `hex_text`, written to `output`
 //! - a signer: `key_file` over the disk of a state file, `signing` over any store
 //! - files: `files` has the traits, `trace` what contracts see of the calls
-//! - the machine: `machine`, `standard` (its streams, and what is said of failed calls), `state`, `offset_file`,
-//!   `file_disk` and `random_file`; `file_id` (which file a path leads to), `target` (how a file is written),
-//!   `key_start` (whether it has a key)
+//! - the machine: `machine`, `standard` (its streams, and what is said of failed calls) and `random_file`; `file_id`
+//!   (which file a path leads to), `target` (how a file is written), `key_start` (whether it has a key)
+//! - a state file: `file_calls` (the calls of the system, which are trusted), made by `system_file`; `state` over them,
+//!   `offset_file`, and `file_disk` over that
 //! - `progress`: the line that a terminal shows of long work, in the `foreground` alone
 #![tactic(auto)]
 
@@ -29,6 +30,7 @@ mod answer;
 mod argument;
 mod audit;
 mod audit_given;
+mod file_calls;
 mod file_disk;
 mod file_id;
 mod files;
@@ -57,6 +59,7 @@ mod sign;
 mod signing;
 mod standard;
 mod state;
+mod system_file;
 mod target;
 mod texts;
 mod trace;

@@ -1,6 +1,6 @@
 //! An open file, read and written at offsets.
 
-ghost use Rattle.std.specs.Prelude.{◌≡◌, ◌++◌, ◌∷◌, ◌<◌, ◌≤◌, ◌^◌, [], ℕ, List, Bool, IfOk, IsTrue, length};
+ghost use Rattle.std.specs.Prelude.{◌≡◌, ◌++◌, ◌∷◌, ◌≤◌, [], ℕ, List, Bool, IfOk, IsTrue, length};
 ghost use Rattle.std.specs.Io.{ReadsAtMost, WritesAtMost};
 ghost use Rattle.state_file.specs.Disk.{DiskState, MayLeave, Syncs};
 ghost use Rattle.typecodes.specs.Layout.{AreBytes};
@@ -16,7 +16,7 @@ use std::io::ErrorKind;
 /// as closed.
 ///
 /// Only an honest file promises the clauses about bytes and crashes, which are those of a `Disk`, and a disk over it is
-/// honest. Of a file of the machine they are the premise.
+/// honest.
 pub trait OffsetFile {
     // what happened to it, in order
     ghost trace: { Self → List Happening };
@@ -67,9 +67,6 @@ pub trait OffsetFile {
         ensures call { CallsFile honest state moment left_since self.old self.new };
 
     ghost gives_bytes: { (file : Self) → IsTrue (honest file) → AreBytes (state file).content };
-
-    // A length is a u64.
-    ghost has_length: { (file : Self) → IsTrue (honest file) → length (state file).content < 2 ^ 64 };
 
     // A crash may leave what a read gives.
     ghost shows: { (file : Self) → IsTrue (honest file) → MayLeave (state file) (state file).content };

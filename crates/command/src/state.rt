@@ -7,17 +7,18 @@ ghost use Rattle.command.specs.FileDisk.{OpensState, OpensUnlocked};
 ghost use Rattle.command.specs.OffsetFile.{kept};
 ghost use Rattle.command.specs.Trace.{Happening, measured, read_at, synced, written_at};
 
+use crate::file_calls::FileCalls;
 use crate::file_id::FileId;
 use crate::files::NewContent;
 use crate::offset_file::{OffsetFile, kind_kept};
 use crate::refusal::Refusal;
 use crate::standard::Standard;
+use crate::system_file::{Access, SystemFile};
 use crate::trace::{Event, Trace};
 use sign_core::Alarm;
 use state_file::SlotList;
 use std::fs::{File, Files, OpenOptions, Permissions, TryLockError};
 use std::io::ErrorKind;
-use std::marker::Model;
 use std::os::unix::fs::{FileExt, OpenOptionsExt, PermissionsExt};
 use std::path::Path;
 use std::{fs, io};
@@ -37,30 +38,19 @@ const OPEN_GATE: u8 = 0xA5;
 // The closed gate that this program writes; any value but 0xA5 closes a gate.
 const CLOSED_GATE: u8 = 0;
 
-/// What a state file is opened for.
-#[derive(Clone, Copy, Debug, PartialEq, Eq)]
-pub enum Access {
-    /// Reading alone.
-    Read,
-    /// Reading and writing.
-    ReadAndWrite,
-}
-
-/// An open state file of the machine.
+/// An open state file, over the calls of the system.
 ///
-/// That it notes the calls of the system as they are made is read, and tests count its syncs. The rest here is tested
-/// or read, since no contract of the standard library speaks of it. The file is a regular one and no standard stream.
-/// Only `open_or_make` makes it, sets its mode and syncs its folder. A file that is locked already is refused with 54.
+/// Proved: it notes each call, and while it is locked it is honest where its file is. The rest is tested or read, since
+/// no contract of the standard library speaks of it. The file is a regular one and no standard stream. Only
+/// `open_or_make` makes it, sets its mode and syncs its folder. A file that is locked already is refused with 54.
 ///
 /// Another process may append to a file that isn't locked here. It is shown as it was when its length was last asked: a
-/// gate opened since then, whose slot wasn't whole, reads as closed. A file opened for reading alone counts as synced
-/// where its file system knows no sync.
+/// gate opened since then, whose slot wasn't whole, reads as closed.
 #[derive(Drop)]
-pub struct StateFile<'a> {
+pub struct StateFile<'a, F> {
     path: &'a str,
-    file: File,
+    file: F,
     id: FileId,
-    access: Access,
     is_locked: bool,
     // In bytes, when it was last asked.
     length: u64,
@@ -68,15 +58,7 @@ pub struct StateFile<'a> {
     trace: Trace,
 }
 
-impl<'a> Model for StateFile<'a> {
-    ghost use Rattle.command.specs.FileDisk.{OpenedState};
-
-    ghost Value = { OpenedState };
-
-    ghost view = { λ file. record { path = file.path.now; happenings = file.trace.events } };
-}
-
-impl<'a> StateFile<'a> {
+impl<'a> StateFile<'a, SystemFile> {
     /// Opens the state file at this path, and locks it without waiting. It is never made. 54: it is locked. 53: it
     /// isn't a regular file, it is a standard stream, or a call failed.
     pub fn open<R: Files<File = File>>(
@@ -152,9 +134,8 @@ impl<'a> StateFile<'a> {
         standard.refuse_state(path, id)?;
         Ok(StateFile {
             path,
-            file,
+            file: SystemFile::new(file, access),
             id,
-            access,
             is_locked: false,
             length: 0,
             standard,
@@ -172,7 +153,7 @@ impl<'a> StateFile<'a> {
         ensures { OpensState path.now result }
     {
         let mut state = StateFile::take(standard, path, file, access)?;
-        match state.file.try_lock() {
+        match state.file.file.try_lock() {
             Ok(()) => {
                 state.is_locked = true;
                 Ok(state)
@@ -199,7 +180,10 @@ impl<'a> StateFile<'a> {
         if !self.may_take(content)? {
             return Ok(());
         }
-        let set = self.file.set_permissions(Permissions::from_mode(PRIVATE));
+        let set = self
+            .file
+            .file
+            .set_permissions(Permissions::from_mode(PRIVATE));
         self.standard.told(self.path, "its mode can't be set", set)
     }
 
@@ -210,7 +194,7 @@ impl<'a> StateFile<'a> {
         let found = self.standard.told(
             self.path,
             "its length can't be read",
-            self.file.metadata(),
+            self.file.file.metadata(),
         )?;
         if found.len() < KEY_ALONE {
             return Ok(true);
@@ -219,45 +203,19 @@ impl<'a> StateFile<'a> {
             return Ok(false);
         }
         let mut gate = [0; 1];
-        self.standard.told(self.path, "can't be read", self.file.read_at(&mut gate, 0))?;
+        self.standard.told(
+            self.path,
+            "can't be read",
+            self.file.file.read_at(&mut gate, 0),
+        )?;
         Ok(gate[0] != OPEN_GATE)
     }
+}
 
+impl<F> StateFile<'_, F> {
     /// Which file of the machine it is.
     pub fn id(&self) -> FileId {
         self.id
-    }
-
-    // A gate that another process opened since the length was asked reads as closed: its slot wasn't whole then.
-    fn read_as_it_was(&self, at: u64, into: &mut [u8]) -> io::Result<usize>
-        ensures { ReadsAtMost result into.new }
-    {
-        let answer = self.told("can't be read", self.file.read_at(into, at));
-        if into.len() == 1 && into[0] == OPEN_GATE && self.has_grown_past(at) {
-            into[0] = CLOSED_GATE;
-        }
-        answer
-    }
-
-    // Whether the slot of the gate at this offset wasn't whole when the length was asked, and is now.
-    fn has_grown_past(&self, at: u64) -> bool {
-        let next = at.saturating_add(SLOT);
-        if self.is_locked || next < self.length {
-            return false;
-        }
-        match self.file.metadata() {
-            Ok(metadata) => metadata.len() > next,
-            Err(_) => false,
-        }
-    }
-
-    // A file opened for reading alone counts as synced where its file system knows no sync.
-    fn synced(&self) -> io::Result<()> {
-        match self.file.sync_data() {
-            Err(error) if self.access == Access::Read && error.kind() == ErrorKind::InvalidInput =>
-                { Ok(()) }
-            answer => self.told("can't be synced", answer),
-        }
     }
 
     // Returns the answer. Standard error says what failed.
@@ -332,37 +290,53 @@ fn not_regular(standard: &Standard, path: &str) -> Refusal
     Refusal::FileFailed
 }
 
-impl OffsetFile for StateFile<'_> {
-    ghost use Rattle.state_file.specs.Disk.{settled};
-    ghost use Rattle.command.specs.inner.StateFile.{never};
-    ghost use Rattle.std.specs.Prelude.{false, ⊤};
+// Reads a file that isn't locked. A gate that another process opened since the length was asked reads as closed: its
+// slot wasn't whole then.
+fn read_unlocked<F: FileCalls>(
+    file: &mut F,
+    length: u64,
+    at: u64,
+    into: &mut [u8],
+) -> io::Result<usize>
+    ensures { ReadsAtMost result into.new }
+{
+    let answer = file.read_at(at, into);
+    let next = at.saturating_add(SLOT);
+    if into.len() == 1 && into[0] == OPEN_GATE && next >= length {
+        match file.len() {
+            Ok(now) if now > next => into[0] = CLOSED_GATE,
+            _ => {}
+        }
+    }
+    answer
+}
 
-    ghost trace = { λ file. file.happenings };
+impl<F: FileCalls> OffsetFile for StateFile<'_, F> {
+    ghost use Rattle.command.specs.StateFile.{honest_of, left_since_of, moment_of, state_of, trace_of};
+    ghost use Rattle.command.specs.inner.StateFile.{its_file};
 
-    ghost state = { λ _. settled [] };
+    ghost trace = { trace_of };
 
-    ghost moment = { λ _. 0 };
+    ghost state = { state_of F.FileCalls };
 
-    ghost left_since = { λ _ _ _. ⊤ };
+    ghost moment = { moment_of F.FileCalls };
 
-    // No contract of the standard library says what a file of the machine holds.
-    ghost honest = { λ _. false };
+    ghost left_since = { left_since_of F.FileCalls };
 
-    ghost gives_bytes = { λ _ is_honest. never is_honest };
+    ghost honest = { honest_of F.FileCalls };
 
-    ghost has_length = { λ _ is_honest. never is_honest };
+    ghost gives_bytes = { λ state is_honest. F.gives_bytes state.file (its_file state.is_locked _ is_honest) };
 
-    ghost shows = { λ _ is_honest. never is_honest };
+    ghost shows = { λ state is_honest. F.shows state.file (its_file state.is_locked _ is_honest) };
 
-    ghost counts_now = { λ _ _ _ is_honest _ _. never is_honest };
+    ghost counts_now = { λ state t c is_honest early left.
+        F.counts_now state.file t c (its_file state.is_locked _ is_honest) early left };
 
-    ghost only_now = { λ _ _ is_honest _. never is_honest };
+    ghost only_now = { λ state c is_honest since.
+        F.only_now state.file c (its_file state.is_locked _ is_honest) since };
 
     fn len(&mut self) -> io::Result<u64> {
-        let answer = match self.file.metadata() {
-            Ok(metadata) => Ok(metadata.len()),
-            Err(error) => Err(error),
-        };
+        let answer = self.file.len();
         let answer = self.told("its length can't be read", answer);
         if let Ok(length) = &answer {
             self.length = *length;
@@ -372,7 +346,12 @@ impl OffsetFile for StateFile<'_> {
     }
 
     fn read_at(&mut self, at: u64, into: &mut [u8]) -> io::Result<usize> {
-        let answer = self.read_as_it_was(at, into);
+        let answer = if self.is_locked {
+            self.file.read_at(at, into)
+        } else {
+            read_unlocked(&mut self.file, self.length, at, into)
+        };
+        let answer = self.told("can't be read", answer);
         let size = into.len();
         if let Ok(0) = &answer {
             self.standard.tell_reason(
@@ -389,7 +368,8 @@ impl OffsetFile for StateFile<'_> {
     }
 
     fn write_at(&mut self, at: u64, bytes: &[u8]) -> io::Result<usize> {
-        let answer = self.told("can't be written", self.file.write_at(bytes, at));
+        let answer = self.file.write_at(at, bytes);
+        let answer = self.told("can't be written", answer);
         if let Ok(0) = &answer {
             self.standard
                 .tell_reason(self.path, "can't be written", "no byte was taken");
@@ -403,7 +383,8 @@ impl OffsetFile for StateFile<'_> {
     }
 
     fn sync(&mut self) -> io::Result<()> {
-        let answer = self.synced();
+        let answer = self.file.sync();
+        let answer = self.told("can't be synced", answer);
         self.trace.note(&Event::Synced(kind_kept(&answer)));
         answer
     }

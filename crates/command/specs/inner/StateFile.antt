@@ -1,11 +1,7 @@
--- What follows where a file isn't honest.
-use Rattle.std.proofs.Common.{subst}
-use Rattle.std.specs.Prelude.{Bool, true, false, IsTrue}
+-- An honest state file has an honest file.
+use Rattle.std.specs.Prelude.{Bool, true, false, ◌&&◌, IsTrue}
+use Rattle.command.specs.inner.SystemFile.{never}
 
-abbrev pub IsNotTrue : Bool → Type 0
-IsNotTrue true = ⊥
-IsNotTrue false = Unit {0}
-
--- a file that isn't honest makes no promise
-pub never : {A : Type 0} → IsTrue false → A
-never honest = absurd (subst IsNotTrue honest tt)
+pub its_file : (is_locked is_honest : Bool) → IsTrue (is_locked && is_honest) → IsTrue is_honest
+its_file true is_honest both = both
+its_file false is_honest both = never both
