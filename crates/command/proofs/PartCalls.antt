@@ -90,7 +90,7 @@ shows_along old new c same shows = subst (λ s. Shows s c) same shows
 
 -- ---- changes in a range
 
-opens_nothing : (range : Range) (state : DiskState) → OpensRange range state state
+pub opens_nothing : (range : Range) (state : DiskState) → OpensRange range state state
 opens_nothing range state = record {
   changes = changes_nothing (range ∷ []) state.content;
   no_more = within_more range state.ranges;

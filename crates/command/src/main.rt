@@ -22,7 +22,7 @@
 //! - the machine: `machine`, `standard` (its streams, and what is said of failed calls) and `random_file`; `file_id`
 //!   (which file a path leads to), `target` (how a file is written), `key_start` (whether it has a key)
 //! - a state file: `file_calls` (the calls of the system, which are trusted), made by `system_file`; `state` over them,
-//!   `offset_file`, and `file_disk` over that
+//!   `offset_file`, and `file_disk` over that; `disk_file` has an honest file
 //! - `progress`: the line that a terminal shows of long work, in the `foreground` alone
 #![tactic(auto)]
 
@@ -30,6 +30,7 @@ mod answer;
 mod argument;
 mod audit;
 mod audit_given;
+mod disk_file;
 mod file_calls;
 mod file_disk;
 mod file_id;
