@@ -2,7 +2,7 @@
 //! so.
 
 use super::expecting::{expect, expect_none};
-use super::values::{RISING, made_up_bytes};
+use super::values::{RISING, first, made_up_bytes};
 use lmots::LmOts;
 use sha2::{Digest, Sha256};
 use typecodes::OtsType;
@@ -63,29 +63,37 @@ fn digits_from(steps: u8) -> [u8; 32] {
 #[test]
 fn each_length_climbs_in_each_lane(rt: HostRuntime) {
     for steps in 0..=255u8 {
-        expect_none(&rt, wrong_chain(&[steps; 32]));
-        expect_none(&rt, wrong_chain(&digits_from(steps)));
+        expect(&rt, climb_to(&[steps; 32]));
+        expect(&rt, climb_to(&digits_from(steps)));
     }
 }
 
-// The first chain of those that climb together which ends elsewhere by itself, on the way to the digest's digits. From
-// there on they lead to the public hash, and otherwise there is 34.
-fn wrong_chain(digest: &[u8; 32]) -> Option<usize> {
+// Where a chain ends that climbs by itself.
+fn end_of(chain: u16, digit: u8) -> [u8; 32] {
+    climb(&KEY, chain, 0, digit, &KEY.secret(&RISING, chain))
+}
+
+// The ends of the digest's digits.
+fn ends_of(digest: &[u8; 32]) -> [[u8; 32]; 32] {
+    let mut ends = [[0; 32]; 32];
+    for i in 0..32usize {
+        ends[i] = end_of(i as u16, digest[i]);
+    }
+    ends
+}
+
+fn signed(digest: &[u8; 32]) -> [u8; 32 * 34] {
     let mut bytes = [0; 32 * 34];
     KEY.sign_digest(OtsType::W8, &RISING, digest, &mut bytes);
+    bytes
+}
+
+// Whether the chains that climb together end where each does by itself, and from there on lead to the public hash.
+fn climb_to(digest: &[u8; 32]) -> bool {
+    let bytes = signed(digest);
     let (values, _) = bytes.as_chunks();
-    for i in 0..32u8 {
-        let chain = u16::from(i);
-        let start = KEY.secret(&RISING, chain);
-        if values[usize::from(i)] != climb(&KEY, chain, 0, digest[usize::from(i)], &start) {
-            return Some(usize::from(i));
-        }
-    }
-    if KEY.hash_from_signature(OtsType::W8, digest, values) == EIGHT_BITS {
-        None
-    } else {
-        Some(34)
-    }
+    values.starts_with(&ends_of(digest))
+        && KEY.hash_from_signature(OtsType::W8, digest, values) == EIGHT_BITS
 }
 
 // H(I || 00000005 || 8080 || y[0] || .. || y[33]), where y[i] is private value i of type W8 after all steps.
@@ -105,22 +113,26 @@ fn digest_takes_the_randomizer(rt: HostRuntime) {
     expect(&rt, KEY.message_digest(&RISING, b"abc") == DIGEST);
 }
 
-// The first length of bytes whose reader has another digest: lengths around one piece and two.
-fn wrong_length(text: &[u8; 32769]) -> Option<usize> {
-    for length in [0, 1, 16383, 16384, 16385, 32768, 32769usize] {
-        let mut message = &text[..length];
-        let expected = KEY.message_digest(&RISING, message);
-        let digest = KEY.message_digest_from(&RISING, &mut message);
-        if digest != Ok(expected) || !message.is_empty() {
-            return Some(length);
-        }
-    }
-    None
+// Whether a reader of a message has its digest, and reads all of it.
+fn is_read(mut message: &[u8]) -> bool {
+    let expected = KEY.message_digest(&RISING, message);
+    KEY.message_digest_from(&RISING, &mut message) == Ok(expected) && message.is_empty()
+}
+
+// Lengths around one piece and two.
+fn are_read(text: &[u8; 32769]) -> bool {
+    is_read(&[])
+        && is_read(first(text, 1))
+        && is_read(first(text, 16383))
+        && is_read(first(text, 16384))
+        && is_read(first(text, 16385))
+        && is_read(first(text, 32768))
+        && is_read(text)
 }
 
 #[test]
 fn digest_of_a_reader(rt: HostRuntime) {
-    expect_none(&rt, wrong_length(&[7; 32769]));
+    expect(&rt, are_read(&[7; 32769]));
 }
 
 // A type, a digest, and H(I || 00000005 || 8080 || y[0] || .. || y[p-1]). y[i] is value i of a made-up signature after

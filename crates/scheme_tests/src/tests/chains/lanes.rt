@@ -44,25 +44,28 @@ fn in_lanes<const N: usize>(round: u32) -> [[u8; N]; LANES] {
     all
 }
 
-// The first lane with another digest of a message that begins with 20 bytes, a chain's number and a step's.
-fn wrong_begun(round: u32) -> Option<usize> {
-    let first = in_lanes(round.wrapping_add(200));
-    let values = in_lanes(round);
-    let hashed = Beginning::new(&first).hash(&CHAINS, &STEPS, &in_words(&values));
-    let digests = digests(&hashed);
+// Digests of 20 bytes, a chain's number, a step's, and a value.
+fn digests_of_parts(first: &[[u8; 20]; LANES], values: &[[u8; 32]; LANES]) -> [[u8; 32]; LANES] {
+    let mut digests = [[0; 32]; LANES];
     for lane in 0..LANES {
-        let digest = digest_of_parts(&first[lane], CHAINS[lane], STEPS[lane], &values[lane]);
-        if digests[lane] != digest {
-            return Some(lane);
-        }
+        digests[lane] = digest_of_parts(&first[lane], CHAINS[lane], STEPS[lane], &values[lane]);
     }
-    None
+    digests
+}
+
+fn are_begun(first: &[[u8; 20]; LANES], values: &[[u8; 32]; LANES]) -> bool {
+    let hashed = Beginning::new(first).hash(&CHAINS, &STEPS, &in_words(values));
+    digests(&hashed) == digests_of_parts(first, values)
+}
+
+fn have_digests(round: u32) -> bool {
+    are_begun(&in_lanes(round.wrapping_add(200)), &in_lanes(round))
 }
 
 #[test]
 fn messages_that_begin_alike_have_their_digests(rt: HostRuntime) {
     for round in 0..8 {
-        expect_none(&rt, wrong_begun(round));
+        expect(&rt, have_digests(round));
     }
 }
 
@@ -84,27 +87,32 @@ fn digest_of_two(first: &[u8], last: &[u8]) -> [u8; 32] {
     hasher.finalize()
 }
 
-// The first lane with another digest of 96 or 128 bytes.
-fn wrong_after_a_block(round: u32) -> Option<usize> {
-    let blocks = in_lanes(round);
-    let last = in_lanes(round.wrapping_add(100));
-    let first = compress(&initial(), &blocks);
-    let digests = sha256_of_96(&first, &last);
-    let longer = sha256_of_128(&first, &blocks);
+// Digests of two parts.
+fn digests_of_two<const N: usize>(
+    first: &[[u8; 64]; LANES],
+    last: &[[u8; N]; LANES],
+) -> [[u8; 32]; LANES] {
+    let mut digests = [[0; 32]; LANES];
     for lane in 0..LANES {
-        if digests[lane] != digest_of_two(&blocks[lane], &last[lane])
-            || longer[lane] != digest_of_two(&blocks[lane], &blocks[lane])
-        {
-            return Some(lane);
-        }
+        digests[lane] = digest_of_two(&first[lane], &last[lane]);
     }
-    None
+    digests
+}
+
+fn are_after_a_block(blocks: &[[u8; 64]; LANES], last: &[[u8; 32]; LANES]) -> bool {
+    let first = compress(&initial(), blocks);
+    sha256_of_96(&first, last) == digests_of_two(blocks, last)
+        && sha256_of_128(&first, blocks) == digests_of_two(blocks, blocks)
+}
+
+fn have_digests_after_a_block(round: u32) -> bool {
+    are_after_a_block(&in_lanes(round), &in_lanes(round.wrapping_add(100)))
 }
 
 #[test]
 fn messages_after_a_block_have_their_digests(rt: HostRuntime) {
     for round in 0..8 {
-        expect_none(&rt, wrong_after_a_block(round));
+        expect(&rt, have_digests_after_a_block(round));
     }
 }
 

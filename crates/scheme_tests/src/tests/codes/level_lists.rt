@@ -53,13 +53,20 @@ fn are_levels(pairs: &[LmsPair]) -> bool {
     }
 }
 
+fn are_levels_of_each_count() -> bool {
+    are_levels(&[TOP])
+        && are_levels(&[TOP, BELOW])
+        && are_levels(&[TOP, BELOW, BELOW])
+        && are_levels(&[TOP, BELOW, BELOW, BELOW])
+        && are_levels(&[TOP, BELOW, BELOW, BELOW, BELOW])
+        && are_levels(&[TOP, BELOW, BELOW, BELOW, BELOW, BELOW])
+        && are_levels(&[TOP, BELOW, BELOW, BELOW, BELOW, BELOW, BELOW])
+        && are_levels(&[TOP, BELOW, BELOW, BELOW, BELOW, BELOW, BELOW, BELOW])
+}
+
 #[test]
 fn levels_of_each_count(rt: HostRuntime) {
-    let mut pairs = [BELOW; 8];
-    pairs[0] = TOP;
-    for count in 1..=8 {
-        expect(&rt, are_levels(&pairs[..count]));
-    }
+    expect(&rt, are_levels_of_each_count());
 }
 
 fn are_none(pairs: &[LmsPair]) -> bool {
@@ -71,10 +78,14 @@ fn differ(pairs: &[LmsPair], others: &[LmsPair]) -> bool {
 }
 
 // None and nine are refused. Count and order distinguish levels.
+fn are_others() -> bool {
+    are_none(&[])
+        && are_none(&[TOP; 9])
+        && differ(&[TOP], &[TOP, TOP])
+        && differ(&[TOP, BELOW], &[BELOW, TOP])
+}
+
 #[test]
 fn other_levels(rt: HostRuntime) {
-    expect(&rt, are_none(&[]));
-    expect(&rt, are_none(&[TOP; 9]));
-    expect(&rt, differ(&[TOP], &[TOP, TOP]));
-    expect(&rt, differ(&[TOP, BELOW], &[BELOW, TOP]));
+    expect(&rt, are_others());
 }

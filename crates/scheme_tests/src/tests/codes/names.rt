@@ -3,26 +3,6 @@
 use crate::tests::expecting::expect;
 use typecodes::{BadName, Name};
 
-// 1 to 128 bytes, each from 0x21 to 0x7E.
-const NAMES: [&[u8]; 6] = [
-    b"!",
-    b"~",
-    b"release-1.2",
-    &[b'x'; 64],
-    &[b'x'; 65],
-    &[b'x'; 128],
-];
-
-const OTHER_BYTES: [&[u8]; 7] = [
-    b"",
-    &[b'x'; 129],
-    b" ",
-    b"two words",
-    b"\x7f",
-    b"\x00",
-    b"na\xc3\xafve",
-];
-
 // Whether the bytes are a name, and are given back by it.
 fn is_name(bytes: &[u8]) -> bool {
     match Name::new(bytes) {
@@ -31,38 +11,51 @@ fn is_name(bytes: &[u8]) -> bool {
     }
 }
 
-fn are_names(names: &[&[u8]]) -> bool {
-    for bytes in names {
-        if !is_name(bytes) {
-            return false;
-        }
-    }
-    true
+// 1 to 128 bytes, each from 0x21 to 0x7E.
+fn are_names() -> bool {
+    is_name(b"!")
+        && is_name(b"~")
+        && is_name(b"release-1.2")
+        && is_name(&[b'x'; 64])
+        && is_name(&[b'x'; 65])
+        && is_name(&[b'x'; 128])
 }
 
-fn is_none_named(others: &[&[u8]]) -> bool {
-    for bytes in others {
-        if Name::new(bytes) != Err(BadName) {
-            return false;
-        }
-    }
-    true
+fn is_refused(bytes: &[u8]) -> bool {
+    Name::new(bytes) == Err(BadName)
+}
+
+fn are_refused() -> bool {
+    is_refused(b"")
+        && is_refused(&[b'x'; 129])
+        && is_refused(b" ")
+        && is_refused(b"two words")
+        && is_refused(b"\x7f")
+        && is_refused(b"\x00")
+        && is_refused(b"na\xc3\xafve")
 }
 
 #[test]
 fn takes_visible_ascii_and_nothing_else(rt: HostRuntime) {
-    expect(&rt, are_names(&NAMES));
-    expect(&rt, is_none_named(&OTHER_BYTES));
+    expect(&rt, are_names() && are_refused());
 }
 
-fn are_equal(name: &[u8], other: &[u8]) -> Result<bool, BadName> {
-    Ok(Name::new(name)? == Name::new(other)?)
+// Whether both are names, equal or not.
+fn are_compared(name: &[u8], other: &[u8], are_equal: bool) -> bool {
+    match (Name::new(name), Name::new(other)) {
+        (Ok(name), Ok(other)) => (name == other) == are_equal,
+        _ => false,
+    }
+}
+
+fn are_distinct() -> bool {
+    are_compared(b"release-1", b"release-1", true)
+        && are_compared(b"release-1", b"release-2", false)
+        && are_compared(b"release-1", b"release-12", false)
+        && are_compared(b"release-1", b"Release-1", false)
 }
 
 #[test]
 fn compares_by_bytes(rt: HostRuntime) {
-    expect(&rt, are_equal(b"release-1", b"release-1") == Ok(true));
-    expect(&rt, are_equal(b"release-1", b"release-2") == Ok(false));
-    expect(&rt, are_equal(b"release-1", b"release-12") == Ok(false));
-    expect(&rt, are_equal(b"release-1", b"Release-1") == Ok(false));
+    expect(&rt, are_distinct());
 }

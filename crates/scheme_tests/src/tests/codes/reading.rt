@@ -59,38 +59,30 @@ fn is_filled(plan: &[Step], wanted: Result<usize, ErrorKind>, bytes: [u8; 5], le
 
 // Reading goes on after a part, and stops once the buffer is full. The number that a read answers counts, even where it
 // wrote nothing. Any error is answered at once, and is no end.
-#[test]
-fn reads_go_on_until_a_failure(rt: HostRuntime) {
+fn go_on_until_a_failure() -> bool {
     use Step::{Claimed, Fails, Interrupted, Part};
-    for (plan, answer, buffer, left) in [
-        ([Part(9)].as_slice(), Ok(5), [1, 2, 3, 4, 5], 0),
-        (&[Part(2), Part(3), Interrupted], Ok(5), [1, 2, 3, 4, 5], 1),
-        (&[Part(3), Part(0), Part(2)], Ok(3), [1, 2, 3, 0, 0], 1),
-        (&[], Ok(0), [0; 5], 0),
-        (&[Claimed(9)], Ok(5), [0; 5], 0),
-        (&[Part(2), Claimed(2), Part(9)], Ok(5), [1, 2, 0, 0, 3], 0),
-        (
-            &[Interrupted, Part(9)],
-            Err(ErrorKind::Interrupted),
-            [0; 5],
-            1,
-        ),
-        (
+    const INTERRUPTED: Result<usize, ErrorKind> = Err(ErrorKind::Interrupted);
+    const BROKEN: Result<usize, ErrorKind> = Err(ErrorKind::BrokenPipe);
+    is_filled(&[Part(9)], Ok(5), [1, 2, 3, 4, 5], 0)
+        && is_filled(&[Part(2), Part(3), Interrupted], Ok(5), [1, 2, 3, 4, 5], 1)
+        && is_filled(&[Part(3), Part(0), Part(2)], Ok(3), [1, 2, 3, 0, 0], 1)
+        && is_filled(&[], Ok(0), [0; 5], 0)
+        && is_filled(&[Claimed(9)], Ok(5), [0; 5], 0)
+        && is_filled(&[Part(2), Claimed(2), Part(9)], Ok(5), [1, 2, 0, 0, 3], 0)
+        && is_filled(&[Interrupted, Part(9)], INTERRUPTED, [0; 5], 1)
+        && is_filled(
             &[Part(3), Interrupted, Part(2)],
-            Err(ErrorKind::Interrupted),
+            INTERRUPTED,
             [1, 2, 3, 0, 0],
             1,
-        ),
-        (&[Fails, Part(5)], Err(ErrorKind::BrokenPipe), [0; 5], 1),
-        (
-            &[Part(3), Part(1), Fails],
-            Err(ErrorKind::BrokenPipe),
-            [1, 2, 3, 4, 0],
-            0,
-        ),
-    ] {
-        expect(&rt, is_filled(plan, answer, buffer, left));
-    }
+        )
+        && is_filled(&[Fails, Part(5)], BROKEN, [0; 5], 1)
+        && is_filled(&[Part(3), Part(1), Fails], BROKEN, [1, 2, 3, 4, 0], 0)
+}
+
+#[test]
+fn reads_go_on_until_a_failure(rt: HostRuntime) {
+    expect(&rt, go_on_until_a_failure());
 }
 
 // Counts pieces and their bytes, and refuses a piece after this many.
@@ -133,7 +125,8 @@ enum End {
     Refused(u32),
 }
 
-fn read_by(plan: &[Step], most: u32) -> (End, u32, usize) {
+// Whether the reading ends so, and this number of pieces and bytes is taken.
+fn is_read(plan: &[Step], most: u32, wanted: End, pieces: u32, bytes: usize) -> bool {
     let mut message = Planned { plan, given: 0 };
     let mut tally = Tally {
         pieces: 0,
@@ -146,42 +139,37 @@ fn read_by(plan: &[Step], most: u32) -> (End, u32, usize) {
         Err(ReadError::TooLong) => End::TooLong,
         Err(ReadError::Refused(pieces)) => End::Refused(pieces),
     };
-    (end, tally.pieces, tally.bytes)
+    end == wanted && tally.pieces == pieces && tally.bytes == bytes
 }
 
-#[test]
-fn messages_are_read_to_their_end(rt: HostRuntime) {
+fn are_read() -> bool {
     use Step::{Claimed, Fails, Interrupted, Part};
-    for (plan, most, end, pieces, bytes) in [
-        ([].as_slice(), 1, End::Read, 1, 0),
-        (&[Part(5), Part(3)], 1, End::Read, 1, 8),
-        (&[Claimed(PIECE)], 2, End::Read, 2, PIECE),
-        (
-            &[Part(1), Claimed(PIECE), Claimed(PIECE), Part(2)],
-            9,
-            End::Read,
-            3,
-            2 * PIECE + 2,
-        ),
-        (
+    const LONG: &[Step] = &[Part(1), Claimed(PIECE), Claimed(PIECE), Part(2)];
+    is_read(&[], 1, End::Read, 1, 0)
+        && is_read(&[Part(5), Part(3)], 1, End::Read, 1, 8)
+        && is_read(&[Claimed(PIECE)], 2, End::Read, 2, PIECE)
+        && is_read(LONG, 9, End::Read, 3, 2 * PIECE + 2)
+        && is_read(
             &[Part(1), Interrupted, Part(1)],
             9,
             End::Failed(ErrorKind::Interrupted),
             0,
             0,
-        ),
-        (
+        )
+        && is_read(
             &[Claimed(PIECE), Part(1), Fails],
             9,
             End::Failed(ErrorKind::BrokenPipe),
             1,
             PIECE,
-        ),
-        (&[Claimed(PIECE), Part(1)], 1, End::Refused(1), 1, PIECE),
-        (&[], 0, End::Refused(0), 0, 0),
-    ] {
-        expect(&rt, read_by(plan, most) == (end, pieces, bytes));
-    }
+        )
+        && is_read(&[Claimed(PIECE), Part(1)], 1, End::Refused(1), 1, PIECE)
+        && is_read(&[], 0, End::Refused(0), 0, 0)
+}
+
+#[test]
+fn messages_are_read_to_their_end(rt: HostRuntime) {
+    expect(&rt, are_read());
 }
 
 trait OffsetFile {
