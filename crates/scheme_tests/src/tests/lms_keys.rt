@@ -5,7 +5,7 @@ mod made_by_others;
 
 use super::expecting::{expect, expect_none};
 use super::readers::Failing;
-use super::values::{fill, first, made_up_bytes, put, turn};
+use super::values::{copy, fill, first, made_up_bytes, put, turn};
 use lms::{LmsPublic, LmsSigView, LmsTree, verify};
 use merkle::TreeHash;
 use sha2::{Digest, Sha256};
@@ -338,24 +338,38 @@ fn digits(digest: &[u8; 32]) -> [u8; 34] {
     digits
 }
 
-// Leaf q's signature of a message, with C = a5, .., a5 (4.5 and 5.4.1).
+const RANDOMIZER: [u8; 32] = [0xa5; 32];
+
+// Its digits for a message, with C = a5, .., a5 (4.5).
+fn digits_for(q: u8, message: &[u8]) -> [u8; 34] {
+    let mut hasher = hasher(u32::from(q), 0x8181);
+    hasher.update(RANDOMIZER);
+    hasher.update(message);
+    digits(&hasher.finalize())
+}
+
+fn put_values(bytes: &mut [u8], q: u8, digits: &[u8; 34]) {
+    for chain in 0..34usize {
+        let value = chain_value(q, chain as u16, digits[chain]);
+        copy(bytes, 40 + 32 * chain, &value);
+    }
+}
+
+fn put_path(bytes: &mut [u8], nodes: &[[u8; 32]; 64], q: u8) {
+    let mut over = 32 + usize::from(q);
+    for k in 0..5usize {
+        copy(bytes, 1132 + 32 * k, &nodes[(over ^ 1) % 64]);
+        over /= 2;
+    }
+}
+
+// Leaf q's signature of a message (5.4.1).
 fn sign(nodes: &[[u8; 32]; 64], q: u8, message: &[u8]) -> [u8; 1292] {
-    let randomizer = [0xa5; 32];
-    let mut digest = hasher(u32::from(q), 0x8181);
-    digest.update(randomizer);
-    digest.update(message);
     let mut bytes = zero_signature();
     bytes[3] = q;
-    bytes[8..40].copy_from_slice(&randomizer);
-    for (chain, digit) in digits(&digest.finalize()).iter().enumerate() {
-        let offset = 40 + 32 * chain;
-        bytes[offset..offset + 32].copy_from_slice(&chain_value(q, chain as u16, *digit));
-    }
-    for k in 0..5 {
-        let offset = 1132 + 32 * k;
-        let sibling = (((32 + usize::from(q)) >> k) ^ 1) % 64;
-        bytes[offset..offset + 32].copy_from_slice(&nodes[sibling]);
-    }
+    copy(&mut bytes, 8, &RANDOMIZER);
+    put_values(&mut bytes, q, &digits_for(q, message));
+    put_path(&mut bytes, nodes, q);
     bytes
 }
 

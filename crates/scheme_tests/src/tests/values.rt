@@ -42,6 +42,15 @@ pub(crate) fn fill(bytes: &mut [u8], offset: usize, byte: u8) {
     }
 }
 
+/// Writes a value's bytes from an offset on, if they fit there.
+pub(crate) fn copy(bytes: &mut [u8], offset: usize, value: &[u8; 32]) {
+    if let Some(part) = bytes.get_mut(offset..offset.saturating_add(32)) {
+        if part.len() == 32 {
+            part.copy_from_slice(value);
+        }
+    }
+}
+
 /// The first bytes; all of them, if they are fewer.
 pub(crate) fn first(bytes: &[u8], len: usize) -> &[u8] {
     match bytes.get(..len) {

@@ -3,8 +3,8 @@
 
 ghost use Rattle.std.specs.Prelude.{◌≤◌};
 
-use super::expecting::{expect, expect_none};
-use super::values::{RISING, RISING_FROM_40, made_up_bytes};
+use super::expecting::expect;
+use super::values::{RISING, RISING_FROM_40, first, made_up_bytes};
 use super::xmss_keys::vectors::CASTLE_PUBLIC;
 use sha2::{Digest, Sha256};
 use winternitz::lanes::LANES;
@@ -21,57 +21,45 @@ const VALUE: [u8; 32] = [
 
 const SECRET: [u8; 32] = [0xa5; 32];
 
-// An address, keyAndMask, and its bytes.
-const ADDRESSES: [(Address, u32, [u8; 32]); 3] = [
-    (
-        Address::OneTime {
-            leaf: 1,
-            chain: 2,
-            hash: 3,
-        },
-        1,
-        [
-            0, 0, 0, 0, 0, 0, 0, 0, 0, 0, 0, 0, 0, 0, 0, 0, 0, 0, 0, 1, 0, 0, 0, 2, 0, 0, 0, 3, 0,
-            0, 0, 1,
-        ],
-    ),
-    (
-        Address::LTree {
-            leaf: 0x01020304,
-            height: 6,
-            index: 7,
-        },
-        0,
-        [
-            0, 0, 0, 0, 0, 0, 0, 0, 0, 0, 0, 0, 0, 0, 0, 1, 1, 2, 3, 4, 0, 0, 0, 6, 0, 0, 0, 7, 0,
-            0, 0, 0,
-        ],
-    ),
-    (
-        Address::HashTree {
-            height: 4,
-            index: 5,
-        },
-        2,
-        [
-            0, 0, 0, 0, 0, 0, 0, 0, 0, 0, 0, 0, 0, 0, 0, 2, 0, 0, 0, 0, 0, 0, 0, 4, 0, 0, 0, 5, 0,
-            0, 0, 2,
-        ],
-    ),
-];
+// Whether an address with this keyAndMask has these bytes after 12 zeros.
+fn has_bytes(address: Address, key_and_mask: u32, last: &[u8; 20]) -> bool {
+    let bytes = address.bytes(key_and_mask);
+    bytes.starts_with(&[0; 12]) && bytes.ends_with(last)
+}
 
-fn wrong_address() -> Option<usize> {
-    for (k, (address, key_and_mask, bytes)) in ADDRESSES.iter().enumerate() {
-        if address.bytes(*key_and_mask) != *bytes {
-            return Some(k);
-        }
-    }
-    None
+fn have_eight_words() -> bool {
+    let one_time = Address::OneTime {
+        leaf: 1,
+        chain: 2,
+        hash: 3,
+    };
+    let l_tree = Address::LTree {
+        leaf: 0x01020304,
+        height: 6,
+        index: 7,
+    };
+    let hash_tree = Address::HashTree {
+        height: 4,
+        index: 5,
+    };
+    has_bytes(
+        one_time,
+        1,
+        &[0, 0, 0, 0, 0, 0, 0, 1, 0, 0, 0, 2, 0, 0, 0, 3, 0, 0, 0, 1],
+    ) && has_bytes(
+        l_tree,
+        0,
+        &[0, 0, 0, 1, 1, 2, 3, 4, 0, 0, 0, 6, 0, 0, 0, 7, 0, 0, 0, 0],
+    ) && has_bytes(
+        hash_tree,
+        2,
+        &[0, 0, 0, 2, 0, 0, 0, 0, 0, 0, 0, 4, 0, 0, 0, 5, 0, 0, 0, 2],
+    )
 }
 
 #[test]
 fn addresses_have_eight_words(rt: HostRuntime) {
-    expect_none(&rt, wrong_address());
+    expect(&rt, have_eight_words());
 }
 
 // SHA-256(toByte(k, 32) || KEY || M) for k = 0, 1, 2, 3
@@ -107,22 +95,26 @@ fn keyed_hashes_begin_with_their_number(rt: HostRuntime) {
     expect(&rt, begin_with_number());
 }
 
-// The first length of bytes whose reader has another digest: lengths around one piece and two.
-fn wrong_length(text: &[u8; 32769]) -> Option<usize> {
-    for length in [0, 1, 16383, 16384, 16385, 32768, 32769usize] {
-        let mut message = &text[..length];
-        let expected = hash_message(&[0x77; 96], message);
-        let digest = hash_message_from(&[0x77; 96], &mut message);
-        if digest != Ok(expected) || !message.is_empty() {
-            return Some(length);
-        }
-    }
-    None
+// Whether a reader of a message has its digest, and reads all of it.
+fn is_read(mut message: &[u8]) -> bool {
+    let expected = hash_message(&[0x77; 96], message);
+    hash_message_from(&[0x77; 96], &mut message) == Ok(expected) && message.is_empty()
+}
+
+// Lengths around one piece and two.
+fn are_read(text: &[u8; 32769]) -> bool {
+    is_read(&[])
+        && is_read(first(text, 1))
+        && is_read(first(text, 16383))
+        && is_read(first(text, 16384))
+        && is_read(first(text, 16385))
+        && is_read(first(text, 32768))
+        && is_read(text)
 }
 
 #[test]
 fn digest_of_a_reader(rt: HostRuntime) {
-    expect_none(&rt, wrong_length(&[7; 32769]));
+    expect(&rt, are_read(&[7; 32769]));
 }
 
 // F(PRF(SEED, ADRS, 0), VALUE XOR PRF(SEED, ADRS, 1)), ADRS the one-time address 5, 2, 3
@@ -199,52 +191,52 @@ const VALUES: [[u8; 32]; LANES] = [
     SECRET,
 ];
 
-// The first lane with another value after a step. Each lane has its own chain and place.
-fn wrong_step(key: &Wots<'_>) -> Option<usize> {
-    let at = [7, 0, 14, 1, 13, 8, 2, 0];
-    let after = key.step_in_lanes(&CHAINS, &at, &VALUES);
+// Each lane's value after a step by itself.
+fn after_a_step(key: &Wots<'_>, at: &[u8; LANES]) -> [[u8; 32]; LANES] {
+    let mut after = [[0; 32]; LANES];
     for lane in 0..LANES {
-        if after[lane] != key.step(CHAINS[lane], at[lane], &VALUES[lane]) {
-            return Some(lane);
-        }
+        after[lane] = key.step(CHAINS[lane], at[lane], &VALUES[lane]);
     }
-    None
+    after
+}
+
+// Each lane has its own chain and place.
+fn are_steps(seed: &Prf) -> bool {
+    let at = [7, 0, 14, 1, 13, 8, 2, 0];
+    let key = Wots {
+        seed,
+        leaf: 0x01020304,
+    };
+    key.step_in_lanes(&CHAINS, &at, &VALUES) == after_a_step(&key, &at)
 }
 
 #[test]
 fn steps_in_lanes_are_steps(rt: HostRuntime) {
-    for seed in [SEED, RISING_FROM_40] {
-        let seed = Prf::new(seed);
-        let key = Wots {
-            seed: &seed,
-            leaf: 0x01020304,
-        };
-        expect_none(&rt, wrong_step(&key));
-    }
+    expect(
+        &rt,
+        are_steps(&Prf::new(SEED)) && are_steps(&Prf::new(RISING_FROM_40)),
+    );
 }
 
-// The first lane whose chain, of those that climb together from place 0, ends elsewhere by itself.
-fn wrong_lane(key: &Wots<'_>, steps: u8) -> Option<usize>
-    requires { steps ≤ 15 }
-{
-    let ends = key.steps_in_lanes(&CHAINS, &[0; LANES], steps, &VALUES);
+// The chains' values, each of which climbs by itself from place 0.
+fn ends_of(key: &Wots<'_>, chains: &[u16; LANES], to: &[u8; LANES]) -> [[u8; 32]; LANES] {
+    let mut ends = [[0; 32]; LANES];
     for lane in 0..LANES {
-        if ends[lane] != climb(key, CHAINS[lane], 0, steps, &VALUES[lane]) {
-            return Some(lane);
-        }
+        ends[lane] = climb(key, chains[lane], 0, to[lane], &VALUES[lane]);
     }
-    None
+    ends
+}
+
+// Whether chains that climb together from place 0 end where each does by itself.
+fn climb_in_lanes(key: &Wots<'_>, steps: u8) -> bool {
+    key.steps_in_lanes(&CHAINS, &[0; LANES], steps, &VALUES)
+        == ends_of(key, &CHAINS, &[steps; LANES])
 }
 
 // The same for the key's first chains, each to its own place.
-fn wrong_chain(key: &Wots<'_>, to: &[u8; LANES]) -> Option<usize> {
+fn climb_to_places(key: &Wots<'_>, to: &[u8; LANES]) -> bool {
     let ends = climb_to(key, to, &VALUES);
-    for chain in 0..LANES {
-        if ends[chain] != climb(key, chain as u16, 0, to[chain], &VALUES[chain]) {
-            return Some(chain);
-        }
-    }
-    None
+    ends.starts_with(&ends_of(key, &[0, 1, 2, 3, 4, 5, 6, 7], to))
 }
 
 // Places that are this number of steps apart, modulo 16, one for each lane.
@@ -266,8 +258,8 @@ fn each_length_climbs_in_each_lane(rt: HostRuntime) {
         leaf: 0x01020304,
     };
     for steps in 0..16u8 {
-        expect_none(&rt, wrong_lane(&key, steps));
-        expect_none(&rt, wrong_chain(&key, &places_from(steps)));
+        expect(&rt, climb_in_lanes(&key, steps));
+        expect(&rt, climb_to_places(&key, &places_from(steps)));
     }
 }
 
@@ -414,24 +406,23 @@ fn l_trees_have_their_roots(rt: HostRuntime) {
 // Leaves side by side, one leaf in two lanes.
 const LEAVES: [u32; LANES] = [5, 0, 0xffffffff, 0x01020304, 6, 1023, 1 << 19, 5];
 
-// The first lane with another public hash than its key has by itself.
-fn wrong_key(seed: &Prf) -> Option<usize> {
-    let hashes = Wots::public_hashes_in_lanes(seed, LEAVES, &SECRET);
+// The public hash of each leaf's key by itself.
+fn public_hashes(seed: &Prf) -> [[u8; 32]; LANES] {
+    let mut hashes = [[0; 32]; LANES];
     for lane in 0..LANES {
-        let key = Wots {
-            seed,
-            leaf: LEAVES[lane],
-        };
-        if hashes[lane] != key.public_hash(&SECRET) {
-            return Some(lane);
-        }
+        let leaf = LEAVES[lane];
+        hashes[lane] = Wots { seed, leaf }.public_hash(&SECRET);
     }
-    None
+    hashes
+}
+
+fn are_public_hashes(seed: &Prf) -> bool {
+    Wots::public_hashes_in_lanes(seed, LEAVES, &SECRET) == public_hashes(seed)
 }
 
 #[test]
 fn keys_in_lanes_have_their_public_hashes(rt: HostRuntime) {
-    expect_none(&rt, wrong_key(&Prf::new(SEED)));
+    expect(&rt, are_public_hashes(&Prf::new(SEED)));
 }
 
 // r || root || toByte(255, 32)

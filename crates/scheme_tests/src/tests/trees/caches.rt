@@ -101,141 +101,104 @@ fn are_in_order(counted: &mut Counted<'_>) -> bool {
     counted.made() == Some(32 + 28)
 }
 
-fn gives_in_order(alloc: Global) -> Result<bool, OutOfMemory> {
-    let tally = Tally::new();
-    let mut counted = Counted::new(alloc, &tally, 5)?;
-    Ok(are_in_order(&mut counted))
-}
-
-#[test]
-fn paths_in_order_make_each_other_block_once(rt: HostRuntime) {
-    expect(&rt, gives_in_order(rt.alloc()) == Ok(true));
-}
-
-// A tree's height, and leaves in turn, each with how many leaves its path makes. Two blocks take turns; then there is
-// one block, of a tree of height 3; and a tree of one leaf has none.
-const IN_TURN: [(u8, &[(u32, u64)]); 3] = [
-    (5, &[(0, 0), (4, 4), (0, 4), (4, 4), (7, 0), (0, 4), (3, 0)]),
-    (3, &[(5, 2), (4, 0)]),
-    (0, &[(0, 0)]),
-];
-
-// Whether a cache's paths in turn are right, and make this many leaves.
-fn gives_in_turn(alloc: Global, height: u8, steps: &[(u32, u64)]) -> Result<bool, OutOfMemory> {
-    if height > 5 {
-        return Ok(false);
-    }
-    let tally = Tally::new();
-    let mut counted = Counted::new(alloc, &tally, height)?;
-    Ok(counted.takes(steps))
+// Two blocks take turns; then there is one block, of a tree of height 3; and a tree of one leaf has none.
+fn give_in_turn(alloc: Global) -> bool {
+    gives(
+        alloc,
+        5,
+        &Asked::InTurn(&[(0, 0), (4, 4), (0, 4), (4, 4), (7, 0), (0, 4), (3, 0)]),
+    ) && gives(alloc, 3, &Asked::InTurn(&[(5, 2), (4, 0)]))
+        && gives(alloc, 0, &Asked::InTurn(&[(0, 0)]))
 }
 
 #[test]
 fn another_block_is_made_each_time(rt: HostRuntime) {
-    for (height, steps) in IN_TURN {
-        expect(&rt, gives_in_turn(rt.alloc(), height, steps) == Ok(true));
-    }
+    expect(&rt, give_in_turn(rt.alloc()));
 }
 
-// A tree's height, and the leaves of a block.
-const SIZES: [(u8, u32); 8] = [
-    (1, 1),
-    (2, 2),
-    (5, 4),
-    (10, 32),
-    (15, 128),
-    (16, 256),
-    (20, 1024),
-    (25, 4096),
-];
+#[test]
+fn paths_in_order_make_each_other_block_once(rt: HostRuntime) {
+    expect(&rt, gives(rt.alloc(), 5, &Asked::InOrder));
+}
 
 // Whether a cache makes each leaf once, and then a block's leaves for a path.
 fn has_blocks(counted: &mut Counted<'_>, leaves: u32, block: u32) -> bool {
     let made = u64::from(block);
     let made_last = if leaves / 2 == block { 0 } else { made };
     counted.made() == Some(u64::from(leaves))
-        && counted.growth(0) == Some(0)
-        && counted.growth(block.saturating_sub(1)) == Some(0)
-        && counted.growth(block) == Some(made)
-        && counted.growth(leaves.saturating_sub(1)) == Some(made_last)
-        && counted.growth(leaves.saturating_sub(block)) == Some(0)
+        && counted.takes(&[
+            (0, 0),
+            (block.saturating_sub(1), 0),
+            (block, made),
+            (leaves.saturating_sub(1), made_last),
+            (leaves.saturating_sub(block), 0),
+        ])
 }
 
-fn has_size(alloc: Global, height: u8, block: u32) -> Result<bool, OutOfMemory> {
-    if height > 25 {
-        return Ok(false);
-    }
-    let tally = Tally::new();
-    let mut counted = Counted::new(alloc, &tally, height)?;
-    Ok(has_blocks(&mut counted, 2u32.pow(u32::from(height)), block))
+// Whether a cache of a tree of this height has blocks of this size.
+fn has_size(alloc: Global, height: u8, block: u32) -> bool {
+    gives(alloc, height, &Asked::Blocks(block))
+}
+
+fn have_sizes(alloc: Global) -> bool {
+    has_size(alloc, 1, 1)
+        && has_size(alloc, 2, 2)
+        && has_size(alloc, 5, 4)
+        && has_size(alloc, 10, 32)
+        && has_size(alloc, 15, 128)
+        && has_size(alloc, 16, 256)
+        && has_size(alloc, 20, 1024)
+        && has_size(alloc, 25, 4096)
 }
 
 #[test]
 fn caches_have_their_sizes(rt: HostRuntime) {
-    for (height, block) in SIZES {
-        expect(&rt, has_size(rt.alloc(), height, block) == Ok(true));
+    expect(&rt, have_sizes(rt.alloc()));
+}
+
+// Whether it has made each leaf once, and gives the root, q's path without a leaf more, and another leaf's by this
+// many.
+fn keeps_block(counted: &mut Counted<'_>, leaves: u32, q: u32, other: u32, made: u64) -> bool {
+    counted.made() == Some(u64::from(leaves))
+        && counted.has_root()
+        && counted.takes(&[(q, 0), (other, made)])
+}
+
+// Whether a cache for leaf q of a tree of this height begins with q's block. The other leaf is in another block if
+// there is one, and its path makes this many leaves.
+fn begins_with_block(alloc: Global, height: u8, q: u32, other: u32, made: u64) -> bool {
+    if height > 10 || q >= 2u32.pow(u32::from(height)) {
+        return false;
+    }
+    let tally = Tally::new();
+    let leaves = 2u32.pow(u32::from(height));
+    match Counted::for_leaf(alloc, &tally, height, q) {
+        Ok(mut counted) => keeps_block(&mut counted, leaves, q, other, made),
+        Err(OutOfMemory) => false,
     }
 }
 
-// A tree's height, the leaf that a cache is made for, and another leaf, in another block if there is one. Last, how
-// many leaves this one's path then makes.
-const LEAVES: [(u8, u32, u32, u64); 14] = [
-    (0, 0, 0, 0),
-    (1, 0, 1, 1),
-    (1, 1, 0, 1),
-    (5, 0, 4, 4),
-    (5, 3, 31, 4),
-    (5, 12, 11, 4),
-    (5, 15, 16, 4),
-    (5, 16, 0, 4),
-    (5, 31, 27, 4),
-    (10, 0, 32, 32),
-    (10, 480, 479, 32),
-    (10, 511, 512, 32),
-    (10, 512, 1023, 32),
-    (10, 1023, 0, 32),
-];
-
-// Whether a cache for leaf q has made each leaf once, and gives the root and q's path without a leaf more. The other
-// leaf's path makes this many.
-fn begins_with_block(
-    alloc: Global,
-    height: u8,
-    q: u32,
-    other: u32,
-    made: u64,
-) -> Result<bool, OutOfMemory> {
-    if height > 10 || q >= 2u32.pow(u32::from(height)) {
-        return Ok(false);
-    }
-    let tally = Tally::new();
-    let mut counted = Counted::for_leaf(alloc, &tally, height, q)?;
-    let once = counted.made() == Some(u64::from(2u32.pow(u32::from(height))));
-    Ok(once && counted.has_root() && counted.takes(&[(q, 0), (other, made)]))
+fn begin_with_block(alloc: Global) -> bool {
+    begins_with_block(alloc, 0, 0, 0, 0)
+        && begins_with_block(alloc, 1, 0, 1, 1)
+        && begins_with_block(alloc, 1, 1, 0, 1)
+        && begins_with_block(alloc, 5, 0, 4, 4)
+        && begins_with_block(alloc, 5, 3, 31, 4)
+        && begins_with_block(alloc, 5, 12, 11, 4)
+        && begins_with_block(alloc, 5, 15, 16, 4)
+        && begins_with_block(alloc, 5, 16, 0, 4)
+        && begins_with_block(alloc, 5, 31, 27, 4)
+        && begins_with_block(alloc, 10, 0, 32, 32)
+        && begins_with_block(alloc, 10, 480, 479, 32)
+        && begins_with_block(alloc, 10, 511, 512, 32)
+        && begins_with_block(alloc, 10, 512, 1023, 32)
+        && begins_with_block(alloc, 10, 1023, 0, 32)
 }
 
 #[test]
 fn caches_begin_with_the_block_of_a_leaf(rt: HostRuntime) {
-    for (height, q, other, made) in LEAVES {
-        expect(
-            &rt,
-            begins_with_block(rt.alloc(), height, q, other, made) == Ok(true),
-        );
-    }
+    expect(&rt, begin_with_block(rt.alloc()));
 }
-
-// A tree's height; leaves made after the paths of all leaves in turn; how often in lanes, when the cache was new and by
-// then. Blocks have eight leaves at height 6 and 7, and fewer elsewhere.
-const TOGETHER: [(u8, u32, u32, u32); 8] = [
-    (0, 1, 0, 0),
-    (1, 3, 0, 0),
-    (2, 6, 0, 0),
-    (3, 14, 0, 0),
-    (4, 28, 1, 1),
-    (5, 60, 3, 3),
-    (6, 120, 8, 15),
-    (7, 248, 16, 31),
-];
 
 // Whether a cache gives the paths of all leaves in turn.
 fn gives_each(counted: &mut Counted<'_>, count: u32) -> bool {
@@ -247,30 +210,62 @@ fn gives_each(counted: &mut Counted<'_>, count: u32) -> bool {
     true
 }
 
-// Whether a cache gives the root and the paths of all leaves in turn, from this many leaves, made in lanes this often.
+// Whether it gives the root and the paths of all leaves in turn. From this many leaves, made in lanes this often when
+// the cache was new, and by then.
 fn gives_all(
-    alloc: Global,
-    height: u8,
-    leaves: u32,
-    new: u32,
-    together: u32,
-) -> Result<bool, OutOfMemory> {
-    if height > 7 {
-        return Ok(false);
+    counted: &mut Counted<'_>,
+    count: u32,
+    (leaves, new, together): (u32, u32, u32),
+) -> bool {
+    counted.has_root()
+        && counted.tally.together.get() == new
+        && gives_each(counted, count)
+        && counted.tally.get() == (leaves, together)
+}
+
+// What a new cache is asked: its paths in order, or of these leaves in turn; the size of its blocks; or all paths.
+#[derive(Clone, Copy)]
+enum Asked<'a> {
+    InOrder,
+    InTurn(&'a [(u32, u64)]),
+    Blocks(u32),
+    All(u32, u32, u32),
+}
+
+fn answers(counted: &mut Counted<'_>, leaves: u32, asked: &Asked<'_>) -> bool {
+    match asked {
+        Asked::InOrder => are_in_order(counted),
+        Asked::InTurn(steps) => counted.takes(steps),
+        Asked::Blocks(block) => has_blocks(counted, leaves, *block),
+        Asked::All(made, new, together) => gives_all(counted, leaves, (*made, *new, *together)),
+    }
+}
+
+// Whether a new cache of a tree of this height answers so.
+fn gives(alloc: Global, height: u8, asked: &Asked<'_>) -> bool {
+    if height > 25 {
+        return false;
     }
     let tally = Tally::new();
-    let mut counted = Counted::new(alloc, &tally, height)?;
-    let is_new = counted.has_root() && tally.together.get() == new;
-    let gives = gives_each(&mut counted, 2u32.pow(u32::from(height)));
-    Ok(is_new && gives && tally.get() == (leaves, together))
+    match Counted::new(alloc, &tally, height) {
+        Ok(mut counted) => answers(&mut counted, 2u32.pow(u32::from(height)), asked),
+        Err(OutOfMemory) => false,
+    }
+}
+
+// Blocks have eight leaves at height 6 and 7, and fewer elsewhere.
+fn give_all(alloc: Global) -> bool {
+    gives(alloc, 0, &Asked::All(1, 0, 0))
+        && gives(alloc, 1, &Asked::All(3, 0, 0))
+        && gives(alloc, 2, &Asked::All(6, 0, 0))
+        && gives(alloc, 3, &Asked::All(14, 0, 0))
+        && gives(alloc, 4, &Asked::All(28, 1, 1))
+        && gives(alloc, 5, &Asked::All(60, 3, 3))
+        && gives(alloc, 6, &Asked::All(120, 8, 15))
+        && gives(alloc, 7, &Asked::All(248, 16, 31))
 }
 
 #[test]
 fn blocks_are_made_in_lanes(rt: HostRuntime) {
-    for (height, leaves, new, together) in TOGETHER {
-        expect(
-            &rt,
-            gives_all(rt.alloc(), height, leaves, new, together) == Ok(true),
-        );
-    }
+    expect(&rt, give_all(rt.alloc()));
 }

@@ -8,19 +8,6 @@ use merkle::{NodeHash, TreeHash, path, root};
 use typecodes::Count;
 use winternitz::lanes::LANES;
 
-// A tree's height, its number of leaves, and how often its root, and a path of it, make leaves in lanes.
-const TOGETHER: [(u8, u32, u32, u32); 9] = [
-    (0, 1, 0, 0),
-    (1, 2, 0, 0),
-    (2, 4, 0, 0),
-    (3, 8, 1, 0),
-    (4, 16, 2, 1),
-    (5, 32, 4, 3),
-    (6, 64, 8, 7),
-    (7, 128, 16, 15),
-    (10, 1024, 128, 127),
-];
-
 // Whether the root is right, from this many leaves, made in lanes this often.
 fn is_root(height: u8, leaves: u32, together: u32) -> bool {
     if height > 10 {
@@ -48,14 +35,32 @@ fn is_path_of(height: u8, q: u32, together: u32) -> bool {
         && leads_to(q, nodes, &worked_out(height, 0))
 }
 
-#[test]
-fn leaves_are_made_in_lanes(rt: HostRuntime) {
-    for (height, leaves, in_root, in_path) in TOGETHER {
-        expect(&rt, is_root(height, leaves, in_root));
-        for q in 0..leaves {
-            expect(&rt, is_path_of(height, q, in_path));
+// Whether a tree of this height has this number of leaves, and its root, and each path of it, make leaves in lanes this
+// often.
+fn are_made(height: u8, leaves: u32, in_root: u32, in_path: u32) -> bool {
+    for q in 0..leaves {
+        if !is_path_of(height, q, in_path) {
+            return false;
         }
     }
+    is_root(height, leaves, in_root)
+}
+
+fn are_made_in_lanes() -> bool {
+    are_made(0, 1, 0, 0)
+        && are_made(1, 2, 0, 0)
+        && are_made(2, 4, 0, 0)
+        && are_made(3, 8, 1, 0)
+        && are_made(4, 16, 2, 1)
+        && are_made(5, 32, 4, 3)
+        && are_made(6, 64, 8, 7)
+        && are_made(7, 128, 16, 15)
+        && are_made(10, 1024, 128, 127)
+}
+
+#[test]
+fn leaves_are_made_in_lanes(rt: HostRuntime) {
+    expect(&rt, are_made_in_lanes());
 }
 
 // A tree without lanes: byte 0 of leaf i is i, and a node is its left child.

@@ -61,17 +61,6 @@ fn noting(numbers: &Numbers, most: u64) -> Heard<'_>
     }
 }
 
-// A tree's height, the number told last, and how often one was told for its root: after each leaf, or each eight. In
-// the last row the tree is taken to have 20 leaves, and no more are told of.
-const ROOTS: [(u8, u64, u32); 6] = [
-    (0, 1, 1),
-    (1, 2, 2),
-    (2, 4, 4),
-    (3, 8, 1),
-    (5, 32, 4),
-    (5, 20, 3),
-];
-
 // The root, of which `numbers` is told.
 fn told_root(tally: &Tally, numbers: &Numbers, height: u8, last: u64) -> [u8; 32]
     requires { height ≤ 10 }
@@ -80,7 +69,7 @@ fn told_root(tally: &Tally, numbers: &Numbers, height: u8, last: u64) -> [u8; 32
     root(&mut told, height)
 }
 
-// Whether the root is right, and was told of like this.
+// Whether the root of a tree of this height is right, and this number was told last, and one this often.
 fn tells_of_root(height: u8, last: u64, often: u32) -> bool {
     if height > 10 {
         return false;
@@ -90,35 +79,48 @@ fn tells_of_root(height: u8, last: u64, often: u32) -> bool {
     root == worked_out(height, 0) && numbers.get() == (last, often)
 }
 
-#[test]
-fn a_root_is_told_of(rt: HostRuntime) {
-    for (height, last, often) in ROOTS {
-        expect(&rt, tells_of_root(height, last, often));
-    }
+// A number is told after each leaf, or each eight. In the last line the tree is taken to have 20 leaves, and no more
+// are told of.
+fn tell_of_roots() -> bool {
+    tells_of_root(0, 1, 1)
+        && tells_of_root(1, 2, 2)
+        && tells_of_root(2, 4, 4)
+        && tells_of_root(3, 8, 1)
+        && tells_of_root(5, 32, 4)
+        && tells_of_root(5, 20, 3)
 }
 
-// The same for caches, whose blocks have half the height: at height 5 three nodes have eight leaves each, at height 6
-// each block has eight.
-const CACHES: [(u8, u64, u32); 4] = [(0, 1, 1), (2, 4, 4), (5, 32, 11), (6, 64, 8)];
+#[test]
+fn a_root_is_told_of(rt: HostRuntime) {
+    expect(&rt, tell_of_roots());
+}
 
-// Whether the cache has the root, and was told of like this.
-fn tells_of_cache(alloc: Global, height: u8, last: u64, often: u32) -> Result<bool, OutOfMemory> {
+// Whether a cache of a tree of this height has the root, and this number was told last, and one this often.
+fn tells_of_cache(alloc: Global, height: u8, last: u64, often: u32) -> bool {
     if height > 10 {
-        return Ok(false);
+        return false;
     }
     let (tally, numbers) = (Tally::new(), Numbers::new());
     let heard = noting(&numbers, 2u64.pow(u32::from(height)));
-    let (cache, heard) = PathCache::for_leaf_telling(alloc, Sums::new(&tally), height, 0, heard)?;
-    let told = heard.last == last && numbers.get() == (last, often);
-    Ok(told && cache.root() == worked_out(height, 0))
+    match PathCache::for_leaf_telling(alloc, Sums::new(&tally), height, 0, heard) {
+        Ok((cache, heard)) => {
+            heard.last == last
+                && numbers.get() == (last, often)
+                && cache.root() == worked_out(height, 0)
+        }
+        Err(OutOfMemory) => false,
+    }
+}
+
+// The blocks have half the height: at height 5 three nodes have eight leaves each, at height 6 each block has eight.
+fn tell_of_caches(alloc: Global) -> bool {
+    tells_of_cache(alloc, 0, 1, 1)
+        && tells_of_cache(alloc, 2, 4, 4)
+        && tells_of_cache(alloc, 5, 32, 11)
+        && tells_of_cache(alloc, 6, 64, 8)
 }
 
 #[test]
 fn a_cache_is_told_of(rt: HostRuntime) {
-    for (height, last, often) in CACHES {
-        expect(
-            &rt,
-            tells_of_cache(rt.alloc(), height, last, often) == Ok(true),
-        );
-    }
+    expect(&rt, tell_of_caches(rt.alloc()));
 }
