@@ -78,6 +78,9 @@ fn reads_signatures_first() -> bool {
 #[test]
 fn each_scheme_verifies(rt: HostRuntime) {
     let root = Refusal::RootMismatch(0);
-    expect(&rt, reads_signatures_first());
-    expect(&rt, is_refused(&AnyPublic::Xmss(XMSS), &[0; 2692], root, 0));
+    let xmss = AnyPublic::Xmss(XMSS);
+    expect(
+        &rt,
+        reads_signatures_first() && is_refused(&xmss, &[0; 2692], root, 0),
+    );
 }

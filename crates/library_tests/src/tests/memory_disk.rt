@@ -153,22 +153,20 @@ fn are_right_on(alloc: Global, bytes: &[u8], steps: &[Step<'_>]) -> bool {
     }
 }
 
-const RUNS: &[(&[u8], &[Step<'static>])] = &[
-    (&[1, 2, 3], READS),
-    (&[1, 2, 3], READS_WRITTEN),
-    (&[1], WRITES_PAST_THE_END),
-    (&[1, 2, 3], STOPS_UNSYNCED),
-    (&[1, 2, 3], STOPS_SYNCED),
-    (&[1, 2, 3], FAILS_IN_A_WRITE),
-    (&[1, 2, 3], FAILS_ONCE),
-    (&[1, 2, 3], STOPS_FOR_GOOD),
-];
+fn are_all_right(alloc: Global) -> bool {
+    are_right_on(alloc, &[1, 2, 3], READS)
+        && are_right_on(alloc, &[1, 2, 3], READS_WRITTEN)
+        && are_right_on(alloc, &[1], WRITES_PAST_THE_END)
+        && are_right_on(alloc, &[1, 2, 3], STOPS_UNSYNCED)
+        && are_right_on(alloc, &[1, 2, 3], STOPS_SYNCED)
+        && are_right_on(alloc, &[1, 2, 3], FAILS_IN_A_WRITE)
+        && are_right_on(alloc, &[1, 2, 3], FAILS_ONCE)
+        && are_right_on(alloc, &[1, 2, 3], STOPS_FOR_GOOD)
+}
 
 #[test]
 fn steps_are_taken(rt: HostRuntime) {
-    for (bytes, steps) in RUNS {
-        expect(&rt, are_right_on(rt.alloc(), bytes, steps));
-    }
+    expect(&rt, are_all_right(rt.alloc()));
 }
 
 // A disk of three bytes, and how often memory was refused to its creation.

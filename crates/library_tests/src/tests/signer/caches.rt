@@ -60,7 +60,7 @@ const SIX_TREES: &[Step<'static>] = &[
     Step::Sign(5, 1, None),
 ];
 
-const ROWS: [Row<'static>; 20] = [
+const ROWS: &[Row<'static>] = &[
     // The fifth name's leaf is in the next block, whose four leaves are made. A block stays when leaves of it are
     // retired. A repeat of the first name makes the first block again.
     (
@@ -210,7 +210,7 @@ fn is_right(alloc: Global, (text, first, second, records): &Row<'_>) -> bool {
 
 #[test]
 fn a_key_makes_the_caches_that_it_needs(rt: HostRuntime) {
-    for row in &ROWS {
+    for row in ROWS {
         expect(&rt, is_right(rt.alloc(), row));
     }
 }

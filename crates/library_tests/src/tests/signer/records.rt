@@ -115,7 +115,7 @@ const KEY: Entry = Entry::Key(Version::One);
 const KEY_TWO: Entry = Entry::Key(Version::Two);
 
 // Lists, and their faults as a ledger, and as a store in memory if that takes them. A name's length has no part in it.
-const LISTS: [(&[Entry], Option<LedgerFault>); 24] = [
+const LISTS: &[(&[Entry], Option<LedgerFault>)] = &[
     (&[KEY_TWO], None),
     (&[KEY_TWO, Entry::Moved], Some(LedgerFault::Illegal(1))),
     (&[KEY_TWO, KEY], Some(LedgerFault::Illegal(1))),
@@ -206,21 +206,26 @@ fn is_store(alloc: Global, entries: &[Entry], fault: Option<LedgerFault>) -> boo
     }
 }
 
-// The index of the first list with another fault, as a ledger or as a store; the number of lists if there is none.
-fn first_other_list(alloc: Global) -> usize {
-    for (i, (entries, fault)) in LISTS.iter().enumerate() {
-        if is_ledger(alloc, entries, *fault) != Some(true) || !is_store(alloc, entries, *fault) {
-            return i;
+fn is_list(alloc: Global, entries: &[Entry], fault: Option<LedgerFault>) -> bool {
+    is_ledger(alloc, entries, fault) == Some(true) && is_store(alloc, entries, fault)
+}
+
+fn are_lists(alloc: Global) -> bool {
+    for (entries, fault) in LISTS {
+        if !is_list(alloc, entries, *fault) {
+            return false;
         }
     }
-    LISTS.len()
+    true
+}
+
+fn have_numbers() -> bool {
+    LedgerFault::Empty.number() == 40 && LedgerFault::OutOfMemory.number() == 46
 }
 
 #[test]
 fn ledgers_are_legal_lists(rt: HostRuntime) {
-    expect(&rt, first_other_list(rt.alloc()) == LISTS.len());
-    expect(&rt, LedgerFault::Empty.number() == 40);
-    expect(&rt, LedgerFault::OutOfMemory.number() == 46);
+    expect(&rt, are_lists(rt.alloc()) && have_numbers());
 }
 
 // The number of a create's fault, 0 where a key is made; and the store.

@@ -132,7 +132,7 @@ const NONE_USED: &[Step<'static>] = &[Step::Left(&[32])];
 
 // First the append of a name, a tree or a Retire is refused. A name of two levels keeps a tree that was recorded
 // before. Then a create's first append or load is refused, and then each load of an opening: two records, and no third.
-const ROWS: [Row<'static>; 10] = [
+const ROWS: &[Row<'static>] = &[
     (
         LMS,
         (Some(1), None),
@@ -178,7 +178,7 @@ fn is_right(alloc: Global, (text, (appends, loads), lives, records, refused): &R
 
 #[test]
 fn what_is_refused_memory_comes_again(rt: HostRuntime) {
-    for row in &ROWS {
+    for row in ROWS {
         expect(&rt, is_right(rt.alloc(), row));
     }
 }
