@@ -1,8 +1,10 @@
 //! What ends a test, and calls of a signer. An assertion costs the prover more than a call of a function that has one,
 //! and a call of a signer more than the rest of a test.
 
+ghost use Rattle.std.specs.Prelude.{◌≤◌};
+
 use sign_core::{AnyPublic, SignFault, Signer, Source, verify_any};
-use state_file::Store;
+use state_file::{Refused, Store};
 use std::alloc::Global;
 use std::process::Abort;
 use typecodes::{Name, Spec};
@@ -10,6 +12,27 @@ use typecodes::{Name, Spec};
 /// Ends the test unless this holds.
 pub(crate) fn expect(rt: &impl Abort, holds: bool) {
     assert!(rt; holds);
+}
+
+/// As `Signer::create`. The callers of this need no more of its contract, and so are proved sooner.
+pub(crate) fn create<S: Store + Drop, R: Source + Drop>(
+    alloc: Global,
+    spec: Spec,
+    store: S,
+    random: R,
+) -> Result<Signer<S, R>, Refused<(S, R), SignFault>>
+    requires { 1 ≤ S.most store }
+{
+    Signer::create(alloc, spec, store, random)
+}
+
+/// As `Signer::open`, for the same reason.
+pub(crate) fn open<S: Store + Drop, R: Source + Drop>(
+    alloc: Global,
+    store: S,
+    random: R,
+) -> Result<Signer<S, R>, Refused<(S, R), SignFault>> {
+    Signer::open(alloc, store, random)
 }
 
 /// The signer of a new key. None where there is none, and where the text is no spec.
@@ -23,7 +46,7 @@ pub(crate) fn created<S: Store + Drop, R: Source + Drop>(
         return None;
     }
     match Spec::parse(spec) {
-        Ok(spec) => Signer::create(alloc, spec, store, random).ok(),
+        Ok(spec) => create(alloc, spec, store, random).ok(),
         Err(_) => None,
     }
 }

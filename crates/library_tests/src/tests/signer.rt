@@ -1,6 +1,6 @@
 //! Signers over stores in memory.
 
-use crate::tests::expecting::{created, expect, is_valid, lowest_left, sign};
+use crate::tests::expecting::{create, created, expect, is_valid, lowest_left, open, sign};
 use sign_core::{Ledger, LedgerFault, SignFault, Signer, Source, SourceFault};
 use state_file::{
     Bound, Cut, Extend, Key, MemoryStore, Record, Secret, Store, StoreFault, Version,

@@ -182,7 +182,7 @@ fn number_in<S: Store + Drop>(alloc: Global, store: S) -> u8 {
 }
 
 fn number_by<S: Store + Drop>(alloc: Global, store: S, seen: &Seen) -> u8 {
-    match Signer::open(alloc, store, Numbers { next: &seen.next }) {
+    match open(alloc, store, Numbers { next: &seen.next }) {
         Ok(_signer) => 0,
         Err(refused) => refused.fault.number(),
     }
@@ -242,7 +242,7 @@ fn made_in<S: Store + Drop>(alloc: Global, store: S) -> Option<(u8, S)> {
 fn made_of<S: Store + Drop>(alloc: Global, spec: Spec, store: S, seen: &Seen) -> Option<(u8, S)>
     requires { 1 ≤ S.most store }
 {
-    match Signer::create(alloc, spec, store, Numbers { next: &seen.next }) {
+    match create(alloc, spec, store, Numbers { next: &seen.next }) {
         Ok(signer) => Some((0, signer.into_store())),
         Err(refused) => {
             let number = refused.fault.number();

@@ -84,7 +84,7 @@ pub(crate) fn created_by<'a, S: Store + Drop>(
     }
     let spec = Spec::parse(text).ok()?;
     let first = seen.next.get();
-    match Signer::create(alloc, spec, store, Numbers { next: &seen.next }) {
+    match create(alloc, spec, store, Numbers { next: &seen.next }) {
         Ok(signer) => Some(signer),
         Err(refused) => match refused.fault {
             SignFault::OutOfMemory => {
@@ -104,13 +104,13 @@ fn opened_by<'a, S: Store + Drop>(
     store: S,
     seen: &'a Seen,
 ) -> Option<Signer<S, Numbers<'a>>> {
-    match Signer::open(alloc, store, Numbers { next: &seen.next }) {
+    match open(alloc, store, Numbers { next: &seen.next }) {
         Ok(signer) => Some(signer),
         Err(refused) => match refused.fault {
             SignFault::NoMemoryToOpen => {
                 count_one(&seen.openings);
                 let (store, random) = refused.given;
-                Signer::open(alloc, store, random).ok()
+                open(alloc, store, random).ok()
             }
             _ => None,
         },
