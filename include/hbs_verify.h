@@ -18,7 +18,7 @@
  *     use the same stack.
  *   - On x86-64 the registers of SSE2 are used, and on aarch64 those of SIMD; in aarch64-strict none of these.
  *   - The calling convention is that of the System V ABI on x86-64, whatever the compiler's own is: HBS_CALL says so.
- *     On aarch64 it is AAPCS64, little-endian. There x18 is written over as any register is that a call need not keep.
+ *     On aarch64 it is AAPCS64, little-endian. There x18 isn't used, as firmware may keep a pointer of its own in it.
  *     On 32 bits it is AAPCS with numbers in integer registers, and the psABI of RISC-V for ilp32; on RISC-V of 64 bits
  *     lp64.
  *
