@@ -1,6 +1,6 @@
 //! A key whose disk fails or crashes at each call, and calls that allocate nothing.
 
-use super::expecting::{created, expect, sign};
+use super::expecting::{create, created, expect, open, sign};
 use key_audit::{Anchor, AuditFault, Given, GivenFault, audit, check_given};
 use sign_core::{AnyPublic, Signer, Source, SourceFault};
 use state_file::{Disk, FileStore, MemoryDisk, Store};

@@ -1,8 +1,8 @@
 //! Migrations that fail or crash at each call of either disk. All others are tested by `tests/conformance`.
 
-use crate::tests::expecting::expect;
+use crate::tests::expecting::{expect, open};
 use crate::tests::signer::{Entry, with_records};
-use sign_core::{Signer, Source, TapeSource, migrate_key};
+use sign_core::{Source, TapeSource, migrate_key};
 use state_file::{Disk, FileStore, MemoryDisk, MigrateFault, Pick, Store, Version};
 use std::alloc::Global;
 
@@ -44,7 +44,7 @@ const CARRIED: (&[Entry], &[Entry]) = (
     &[Entry::Key(Version::Two), Entry::Bound(3, 0)],
 );
 
-const PICKS: [Pick; 5] = [
+const PICKS: &[Pick] = &[
     Pick::Old,
     Pick::New,
     Pick::Fill(0xA5),
@@ -62,7 +62,7 @@ fn can_sign<D: Disk + Drop, R: Source + Drop>(alloc: Global, disk: D, random: R)
 
 // `retire(0)` asks that without retiring a leaf.
 fn can_sign_in<S: Store + Drop, R: Source + Drop>(alloc: Global, store: S, random: R) -> bool {
-    match Signer::open(alloc, store, random) {
+    match open(alloc, store, random) {
         Ok(signer) => {
             let mut signer = signer;
             signer.retire(0).is_ok()
@@ -95,6 +95,44 @@ fn ends_well(alloc: Global, old: &[u8], new: &[u8], wanted: (&[u8], &[u8])) -> O
     Some(is_done && done.old.as_slice() == wanted.0 && done.new.starts_with(wanted.1))
 }
 
+// Whether what a crash leaves by these picks ends well.
+fn ends_well_by(
+    alloc: Global,
+    (old, old_pick): (&MemoryDisk, Pick),
+    (new, new_pick): (&MemoryDisk, Pick),
+    wanted: (&[u8], &[u8]),
+) -> bool {
+    match (old.stop(old_pick), new.stop(new_pick)) {
+        (Ok(old), Ok(new)) => ends_well(alloc, &old, &new, wanted) == Some(true),
+        _ => false,
+    }
+}
+
+// The same by every pick of the new disk.
+fn end_well_by(
+    alloc: Global,
+    old: (&MemoryDisk, Pick),
+    new: &MemoryDisk,
+    wanted: (&[u8], &[u8]),
+) -> bool {
+    for pick in PICKS {
+        if !ends_well_by(alloc, old, (new, *pick), wanted) {
+            return false;
+        }
+    }
+    true
+}
+
+// By every pick of both disks.
+fn end_well(alloc: Global, old: &MemoryDisk, new: &MemoryDisk, wanted: (&[u8], &[u8])) -> bool {
+    for pick in PICKS {
+        if !end_well_by(alloc, (old, *pick), new, wanted) {
+            return false;
+        }
+    }
+    true
+}
+
 // A disk of a file with a mishap at this call: it fails, or the power goes before it. Call 0 has none.
 fn disk_with_mishap(alloc: Global, file: &[u8], call: u32, stops: bool) -> Option<MemoryDisk> {
     let mut disk = MemoryDisk::of(alloc, file).ok()?;
@@ -121,32 +159,26 @@ fn survives(
     let new = disk_with_mishap(alloc, place, new_call, stops)?;
     let (old, new, answer) = migrate_key(alloc, old, new);
     match answer {
-        Ok(_) => return Some(None),
-        Err(MigrateFault::DeviceFailed) => {}
-        Err(_) => return Some(Some(false)),
+        Ok(_) => Some(None),
+        Err(MigrateFault::DeviceFailed) => Some(Some(end_well(
+            alloc,
+            &old,
+            &new,
+            (&sealed, &wanted),
+        ))),
+        Err(_) => Some(Some(false)),
     }
-    for old_pick in PICKS {
-        for new_pick in PICKS {
-            let old = old.stop(old_pick).ok()?;
-            let new = new.stop(new_pick).ok()?;
-            if !ends_well(alloc, &old, &new, (&sealed, &wanted))? {
-                return Some(Some(false));
-            }
-        }
-    }
-    Some(Some(true))
 }
 
-// How many calls of a disk a migration makes. None where a mishap at one doesn't end well.
+// How many calls of a disk a migration makes. None where a mishap at one doesn't end well. Each call has two mishaps.
 fn count_survived(alloc: Global, place: &[u8], of_old: bool) -> Option<u32> {
-    for call in 1..100u32 {
+    for number in 0..200u32 {
+        let call = number / 2 + 1;
         let calls = if of_old { (call, 0) } else { (0, call) };
-        for stops in [false, true] {
-            match survives(alloc, place, calls, stops)? {
-                Some(true) => {}
-                Some(false) => return None,
-                None => return Some(call - 1),
-            }
+        match survives(alloc, place, calls, number % 2 == 1)? {
+            Some(true) => {}
+            Some(false) => return None,
+            None => return Some(number / 2),
         }
     }
     None
@@ -154,12 +186,13 @@ fn count_survived(alloc: Global, place: &[u8], of_old: bool) -> Option<u32> {
 
 // The calls of the new disk: sync, length; of a short file the zero gate and a sync, else a read of the gate; two
 // slots, sync; gate, sync.
+fn are_survived(alloc: Global) -> bool {
+    count_survived(alloc, &[], false) == Some(9)
+        && count_survived(alloc, &[7; 1500], false) == Some(8)
+        && count_survived(alloc, &[], true).is_some()
+}
+
 #[test]
 fn mishaps_never_leave_two_files_that_sign(rt: HostRuntime) {
-    expect(&rt, count_survived(rt.alloc(), &[], false) == Some(9));
-    expect(
-        &rt,
-        count_survived(rt.alloc(), &[7; 1500], false) == Some(8),
-    );
-    expect(&rt, count_survived(rt.alloc(), &[], true).is_some());
+    expect(&rt, are_survived(rt.alloc()));
 }

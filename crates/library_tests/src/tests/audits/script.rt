@@ -7,41 +7,23 @@ use key_audit::Report;
 use state_file::{OpenFault, Pick};
 use std::slice;
 
-// An audit's answer: the number of records, the top tree's free leaves, and the version of the file that carries the
-// records on, if one does.
-type Audited = Result<(u32, Option<u32>, Option<u16>), AuditFault>;
-
-fn audited<D: Disk + Drop>(
+// Whether an audit accepts an open file, or finds no key where there was none before.
+fn accepts<D: Disk + Drop>(
     alloc: Global,
     store: &mut FileStore<D>,
     anchor: Option<Anchor>,
-) -> Audited {
+) -> bool {
     match audit(alloc, store, anchor) {
-        Ok(report) => Ok(reported(&report)),
-        Err(fault) => Err(fault),
+        Ok(_report) => true,
+        Err(fault) => anchor.is_none() && fault == AuditFault::NoKey,
     }
 }
 
-fn reported(report: &Report) -> (u32, Option<u32>, Option<u16>) {
-    (
-        report.records,
-        report.left.as_slice().first().copied(),
-        report.moved,
-    )
-}
-
-// Two audits of one open file, or why it isn't opened.
-fn audited_twice<D: Disk + Drop>(
-    alloc: Global,
-    disk: D,
-    anchor: Option<Anchor>,
-) -> Result<[Audited; 2], OpenFault> {
+// Whether two audits accept a disk's file. One with no key, where there was none before, needn't be opened.
+fn is_accepted<D: Disk + Drop>(alloc: Global, disk: D, anchor: Option<Anchor>) -> bool {
     match FileStore::open(disk) {
-        Ok(mut store) => {
-            let first = audited(alloc, &mut store, anchor);
-            Ok([first, audited(alloc, &mut store, anchor)])
-        }
-        Err(refused) => Err(refused.fault),
+        Ok(mut store) => accepts(alloc, &mut store, anchor) && accepts(alloc, &mut store, anchor),
+        Err(refused) => anchor.is_none() && refused.fault == OpenFault::NoKey,
     }
 }
 
@@ -70,7 +52,7 @@ const SCRIPT: &[Step] = &[
     Step::Sign(b'd'),
 ];
 
-const PICKS: [Pick; 5] = [
+const PICKS: &[Pick] = &[
     Pick::Old,
     Pick::New,
     Pick::Fill(0xA5),
@@ -93,7 +75,7 @@ fn open_on<D: Disk + Drop>(
     next: u8,
 ) -> Result<Signer<FileStore<D>, Numbers>, (D, Closed)> {
     match FileStore::open(disk) {
-        Ok(store) => match Signer::open(alloc, store, Numbers { next }) {
+        Ok(store) => match open(alloc, store, Numbers { next }) {
             Ok(signer) => Ok(signer),
             Err(refused) => {
                 let (store, _random) = refused.given;
@@ -116,7 +98,7 @@ fn create_on<D: Disk + Drop>(
         Ok(store) => store,
         Err(refused) => return Some(Err((refused.given, Closed::Format))),
     };
-    match Signer::create(alloc, spec, store, Numbers { next }) {
+    match create(alloc, spec, store, Numbers { next }) {
         Ok(signer) => Some(Ok(signer)),
         Err(refused) => {
             let (store, _random) = refused.given;
@@ -257,6 +239,31 @@ fn copies_of(alloc: Global, before: &[Given]) -> Option<Vec<Given>> {
     }
 }
 
+// Notes the file before a step.
+fn note_file(disk: &MemoryDisk, run: &mut Run) -> bool {
+    match disk.stop(Pick::New) {
+        Ok(file) => run.files.push((file, run.given.len())).is_ok(),
+        Err(_) => false,
+    }
+}
+
+// Takes a step in a life of its own: the disk afterwards.
+fn run_step(
+    alloc: Global,
+    disk: MemoryDisk,
+    doing: &Step,
+    next: u8,
+    run: &mut Run,
+) -> Option<MemoryDisk> {
+    if !note_file(&disk, run) {
+        return None;
+    }
+    match live(alloc, disk, slice::from_ref(doing), next, &mut run.given) {
+        Some((disk, 1)) => Some(disk),
+        _ => None,
+    }
+}
+
 // Runs the script without a mishap, each step in a life of its own. `before` are earlier signatures. The draws of step
 // i begin with the number `next` + 8 * i.
 fn run_script(
@@ -265,19 +272,16 @@ fn run_script(
     next: u8,
     before: &[Given],
 ) -> Option<(MemoryDisk, Run)> {
-    let mut files = Vec::new(alloc);
-    let mut given = copies_of(alloc, before)?;
+    let files = Vec::new(alloc);
+    let given = copies_of(alloc, before)?;
+    let mut run = Run { files, given };
     let mut disk = disk;
-    for (i, doing) in SCRIPT.iter().enumerate() {
-        files.push((disk.stop(Pick::New).ok()?, given.len())).ok()?;
-        let next = next.wrapping_add(8 * i as u8);
-        let (after, done) = live(alloc, disk, slice::from_ref(doing), next, &mut given)?;
-        if done == 0 {
-            return None;
-        }
-        disk = after;
+    let mut next = next;
+    for doing in SCRIPT {
+        disk = run_step(alloc, disk, doing, next, &mut run)?;
+        next = next.wrapping_add(8);
     }
-    Some((disk, Run { files, given }))
+    Some((disk, run))
 }
 
 // A disk of a file with a mishap at this call: it fails, or the power goes before it.
@@ -305,25 +309,59 @@ fn not_opened<D: Disk + Drop>(alloc: Global, disk: D) -> Option<D> {
     }
 }
 
-// Whether a mishap at any call of an opening leaves the file as it is.
-fn lasts(alloc: Global, file: &Vec<u8>, stops: bool) -> Option<bool> {
-    for call in 1..200u32 {
-        match not_opened(alloc, disk_with_mishap(alloc, file, call, stops)?) {
-            Some(disk) => {
-                for pick in PICKS {
-                    if disk.stop(pick).ok()? != *file {
-                        return Some(false);
-                    }
-                }
-            }
-            None => return Some(true),
-        }
+// Whether a crash leaves this file.
+fn leaves(disk: &MemoryDisk, pick: Pick, file: &[u8]) -> bool {
+    match disk.stop(pick) {
+        Ok(left) => left.as_slice() == file,
+        Err(_) => false,
     }
-    None
 }
 
-// Runs the whole script on a file, in one life or in one for each step: the disk afterwards, and all signatures, also
-// the earlier ones `before`.
+// Whether a crash leaves this file by every pick.
+fn leaves_only(disk: &MemoryDisk, file: &[u8]) -> bool {
+    for pick in PICKS {
+        if !leaves(disk, *pick, file) {
+            return false;
+        }
+    }
+    true
+}
+
+// Whether a mishap at a call of an opening leaves the file alone. None where the opening makes fewer calls.
+fn is_left(alloc: Global, file: &[u8], call: u32, stops: bool) -> Option<bool> {
+    let disk = disk_with_mishap(alloc, file, call, stops)?;
+    match not_opened(alloc, disk) {
+        Some(disk) => Some(leaves_only(&disk, file)),
+        None => None,
+    }
+}
+
+// Whether a mishap at any call of an opening leaves the file as it is.
+fn lasts(alloc: Global, file: &[u8], stops: bool) -> bool {
+    for call in 1..200u32 {
+        match is_left(alloc, file, call, stops) {
+            Some(true) => {}
+            Some(false) => return false,
+            None => return true,
+        }
+    }
+    false
+}
+
+// Runs the whole script in one life: the disk afterwards, and all signatures, also the earlier ones `before`.
+fn run_in_one_life(
+    alloc: Global,
+    disk: MemoryDisk,
+    before: &[Given],
+) -> Option<(MemoryDisk, Vec<Given>)> {
+    let mut given = copies_of(alloc, before)?;
+    match live(alloc, disk, SCRIPT, 128, &mut given) {
+        Some((disk, 6)) => Some((disk, given)),
+        _ => None,
+    }
+}
+
+// The same on a file, in one life or in one for each step.
 fn run_again(
     alloc: Global,
     file: &[u8],
@@ -331,141 +369,256 @@ fn run_again(
     in_one_life: bool,
 ) -> Option<(MemoryDisk, Vec<Given>)> {
     let disk = MemoryDisk::of(alloc, file).ok()?;
-    if !in_one_life {
-        let (disk, well) = run_script(alloc, disk, 128, before)?;
-        return Some((disk, well.given));
+    if in_one_life {
+        return run_in_one_life(alloc, disk, before);
     }
-    let mut given = copies_of(alloc, before)?;
-    let (disk, done) = live(alloc, disk, SCRIPT, 128, &mut given)?;
-    if done == SCRIPT.len() {
-        Some((disk, given))
-    } else {
-        None
+    match run_script(alloc, disk, 128, before) {
+        Some((disk, run)) => Some((disk, run.given)),
+        None => None,
     }
 }
 
-// Whether the whole script is done on a file, and an audit then has the right counts. All signatures, also the earlier
-// ones, pass `check_given`, and no message has two different ones.
-fn ends_well(alloc: Global, file: &[u8], before: &[Given], in_one_life: bool) -> Option<bool> {
-    let (disk, given) = run_again(alloc, file, before, in_one_life)?;
-    for a in &given {
-        for b in &given {
-            if a.message == b.message && a.signature != b.signature {
-                return Some(false);
-            }
+// Whether a signature isn't another one of a message.
+fn agrees(a: &Given, given: &[Given]) -> bool {
+    for b in given {
+        if a.message == b.message && a.signature != b.signature {
+            return false;
         }
     }
-    let report = audit(alloc, &mut FileStore::open(disk).ok()?, None).ok()?;
-    let is_reported = report.records == 7 && report.left.as_slice() == [31, 21].as_slice();
-    Some(is_reported && check_given(alloc, &report.public, &given).is_ok())
+    true
+}
+
+// Whether no message has two different signatures.
+fn agree(given: &[Given]) -> bool {
+    for a in given {
+        if !agrees(a, given) {
+            return false;
+        }
+    }
+    true
+}
+
+// Whether a report has the whole script's counts, and all signatures pass `check_given`.
+fn is_reported(alloc: Global, report: &Report, given: &[Given]) -> bool {
+    report.records == 7
+        && report.left.as_slice() == [31, 21].as_slice()
+        && check_given(alloc, &report.public, given).is_ok()
+}
+
+// Whether an audit of a disk has that report.
+fn is_whole<D: Disk + Drop>(alloc: Global, disk: D, given: &[Given]) -> bool {
+    match FileStore::open(disk) {
+        Ok(mut store) => match audit(alloc, &mut store, None) {
+            Ok(report) => is_reported(alloc, &report, given),
+            Err(_) => false,
+        },
+        Err(_) => false,
+    }
+}
+
+// Whether the whole script is done on a file, after the signatures `before`.
+fn ends_well(alloc: Global, file: &[u8], before: &[Given], in_one_life: bool) -> bool {
+    match run_again(alloc, file, before, in_one_life) {
+        Some((disk, given)) => agree(&given) && is_whole(alloc, disk, &given),
+        None => false,
+    }
+}
+
+// Whether an audit accepts what a mishap left.
+fn is_audited(alloc: Global, content: &[u8], anchor: Option<Anchor>) -> bool {
+    match MemoryDisk::of(alloc, content) {
+        Ok(disk) => is_accepted(alloc, disk, anchor),
+        Err(_) => false,
+    }
 }
 
 // Whether a key goes on well from what a mishap left. An audit accepts it, or finds no key where none was before. A
 // second mishap, while it is opened, changes nothing. The script ends well on it.
 fn goes_on_well(
     alloc: Global,
-    content: &Vec<u8>,
+    content: &[u8],
     anchor: Option<Anchor>,
     before: &[Given],
     in_one_life: bool,
+) -> bool {
+    is_audited(alloc, content, anchor)
+        && lasts(alloc, content, false)
+        && lasts(alloc, content, true)
+        && ends_well(alloc, content, before, in_one_life)
+}
+
+fn go_on_well(
+    alloc: Global,
+    contents: &[Vec<u8>],
+    anchor: Option<Anchor>,
+    before: &[Given],
+) -> bool {
+    for content in contents {
+        if !goes_on_well(alloc, content, anchor, before, false) {
+            return false;
+        }
+    }
+    true
+}
+
+// Adds what a crash leaves of a disk, without repeats.
+fn add_left(disk: &MemoryDisk, pick: Pick, seen: &mut Vec<Vec<u8>>) -> bool {
+    match disk.stop(pick) {
+        Ok(left) => seen.contains(&left) || seen.push(left).is_ok(),
+        Err(_) => false,
+    }
+}
+
+// The same by every pick.
+fn add_all_left(disk: &MemoryDisk, seen: &mut Vec<Vec<u8>>) -> bool {
+    for pick in PICKS {
+        if !add_left(disk, *pick, seen) {
+            return false;
+        }
+    }
+    true
+}
+
+// Whether a step is done in spite of a mishap at this call, which it then doesn't make. If not, adds what that may
+// leave.
+fn is_done(
+    alloc: Global,
+    file: &[u8],
+    place: usize,
+    (call, stops): (u32, bool),
+    seen: &mut Vec<Vec<u8>>,
 ) -> Option<bool> {
-    let disk = MemoryDisk::of(alloc, content).ok()?;
-    let is_new = anchor.is_none();
-    let is_audited = match audited_twice(alloc, disk, anchor) {
-        Ok(answers) => answers[0].is_ok() || (is_new && answers[0] == Err(AuditFault::NoKey)),
-        Err(fault) => is_new && fault == OpenFault::NoKey,
-    };
-    let is_kept = lasts(alloc, content, false)? && lasts(alloc, content, true)?;
-    Some(is_audited && is_kept && ends_well(alloc, content, before, in_one_life)?)
+    let step = slice::from_ref(SCRIPT.get(place)?);
+    let disk = disk_with_mishap(alloc, file, call, stops)?;
+    match live(alloc, disk, step, 8 * place as u8, &mut Vec::new(alloc)) {
+        Some((_, 1)) => Some(true),
+        Some((disk, _)) => {
+            if add_all_left(&disk, seen) {
+                Some(false)
+            } else {
+                None
+            }
+        }
+        None => None,
+    }
+}
+
+// A call, from 1 on, and whether the power goes before it. Each call has two mishaps.
+fn mishap_at(number: u32) -> (u32, bool) {
+    (number / 2 + 1, number % 2 == 1)
 }
 
 // The contents that a mishap at any call of a step may leave, without repeats, and how many calls the step makes.
 fn left_in(alloc: Global, file: &[u8], place: usize) -> Option<(Vec<Vec<u8>>, u32)> {
-    let doing = SCRIPT.get(place)?;
     let mut seen = Vec::new(alloc);
-    let mut given = Vec::new(alloc);
-    for call in 1..100u32 {
-        for stops in [false, true] {
-            let disk = disk_with_mishap(alloc, file, call, stops)?;
-            let doing = slice::from_ref(doing);
-            let (disk, done) = live(alloc, disk, doing, 8 * place as u8, &mut given)?;
-            if done == 1 {
-                return Some((seen, call - 1));
-            }
-            for pick in PICKS {
-                let left = disk.stop(pick).ok()?;
-                if !seen.contains(&left) {
-                    seen.push(left).ok()?;
-                }
-            }
+    for number in 0..200u32 {
+        if is_done(alloc, file, place, mishap_at(number), &mut seen)? {
+            return Some((seen, number / 2));
         }
     }
     None
 }
 
 // How many disk calls a step makes. None where a mishap at one may leave a content that doesn't go on well.
-fn survives(alloc: Global, place: usize) -> Option<u32> {
-    let (_, well) = run_script(alloc, MemoryDisk::of(alloc, &[]).ok()?, 0, &[])?;
-    let (file, count) = well.files.get(place)?;
+fn survives_in(alloc: Global, file: &[u8], before: &[Given], place: usize) -> Option<u32> {
     let anchor = anchor_in(file, file.len() / 256);
-    let before = well.given.get(..*count)?;
     let (contents, calls) = left_in(alloc, file, place)?;
-    for content in &contents {
-        if !goes_on_well(alloc, content, anchor, before, false)? {
-            return None;
-        }
+    if go_on_well(alloc, &contents, anchor, before) {
+        Some(calls)
+    } else {
+        None
     }
-    Some(calls)
 }
 
-// The anchor after the first `done` steps in one life; none after 0.
+// The script without a mishap, on a new disk.
+fn well_run(alloc: Global) -> Option<Run> {
+    match run_script(alloc, MemoryDisk::of(alloc, &[]).ok()?, 0, &[]) {
+        Some((_, run)) => Some(run),
+        None => None,
+    }
+}
+
+// As `survives_in`, for a step of that.
+fn survives(alloc: Global, place: usize) -> Option<u32> {
+    let run = well_run(alloc)?;
+    let (file, count) = run.files.get(place)?;
+    survives_in(alloc, file, run.given.get(..*count)?, place)
+}
+
+// The file after the first `done` steps in one life.
+fn file_after(alloc: Global, done: usize) -> Option<Vec<u8>> {
+    let steps = SCRIPT.get(..done)?;
+    let disk = MemoryDisk::of(alloc, &[]).ok()?;
+    match live(alloc, disk, steps, 0, &mut Vec::new(alloc)) {
+        Some((disk, _)) => disk.stop(Pick::New).ok(),
+        None => None,
+    }
+}
+
+// Its anchor; none after 0.
 fn anchor_after(alloc: Global, done: usize) -> Option<Option<Anchor>> {
     if done == 0 {
         return Some(None);
     }
-    let mut given = Vec::new(alloc);
-    let disk = MemoryDisk::of(alloc, &[]).ok()?;
-    let (disk, _) = live(alloc, disk, SCRIPT.get(..done)?, 0, &mut given)?;
-    let file = disk.stop(Pick::New).ok()?;
+    let file = file_after(alloc, done)?;
     Some(anchor_in(&file, file.len() / 256))
 }
 
-// Whether each content that a disk may leave after `done` steps goes on well. A content in `seen` isn't tried again.
+// Whether a content that is left after a number of steps goes on well. One in `seen` isn't tried again.
+fn goes_on_once(
+    alloc: Global,
+    left: (usize, Vec<u8>),
+    anchor: Option<Anchor>,
+    given: &[Given],
+    seen: &mut Vec<(usize, Vec<u8>)>,
+) -> bool {
+    seen.contains(&left)
+        || goes_on_well(alloc, &left.1, anchor, given, true) && seen.push(left).is_ok()
+}
+
+// Whether each content that a disk may leave after `done` steps goes on well.
 fn each_goes_on_well(
     alloc: Global,
     disk: &MemoryDisk,
     done: usize,
     given: &[Given],
     seen: &mut Vec<(usize, Vec<u8>)>,
-) -> Option<bool> {
+) -> Option<()> {
     let anchor = anchor_after(alloc, done)?;
     for pick in PICKS {
-        let left = (done, disk.stop(pick).ok()?);
-        if !seen.contains(&left) {
-            if !goes_on_well(alloc, &left.1, anchor, given, true)? {
-                return Some(false);
-            }
-            seen.push(left).ok()?;
+        let left = disk.stop(*pick).ok()?;
+        if !goes_on_once(alloc, (done, left), anchor, given, seen) {
+            return None;
         }
     }
-    Some(true)
+    Some(())
 }
 
-// How many disk calls the script makes in one life. None where a mishap at one may leave a content that doesn't go on
-// well.
+// Whether the script is done in one life in spite of a mishap at this call, which it then doesn't make. None where that
+// may leave a content that doesn't go on well.
+fn is_whole_done(
+    alloc: Global,
+    (call, stops): (u32, bool),
+    seen: &mut Vec<(usize, Vec<u8>)>,
+) -> Option<bool> {
+    let mut given = Vec::new(alloc);
+    let disk = disk_with_mishap(alloc, &[], call, stops)?;
+    match live(alloc, disk, SCRIPT, 0, &mut given) {
+        Some((_, 6)) => Some(true),
+        Some((disk, done)) => {
+            each_goes_on_well(alloc, &disk, done, &given, seen)?;
+            Some(false)
+        }
+        None => None,
+    }
+}
+
+// How many disk calls the script makes in one life.
 fn survives_in_one_life(alloc: Global) -> Option<u32> {
     let mut seen = Vec::new(alloc);
-    for call in 1..100u32 {
-        for stops in [false, true] {
-            let mut given = Vec::new(alloc);
-            let disk = disk_with_mishap(alloc, &[], call, stops)?;
-            let (disk, done) = live(alloc, disk, SCRIPT, 0, &mut given)?;
-            if done == SCRIPT.len() {
-                return Some(call - 1);
-            }
-            if !each_goes_on_well(alloc, &disk, done, &given, &mut seen)? {
-                return None;
-            }
+    for number in 0..200u32 {
+        if is_whole_done(alloc, mishap_at(number), &mut seen)? {
+            return Some(number / 2);
         }
     }
     None
