@@ -1,12 +1,12 @@
 //! A tree that is made once, with enough nodes kept that a path costs few leaves.
 
-ghost use Rattle.std.specs.Prelude.{◌≡◌, ◌==◌, ◌≤◌, ◌<◌, ◌+◌, ◌-◌, ◌/◌, ◌^◌, IfOk, length, min, vec_len};
+ghost use Rattle.std.specs.Prelude.{◌≡◌, ◌==◌, ◌≤◌, ◌<◌, ◌+◌, ◌-◌, ◌/◌, ◌^◌, IfErr, IfOk, length, min, vec_len};
 ghost use Rattle.std.specs.Prelude.{if◌then◌else◌};
 ghost use Rattle.merkle.specs.Cache.{KeepsNodes, block_height};
 ghost use Rattle.merkle.specs.Tree.{path_at, root_of};
 
 use crate::nodes::{fill, fill_around, read_path};
-use crate::out_of_memory::OutOfMemory;
+use crate::out_of_memory::{OutOfMemory, Untold};
 use crate::progress::{Progress, Silent, Told};
 use crate::tree::TreeHash;
 use std::alloc::Global;
@@ -76,14 +76,14 @@ impl<T: TreeHash> PathCache<T> {
     }
 
     /// As `for_leaf`, and tells a `Progress` of the leaves while they are made. If memory is refused, it is told of
-    /// none.
+    /// none, and given back.
     pub fn for_leaf_telling<P: Progress + Drop>(
         alloc: Global,
         tree: T,
         height: u8,
         q: u32,
         progress: P,
-    ) -> Result<(PathCache<T>, P), OutOfMemory>
+    ) -> Result<(PathCache<T>, P), Untold<P>>
     where
         T: Drop,
         requires at_most_25 { height ≤ 25 }
@@ -98,10 +98,15 @@ impl<T: TreeHash> PathCache<T> {
             (λ made. KeepsNodes (T.leaf_of tree) (T.join_of tree) height (q / 2 ^ block_height height) made.0) }
         // Of each leaf one was told.
         ensures told { IfOk result (λ made. P.told made.1 ≡ 2 ^ height) }
+        ensures untold { IfErr result (λ refused. P.told refused.progress ≡ 0) }
     {
         let block_height = height / 2;
-        let mut upper = zeroed_nodes(alloc, height - block_height)?;
-        let mut block = zeroed_nodes(alloc, block_height)?;
+        let Ok(mut upper) = zeroed_nodes(alloc, height - block_height) else {
+            return Err(Untold { progress });
+        };
+        let Ok(mut block) = zeroed_nodes(alloc, block_height) else {
+            return Err(Untold { progress });
+        };
         let kept_index = block_of(height, q);
         let leaves = 2u64.pow(u32::from(height));
         let mut told = Told::new(tree, progress, leaves);

@@ -48,6 +48,6 @@ mod tree;
 
 pub use crate::ascent::{root_and_path, root_from_path};
 pub use crate::cache::PathCache;
-pub use crate::out_of_memory::OutOfMemory;
+pub use crate::out_of_memory::{OutOfMemory, Untold};
 pub use crate::progress::{Progress, Silent, Told};
 pub use crate::tree::{NodeHash, TreeHash, path, root};

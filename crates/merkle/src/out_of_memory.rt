@@ -25,3 +25,16 @@ impl From<AllocError> for OutOfMemory {
         OutOfMemory
     }
 }
+
+/// Memory was refused for a cache, and this progress heard of no leaf.
+#[derive(Drop)]
+pub struct Untold<P> {
+    /// Given back as it was.
+    pub progress: P,
+}
+
+impl<P: Drop> From<Untold<P>> for OutOfMemory {
+    fn from(_refused: Untold<P>) -> OutOfMemory {
+        OutOfMemory
+    }
+}

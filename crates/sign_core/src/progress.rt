@@ -185,6 +185,7 @@ impl<'a, P: TreeProgress> TreeMaker<'a, P> {
         ensures told { IfOk result (λ made. P.Tree.told made.1 ≡ 2 ^ X.tree_height secret) }
     {
         let (tree, height) = (secret.tree(), secret.height());
-        PathCache::for_leaf_telling(alloc, tree, height, leaf, self.begin())
+        let made = PathCache::for_leaf_telling(alloc, tree, height, leaf, self.begin())?;
+        Ok(made)
     }
 }

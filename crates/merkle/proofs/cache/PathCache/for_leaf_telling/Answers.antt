@@ -19,8 +19,8 @@ fill_around-requires-clause-known g c =
     let high : 0 + c.args.height / 2 ≡ c.args.height / 2 = omega arith in
     c.index.ensures
     ∙ nodes_last leaf join 0 (c.args.height / 2) kept (c.len.result - 1) _ c.index.result.now
-    (with_items_is c.in_ok-block.block c.fill.new.into (omega arith) ∙ c.fill.ensures.value)
-    (omega (arith, c.in_ok-block.ensures, pow_more 2 (c.args.height / 2), pow_pos (c.args.height / 2)))
+    (with_items_is c.in-Ok-zeroed_nodes.block c.fill.new.into (omega arith) ∙ c.fill.ensures.value)
+    (omega (arith, c.in-Ok-zeroed_nodes.ensures, pow_more 2 (c.args.height / 2), pow_pos (c.args.height / 2)))
     ∙ ap (λ h. node leaf join h kept) high
     ∙ ap (λ l. node l join (c.args.height / 2) kept) (sym c.fill.ensures.leaves)
     ∙ ap (λ j. node (g.T.TreeHash.leaf_of c.fill.new.tree.tree) j (c.args.height / 2) kept) (sym c.fill.ensures.joins)
