@@ -9,6 +9,6 @@ foreach(_hbs_verify_archive IN LISTS _hbs_verify_archives)
         add_library("hbs-verify::${_hbs_verify_name}" STATIC IMPORTED)
         set_target_properties("hbs-verify::${_hbs_verify_name}" PROPERTIES
             IMPORTED_LOCATION "${_hbs_verify_archive}"
-            INTERFACE_INCLUDE_DIRECTORIES "${_hbs_verify_prefix}/include")
+            INTERFACE_INCLUDE_DIRECTORIES "${_hbs_verify_prefix}/include/hbs-verify")
     endif()
 endforeach()
