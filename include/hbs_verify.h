@@ -100,8 +100,10 @@ extern "C" {
 
 /* For these: a number that types have, or a negative one; and the chains of a width (RFC 8554 4.1, p of table 1). */
 #define HBS_NO_TYPE (-0x100000)
-#define HBS_LMS_HEIGHT(height) ((height) % 5 == 0 && (height) >= 5 && (height) <= 25 ? (height) : HBS_NO_TYPE)
-#define HBS_XMSS_HEIGHT(height) ((height) == 10 || (height) == 16 || (height) == 20 ? (height) : HBS_NO_TYPE)
+#define HBS_LMS_HEIGHT(height) \
+    ((height) == 5 ? 5 : (height) == 10 ? 10 : (height) == 15 ? 15 : \
+     (height) == 20 ? 20 : (height) == 25 ? 25 : HBS_NO_TYPE)
+#define HBS_XMSS_HEIGHT(height) ((height) == 10 ? 10 : (height) == 16 ? 16 : (height) == 20 ? 20 : HBS_NO_TYPE)
 #define HBS_CHAINS(width) \
     ((width) == 1 ? 265 : (width) == 2 ? 133 : (width) == 4 ? 67 : (width) == 8 ? 34 : HBS_NO_TYPE)
 
