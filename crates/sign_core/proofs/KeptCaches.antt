@@ -58,7 +58,7 @@ kept_xmss key records level before secret new of_key there (inr lacks) =
     let same : Xmss secret ≡ Xmss lacks.secret = sym of_key ∙ lacks.of_key in
     lacks.lacks (there ∙ cc)
 
-is_level : (a b : ℕ) → (a ≡ b) ⊎ (a ≢ b)
+pub is_level : (a b : ℕ) → (a ≡ b) ⊎ (a ≢ b)
 is_level a b = elim (eqb_tells a b) [ inl (_, same) ↦ inl same | inr (_, other) ↦ inr other ]
 
 by_level : (key : Key) (trees : Trees) (records : List Record) (level before : ℕ) (mid new : Cached) → trees_of key.secret ≡ Some trees
@@ -151,7 +151,7 @@ keeps_below level old mid new first second = record {
 -- ---- all caches, after one more record
 
 -- a tree that is current stands among the records
-stands_low : (records : List Record) (key : Key) (level tree : ℕ) → the_key records ≡ Some key → current level records ≡ Some tree → tree < length records
+pub stands_low : (records : List Record) (key : Key) (level tree : ℕ) → the_key records ≡ Some key → current level records ≡ Some tree → tree < length records
 stands_low records key level tree keyed is =
     elim (current_low level records tree is) [ inl top ↦ omega (arith, top, some_keyed records key keyed) | inr low ↦ low ]
 

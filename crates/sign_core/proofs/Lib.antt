@@ -36,6 +36,7 @@ pub mod Next
 pub mod Uses
 pub mod Kept
 pub mod KeptCaches
+pub mod BegunCaches
 pub mod BoundBelow
 pub mod TreeParts
 pub mod Stops

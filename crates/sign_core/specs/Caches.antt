@@ -53,6 +53,11 @@ LacksCache key records (Some lowest) before cached =
 abbrev pub HasCaches : Key → List Record → (lowest : Option ℕ) → (before : ℕ) → Cached → Type 0
 HasCaches key records lowest before cached = LacksCache key records lowest before cached → ⊥
 
+-- Each current tree whose record stands at this place or behind it has its cache.
+abbrev pub HasBegun : Key → List Record → (start : ℕ) → Cached → Type 0
+HasBegun key records start cached = (trees : Trees) (level tree : ℕ) → trees_of key.secret ≡ Some trees
+    → current level records ≡ Some tree → start ≤ tree → HasLevel cached level (secret_at trees records tree)
+
 -- Each current tree down to this level has its cache.
 abbrev pub HasAll : Key → List Record → (lowest : ℕ) → Cached → Type 0
 HasAll key records lowest cached = HasCaches key records (Some lowest) (length records) cached

@@ -1,10 +1,11 @@
 -- What a cache keeps of a secret's tree, and which caches a step makes or leaves.
 use Rattle.std.specs.Prelude.{◌≡◌, ℕ, ◌<◌, ◌≤◌, List, Some}
 use Rattle.merkle.specs.Tree.{Joins, Leaves}
+use Rattle.state_file.specs.declared.record.Key.{Key}
 use Rattle.state_file.specs.declared.record.Record.{Record}
 use Rattle.sign_core.specs.Caches.{Cached, HasLevel, cache_at}
 use Rattle.sign_core.specs.Records.{current}
-use Rattle.sign_core.specs.Textbook.{Trees, secret_at}
+use Rattle.sign_core.specs.Textbook.{Trees, secret_at, trees_of}
 
 -- A cache of a secret's tree has the tree's height, leaves and joins.
 pub record IsTreeCache (height : ℕ) (leaves : Leaves) (joins : Joins) (kept_height : ℕ) (kept_leaves : Leaves)
@@ -29,3 +30,9 @@ pub record LacksOwn (trees : Trees) (records : List Record) (level before : ℕ)
 pub record KeepsDownTo (level : ℕ) (old new : Cached) : Type 0 where
   pub levels : (k : ℕ) → k ≤ level → cache_at new.levels k ≡ cache_at old.levels k
   pub xmss : new.xmss ≡ old.xmss
+
+-- Each current tree whose record stands at this place or behind it is of a level down to this one, and has its cache.
+abbrev pub HasBegunTo : Key → List Record → (level start : ℕ) → Cached → Type 0
+HasBegunTo key records level start cached = (trees : Trees) (lower tree : ℕ) → trees_of key.secret ≡ Some trees
+    → current lower records ≡ Some tree → start ≤ tree
+    → (lower ≤ level) × HasLevel cached lower (secret_at trees records tree)

@@ -1,15 +1,15 @@
 //! A new name: room for its records and signature, its new trees, its binding, and its signature.
 
 ghost use Rattle.std.specs.Prelude.{◌≡◌, ◌<◌, ◌-◌, [], None, Some, true, false, length, vec_capacity};
-ghost use Rattle.std.specs.Prelude.{◌+◌, IfErr, OnOk};
+ghost use Rattle.std.specs.Prelude.{◌+◌, ℕ, IfErr, OnErr, OnOk};
 ghost use Rattle.state_file.specs.Laws.{levels_of, bottom_of};
 ghost use Rattle.sign_core.specs.Records.{binding_at, free_at, has_moved, is_long, the_key};
 ghost use Rattle.sign_core.specs.Progress.{types_of_key};
 ghost use Rattle.sign_core.specs.inner.Request.{Prepares};
 ghost use Rattle.sign_core.specs.inner.Signing.{BindsBelow, BindsNext, CanBind, DrawsTree, Extends};
 ghost use Rattle.sign_core.specs.inner.Signing.{IsReady, Stands};
-ghost use Rattle.sign_core.specs.Caches.{HasAll};
-ghost use Rattle.sign_core.specs.inner.Caches.{KeepsDownTo};
+ghost use Rattle.sign_core.specs.Caches.{HasAll, HasBegun};
+ghost use Rattle.sign_core.specs.inner.Caches.{HasBegunTo, KeepsDownTo};
 ghost use Rattle.sign_core.specs.Signer.{is_before_caches};
 ghost use Rattle.sign_core.specs.Signing.{IsPrepared, KeepsCapacity, UnderKey, answered_value, is_unprepared};
 
@@ -103,6 +103,10 @@ impl<S: Store, R: Source> Signer<S, R> {
         ensures caches { OnOk result (UnderKey self.old.records (λ key.
             HasAll key self.old.records level self.old.cached
             → HasAll key self.new.records (level + 1) self.new.cached)) }
+        ensures stays { OnErr result (self.new.records ≡ self.old.records) }
+        ensures begun { OnOk result (UnderKey self.old.records (λ key. (start : ℕ)
+            → HasBegunTo key self.old.records level start self.old.cached
+            → HasBegunTo key self.new.records (level + 1) start self.new.cached)) }
     {
         let Some(parent) = self.ledger.current(level) else {
             unreachable!()
@@ -141,6 +145,7 @@ impl<S: Store, R: Source> Signer<S, R> {
         ensures step { UnderKey self.old.records (BindsNext S.Store R.Source M.Message name.now self.old self.new
             message.old message.new result) }
         ensures cached { self.new.cached ≡ self.old.cached }
+        ensures stays { OnErr result (self.new.records ≡ self.old.records) }
     {
         let secret = &self.ledger.key().secret;
         let trees = SecretTrees::of(secret);
@@ -185,6 +190,9 @@ impl<S: Store, R: Source> Signer<S, R> {
         ensures caches { OnOk result (UnderKey self.old.records (λ key.
             HasAll key self.old.records level self.old.cached
             → HasAll key self.new.records (bottom_of key.secret) self.new.cached)) }
+        ensures begun { UnderKey self.old.records (λ key. (start : ℕ)
+            → HasBegunTo key self.old.records level start self.old.cached
+            → HasBegun key self.new.records start self.new.cached) }
     {
         let levels = self.ledger.key().secret.levels();
         if level + 1 < levels {

@@ -1,8 +1,8 @@
 //! `sign`: the steps of a request, and what refuses it at each.
 
-ghost use Rattle.std.specs.Prelude.{◌≡◌, ◌<◌, [], None, Some, vec_capacity, IfErr, IsSome, OnErr, OnOk, ◌≤◌, ◌↔◌};
+ghost use Rattle.std.specs.Prelude.{◌≡◌, ◌<◌, [], None, Some, length, vec_capacity, IfErr, IsSome, OnErr, OnOk, ◌≤◌, ◌↔◌};
 ghost use Rattle.typecodes.specs.declared.secret.XmssSecret.{XmssSecret as X};
-ghost use Rattle.sign_core.specs.Caches.{HasAll, HasCurrent};
+ghost use Rattle.sign_core.specs.Caches.{HasAll, HasBegun, HasCurrent};
 ghost use Rattle.sign_core.specs.Textbook.{Trees, trees_of};
 ghost use Rattle.state_file.specs.Laws.{bottom_of, levels_of};
 ghost use Rattle.sign_core.specs.Records.{binding_at, the_key};
@@ -110,7 +110,8 @@ impl<S: Store, R: Source> Signer<S, R> {
     /// the binding; for XMSS it draws nothing. The message is read to its end, or can't be read (27), or is as it was.
     /// A message takes no memory, however long it is (`tests/run` counts the growths). After 28, Ok and later failures
     /// but 29, `out` has room for a signature, and the caches are there that the request needed. After the Ok of a new
-    /// name each current tree has its cache. No clause says which caches there are after 29.
+    /// name each current tree has its cache. A new tree whose record is acknowledged has its cache, whatever is answered.
+    /// No clause says which of the other caches there are after 29.
     pub fn sign<M: Message>(
         &mut self,
         name: &Name,
@@ -128,6 +129,8 @@ impl<S: Store, R: Source> Signer<S, R> {
             (binding_at self.old.records name.now) self.new.cached (vec_capacity out.new) result) }
         ensures signed { OnOk result (UnderKey self.old.records (λ key. binding_at self.old.records name.now ≡ None
             → HasAll key self.new.records (bottom_of key.secret) self.new.cached)) }
+        ensures begun { UnderKey self.old.records (λ key.
+            HasBegun key self.new.records (length self.old.records) self.new.cached) }
     {
         let silent = Silent::new();
         let progress = KeyProgress::of(&self.spec(), &silent);
@@ -154,6 +157,8 @@ impl<S: Store, R: Source> Signer<S, R> {
             (binding_at self.old.records name.now) self.new.cached (vec_capacity out.new) result) }
         ensures signed { OnOk result (UnderKey self.old.records (λ key. binding_at self.old.records name.now ≡ None
             → HasAll key self.new.records (bottom_of key.secret) self.new.cached)) }
+        ensures begun { UnderKey self.old.records (λ key.
+            HasBegun key self.new.records (length self.old.records) self.new.cached) }
     {
         let signed = self.sign_into(name, message, out, progress);
         cleared_at_fault(signed, out)
@@ -181,6 +186,8 @@ impl<S: Store, R: Source> Signer<S, R> {
             (binding_at self.old.records name.now) self.new.cached (vec_capacity out.new) result) }
         ensures signed { OnOk result (UnderKey self.old.records (λ key. binding_at self.old.records name.now ≡ None
             → HasAll key self.new.records (bottom_of key.secret) self.new.cached)) }
+        ensures begun { UnderKey self.old.records (λ key.
+            HasBegun key self.new.records (length self.old.records) self.new.cached) }
     {
         // 26, 31
         self.check_open()?;

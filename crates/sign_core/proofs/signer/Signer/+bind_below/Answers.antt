@@ -5,7 +5,7 @@ use Rattle.state_file.specs.declared.record.Key.{Key}
 use Rattle.state_file.specs.declared.record.Record.TheVariants.{Bound as BoundRecord}
 use Rattle.state_file.specs.declared.record.Record.{Record}
 use Rattle.sign_core.specs.declared.fault.SignFault.{SignFault}
-use Rattle.sign_core.specs.Caches.{Cached, HasAll}
+use Rattle.sign_core.specs.Caches.{Cached, HasAll, HasBegun}
 use Rattle.sign_core.specs.Signing.{answered_value}
 use Rattle.sign_core.specs.Progress.{types_of_key}
 use Rattle.sign_core.specs.Records.{is_long, the_key, types_of}
@@ -14,6 +14,7 @@ use Rattle.sign_core.specs.Signer.{signature_size, view_of}
 use Rattle.sign_core.specs.inner.Signing.{CanBind, Extends, BindsBelow}
 use Rattle.sign_core.proofs.Adding.{levels_range}
 use Rattle.sign_core.proofs.Binding.{bound_last, never_damaged, sound_last, written_last}
+use Rattle.sign_core.proofs.BegunCaches.{begun_bound, begun_stays}
 use Rattle.sign_core.proofs.ChainParts.{same_key}
 use Rattle.sign_core.proofs.BindsBelow.{Recorded, at_end, binds_below_after, binds_below_refused, is_recorded, key_after, ready_after, unbound_after}
 use Rattle.sign_core.proofs.Heights.{types_are}
@@ -244,3 +245,35 @@ returns-clause-caches g t c = anyway c.map_err.result (λ key keyed all.
     let after = has_bound key a.self.now.records a.level bound a.self.now.cached keyed all in
     subst (λ w. HasAll key w.records (bottom_of key.secret) w.cached) (sym view)
     (subst (λ (x : List Record × ℕ × Cached). HasAll key x.0 x.1 x.2) (λ i. (sym last.grown i, bottom i, sym c.in_ok-binding.ensures.cached i)) after))
+
+-- ---- the caches of new trees
+
+pub returns-in_err-extend-clause-begun : goal.returns-in_err-extend-clause-begun
+returns-in_err-extend-clause-begun g t c key keyed start begun =
+    let a = c.args in
+    begun_stays key a.self.now.records c.extend.new.self.records a.level start a.self.now.cached c.extend.new.self.cached
+    c.in_err-extend.ensures.stays c.in_err-extend.ensures.keeps begun
+
+pub returns-then-level-levels-clause-begun : goal.returns-then-level-levels-clause-begun
+returns-then-level-levels-clause-begun g t c key keyed start begun =
+    let a = c.args in
+    let after : Recorded g.S.Store a.self.now c.extend.new.self =
+    is_recorded g.S.Store g.R.Source (a.level + 1) a.self.now c.extend.new.self key (c.in_ok-extend.ensures.step key keyed) in
+    c.bind_below.ensures.begun key (key_after g.S.Store a.self.now c.extend.new.self key after keyed) start
+    (c.in_ok-extend.ensures.begun key keyed start begun)
+
+pub returns-in_err-binding-clause-begun : goal.returns-in_err-binding-clause-begun
+returns-in_err-binding-clause-begun g t c key keyed start begun =
+    let a = c.args in
+    begun_stays key a.self.now.records c.bind.new.self.records a.level start a.self.now.cached c.bind.new.self.cached
+    c.in_err-binding.ensures.stays (keeps_same a.level a.self.now.cached c.bind.new.self.cached c.in_err-binding.ensures.cached) begun
+
+pub returns-clause-begun : goal.returns-clause-begun
+returns-clause-begun g t c key keyed start begun =
+    let a = c.args in
+    let whole = c.self-2.inside in
+    let (bound, binds_below, last) = c.in_ok-binding.ensures.step key keyed in
+    let view = ap (λ y. view_of whole.store whole.random whole.ledger y whole.is_open) c.write_bound.ensures.caches ∙ c.self-2.view_is in
+    let after = begun_bound key a.self.now.records a.level start bound a.self.now.cached keyed begun in
+    subst (λ w. HasBegun key w.records start w.cached) (sym view)
+    (subst (λ (x : List Record × Cached). HasBegun key x.0 start x.1) (λ i. (sym last.grown i, sym c.in_ok-binding.ensures.cached i)) after)

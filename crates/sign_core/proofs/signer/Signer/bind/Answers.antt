@@ -1,7 +1,9 @@
-use Rattle.std.proofs.Common.{rules, ◌≡◌, ◌∙◌, ◌-◌, ◌<◌, ◌^◌, ◌∷◌, [], ◌++◌, length, None, Some, Ok, Err, refl, sym, ap, subst, arith, true}
+use Rattle.std.proofs.Common.{List, rules, ◌≡◌, ◌∙◌, ◌-◌, ◌<◌, ◌^◌, ◌∷◌, [], ◌++◌, length, None, Some, Ok, Err, refl, sym, ap, subst, arith, true}
+use Rattle.std.specs.Prelude.{OnErr}
 use Rattle.state_file.specs.Laws.{bottom_of}
 use Rattle.state_file.specs.declared.record.Bound.{Bound}
 use Rattle.state_file.specs.declared.record.Key.{Key}
+use Rattle.state_file.specs.declared.record.Record.{Record}
 use Rattle.state_file.specs.declared.record.Record.TheVariants.{Bound as BoundRecord}
 use Rattle.sign_core.specs.declared.fault.SignFault.TheVariants.{MessageRead}
 use Rattle.sign_core.specs.Records.{binding_at, free_at, has_moved, the_key, next_at}
@@ -13,6 +15,7 @@ use Rattle.sign_core.specs.inner.Links.{MakesTrees}
 use Rattle.sign_core.specs.inner.Signing.{BindsNext, BindsBelow, IsRandomizer}
 use Rattle.sign_core.proofs.Adding.{levels_range}
 use Rattle.sign_core.proofs.Appended.{added_records}
+use Rattle.sign_core.proofs.BegunCaches.{added_none, on_any}
 use Rattle.sign_core.proofs.Binding.{bound_added, bound_follows, bound_next, kept_last, tree_at_end, undrawn, unread_bound}
 use Rattle.sign_core.proofs.Bindings.{binding_new}
 use Rattle.sign_core.proofs.ChainParts.{same_key}
@@ -213,3 +216,17 @@ returns-clause-step g c key keyed =
             ∙ sym c.of.ensures;
       },
     )
+
+pub returns-in_err-add-clause-stays : goal.returns-in_err-add-clause-stays
+returns-in_err-add-clause-stays g c =
+    let i = c.self.inside in
+    let bound : Bound = record {
+      name = c.args.name.now;
+      leaf = c.in-Some.tree.next;
+      randomizer = c.in_ok-randomizer.randomizer;
+      digest = c.in_ok-digest.digest;
+    } in
+    let none = added_none g.S.Store (view_of i.store c.draw_randomizer.new.random i.ledger i.caches i.is_open) c.add.new.self (BoundRecord bound)
+    c.add.result c.add.ensures.adds in
+    let stays = subst (λ r. OnErr r (c.add.new.self.records ≡ i.ledger.records)) c.in_err-add.was none in
+    on_any c.from_residual-in_err-add.result (stays ∙ ap (λ w. w.records) c.self.view_is)

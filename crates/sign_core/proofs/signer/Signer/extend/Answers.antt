@@ -1,3 +1,4 @@
+use Rattle.std.specs.Prelude.{OnErr}
 use Rattle.std.proofs.Common.{rules, ◌≡◌, ◌∙◌, ℕ, ◌+◌, true, false, List, [], ◌∷◌, ◌++◌, Some, Err, refl, sym, ap, subst, arith, add-one}
 use Rattle.lmots.specs.Key.{message_digest_of}
 use Rattle.lms.specs.Secret.{rooted_public, root_of_secret}
@@ -15,12 +16,13 @@ use Rattle.sign_core.specs.declared.fault.SignFault.TheVariants.{OutOfMemory}
 use Rattle.sign_core.specs.Caches.{Cached, HasAll, HasLevel}
 use Rattle.sign_core.specs.Signing.{answered_value}
 use Rattle.sign_core.specs.Records.{has_moved, the_key}
-use Rattle.sign_core.specs.inner.Caches.{KeepsDownTo}
+use Rattle.sign_core.specs.inner.Caches.{HasBegunTo, KeepsDownTo}
 use Rattle.sign_core.specs.inner.Links.{MakesTrees, chain_trees}
 use Rattle.sign_core.specs.inner.Progress.{height_at}
 use Rattle.sign_core.specs.Signer.{View, view_of}
 use Rattle.sign_core.specs.inner.Signing.{Extends, Stands}
 use Rattle.sign_core.proofs.Adding.{levels_range}
+use Rattle.sign_core.proofs.BegunCaches.{added_none, begun_tree}
 use Rattle.sign_core.proofs.Appended.{added_records}
 use Rattle.sign_core.proofs.ChainParts.{same_key}
 use Rattle.sign_core.proofs.CurrentChain.{has_free, not_free}
@@ -266,4 +268,59 @@ returns-clause-caches g c =
     let after = has_begun K T i.ledger.records a.level c.in-Some.parent.place extend i.caches c.begin.new.self these c.self.invariant.1 (add-one a.level)
     has.current_is keeps there before in
     subst (λ (y : Key × List Record × ℕ × Cached). HasAll y.0 y.1 y.2 y.3)
+    (λ j. (own j, sym grown j, sym (add-one a.level) j, sym c.add.ensures.cached j)) after)
+
+pub returns-clause-stays : goal.returns-clause-stays
+returns-clause-stays g c =
+    let i = c.self.inside in
+    let extend : Extend = record {
+      level = c.args.level + 1;
+      parent_leaf = c.in-Some.parent.next;
+      identifier = c.in_ok-secret.secret.identifier;
+      seed = c.in_ok-secret.secret.seed;
+      randomizer = c.in_ok-secret.randomizer;
+      digest = c.message_digest-digest.result;
+      root = c.in_ok-root.root;
+    } in
+    subst (λ (l : List Record). OnErr c.add.result (c.add.new.self.records ≡ l)) (ap (λ w. w.records) c.self.view_is)
+    (added_none g.S.Store (view_of i.store c.draw_tree.new.random i.ledger c.begin.new.self i.is_open) c.add.new.self (ExtendRecord extend)
+    c.add.result c.add.ensures.adds)
+
+pub returns-clause-begun : goal.returns-clause-begun
+returns-clause-begun g c =
+    let a = c.args in
+    let i = c.self.inside in
+    let K = i.ledger.key in
+    let T = chain_trees c.in-Chain.chain in
+    let secret = c.in_ok-secret.secret in
+    let kept : the_key a.self.now.records ≡ Some K = ap (λ w. the_key w.records) (sym c.self.view_is) ∙ c.self.invariant.1 in
+    let these = subst (MakesTrees K.secret) c.in-Chain.is (subst (λ (k : Key). MakesTrees k.secret c.of.result) c.key.ensures.key c.of.ensures) in
+    let stands = subst (λ w. Stands w.records a.level K) (sym c.self.view_is) (c.requires.stands K kept) in
+    let has = has_free K.secret i.ledger.records a.level c.current.result c.in-Some.parent c.current.ensures c.in-Some.is stands.free in
+    let extend : Extend = record {
+      level = a.level + 1;
+      parent_leaf = c.in-Some.parent.next;
+      identifier = secret.identifier;
+      seed = secret.seed;
+      randomizer = c.in_ok-secret.randomizer;
+      digest = c.message_digest-digest.result;
+      root = c.in_ok-root.root;
+    } in
+    let there = subst (λ (x : ℕ × LmsSecret). HasLevel c.begin.new.self x.0 x.1)
+    (λ j. (
+      (c.new-asked.ensures.level ∙ add-one a.level) j,
+      (c.new-asked.ensures.secret
+          ∙ sym (begun_secret T i.ledger.records extend secret refl refl (c.in_ok-secret.ensures.4 ∙ c.pair.ensures))) j,
+    )) c.in_ok-root.ensures.there in
+    let keeps = keeps_begun a.level c.new-asked.result.level i.caches c.begin.new.self (omega (arith, c.new-asked.ensures.level)) c.begin.ensures.others c.begin.ensures.xmss in
+    if_added c.add.result (λ x is key keyed start begun.
+    let grown : c.add.new.self.records ≡ i.ledger.records ++ ExtendRecord extend ∷ [] =
+    added_records g.S.Store (view_of i.store c.draw_tree.new.random i.ledger c.begin.new.self i.is_open) c.add.new.self (ExtendRecord extend) c.add.result x
+    c.add.ensures.adds is in
+    let own : K ≡ key = same_key a.self.now.records K key kept keyed in
+    let before : HasBegunTo K i.ledger.records a.level start i.caches = subst (λ w. HasBegunTo K w.records a.level start w.cached) (sym c.self.view_is)
+    (subst (λ (k : Key). HasBegunTo k a.self.now.records a.level start a.self.now.cached) (sym own) begun) in
+    let after = begun_tree K T i.ledger.records a.level c.in-Some.parent.place start extend i.caches c.begin.new.self these c.self.invariant.1 (add-one a.level)
+    has.current_is keeps there before in
+    subst (λ (y : Key × List Record × ℕ × Cached). HasBegunTo y.0 y.1 y.2 start y.3)
     (λ j. (own j, sym grown j, sym (add-one a.level) j, sym c.add.ensures.cached j)) after)

@@ -1,10 +1,10 @@
-use Rattle.std.proofs.Common.{List, rules, ◌≡◌, ◌∙◌, Err, true, false, ap, refl, sym, subst, ◌<◌, ◌-◌, None, Some, length, arith}
+use Rattle.std.proofs.Common.{List, ℕ, rules, ◌≡◌, ◌∙◌, Err, true, false, ap, refl, sym, subst, ◌<◌, ◌-◌, None, Some, length, arith}
 use Rattle.std.specs.Prelude.{vec_capacity}
 use Rattle.std.proofs.lemmas.List.{take_at}
 use Rattle.state_file.specs.Laws.{bottom_of, levels_of}
 use Rattle.state_file.specs.declared.record.Key.{Key}
 use Rattle.state_file.specs.declared.record.Record.{Record}
-use Rattle.sign_core.specs.Caches.{HasAll}
+use Rattle.sign_core.specs.Caches.{HasAll, HasBegun}
 use Rattle.sign_core.specs.Ledger.{binding_kept, kept_of}
 use Rattle.sign_core.specs.Progress.{types_of_key}
 use Rattle.sign_core.specs.Records.{binding_at, deepest, is_long, the_key, types_of}
@@ -12,9 +12,10 @@ use Rattle.sign_core.specs.Signer.{IsSigner, KeepsForRepeat, Signs, is_before_ca
 use Rattle.sign_core.specs.Signing.{IsPrepared, UnderKey, answered_value, is_unprepared}
 use Rattle.sign_core.specs.Textbook.{damaged_at, current_at}
 use Rattle.sign_core.specs.declared.fault.SignFault.TheVariants.{Damaged, LongName}
-use Rattle.sign_core.specs.inner.Caches.{KeepsDownTo}
+use Rattle.sign_core.specs.inner.Caches.{HasBegunTo, KeepsDownTo}
 use Rattle.sign_core.specs.inner.Links.{MakesTrees}
 use Rattle.sign_core.specs.inner.Signing.{CanBind, BindsBelow, IsBindingOf, Stands}
+use Rattle.sign_core.proofs.BegunCaches.{none_begun, none_begun_to}
 use Rattle.sign_core.proofs.ChainParts.{same_key}
 use Rattle.sign_core.proofs.Heights.{types_are}
 use Rattle.sign_core.proofs.KeptCaches.{anyway, made_new, never_bound, on_ok, prepared_later, refused_early, refused_new}
@@ -372,3 +373,46 @@ returns-clause-signed g c = on_ok c.bind_below.result (λ rest key keyed none.
     subst (λ w. UnderKey w.records (λ k. HasAll k w.records c.in_ok-level.level w.cached
     → HasAll k c.bind_below.new.self.records (bottom_of k.secret) c.bind_below.new.self.cached)) same rest key (ap the_key made.keeps.records ∙ keyed) all)
     c.bind_below.ensures.caches
+
+-- ---- the caches of new trees
+
+pub returns-in_err-check_open-clause-begun : goal.returns-in_err-check_open-clause-begun
+returns-in_err-check_open-clause-begun g c key keyed = none_begun key c.args.self.now.records c.args.self.now.records c.args.self.now.cached keyed refl
+
+pub returns-in-Some-clause-begun : goal.returns-in-Some-clause-begun
+returns-in-Some-clause-begun g c key keyed =
+    none_begun key c.args.self.now.records c.repeat.new.self.records c.repeat.new.self.cached keyed
+    (ap (λ w. w.records) c.repeat.ensures.keeps.but_caches)
+
+pub returns-then-as_bytes-from-clause-begun : goal.returns-then-as_bytes-from-clause-begun
+returns-then-as_bytes-from-clause-begun g c key keyed = none_begun key c.args.self.now.records c.args.self.now.records c.args.self.now.cached keyed refl
+
+pub returns-in_err-level-clause-begun : goal.returns-in_err-level-clause-begun
+returns-in_err-level-clause-begun g c key keyed = none_begun key c.args.self.now.records c.args.self.now.records c.args.self.now.cached keyed refl
+
+pub returns-in_err-prepare-clause-begun : goal.returns-in_err-prepare-clause-begun
+returns-in_err-prepare-clause-begun g c key keyed =
+    none_begun key c.args.self.now.records c.prepare.new.self.records c.prepare.new.self.cached keyed (c.in_err-prepare.ensures.room key keyed).keeps.records
+
+pub returns-in_err-map_err-clause-begun : goal.returns-in_err-map_err-clause-begun
+returns-in_err-map_err-clause-begun g c key keyed =
+    let v = c.args.self.now in
+    let mid = c.prepare.new.self in
+    let whole = c.self-2.inside in
+    let same = ap (λ x. view_of whole.store whole.random whole.ledger x whole.is_open) c.check_current.ensures.caches ∙ c.self-2.view_is in
+    subst (λ w. HasBegun key w.records (length v.records) w.cached) (sym same)
+    (none_begun key v.records mid.records mid.cached keyed (c.in_ok-prepare.ensures.room key keyed).keeps.records)
+
+pub returns-clause-begun : goal.returns-clause-begun
+returns-clause-begun g c key keyed =
+    let v = c.args.self.now in
+    let mid = c.prepare.new.self in
+    let level = c.in_ok-level.level in
+    let made = c.in_ok-prepare.ensures.room key keyed in
+    let whole = c.self-2.inside in
+    let same = ap (λ x. view_of whole.store whole.random whole.ledger x whole.is_open) c.check_current.ensures.caches ∙ c.self-2.view_is in
+    let none : HasBegunTo key mid.records level (length v.records) mid.cached = subst (λ (l : List Record). HasBegunTo key l level (length v.records) mid.cached)
+    (sym made.keeps.records) (none_begun_to key v.records level mid.cached keyed) in
+    subst (λ w. UnderKey w.records (λ k. (start : ℕ) → HasBegunTo k w.records level start w.cached
+    → HasBegun k c.bind_below.new.self.records start c.bind_below.new.self.cached)) same c.bind_below.ensures.begun key (ap the_key made.keeps.records ∙ keyed)
+    (length v.records) none
