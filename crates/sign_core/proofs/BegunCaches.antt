@@ -1,5 +1,5 @@
 -- Which caches of new trees are there, whatever a request answers.
-use Rattle.std.proofs.Common.{◌≡◌, ◌∙◌, ◌⊎◌, ℕ, ◌+◌, ◌<◌, ◌≤◌, List, [], ◌∷◌, ◌++◌, length, suc, Option, None, Some, Result, Ok, Err, inl, inr, sym, ap, subst, arith, true, false, true≢false}
+use Rattle.std.proofs.Common.{◌≡◌, ◌∙◌, ◌⊎◌, ℕ, ◌<◌, ◌≤◌, List, [], ◌∷◌, ◌++◌, length, suc, None, Some, Result, Ok, Err, inl, inr, sym, ap, subst, arith}
 use Rattle.std.proofs.lemmas.Option.{same_Some}
 use Rattle.std.proofs.lemmas.Bool.{cases_lt}
 use Rattle.std.specs.Prelude.{OnErr}
@@ -105,3 +105,7 @@ added_none {S = S} {R = R} g old new entry answer adds = by_fate adds.fate adds.
 pub on_any : {A E : Type 0} {P : Type 0} (answer : Result A E) → P → OnErr answer P
 on_any (Ok x) holds = tt
 on_any (Err e) holds = holds
+
+pub both_err : {A E : Type 0} {P Q R : Type 0} (answer : Result A E) → (P → Q → R) → OnErr answer P → OnErr answer Q → OnErr answer R
+both_err (Ok x) to first second = tt
+both_err (Err e) to first second = to first second

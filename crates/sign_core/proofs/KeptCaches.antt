@@ -13,7 +13,7 @@ use Rattle.state_file.specs.declared.record.Secret.{Secret}
 use Rattle.state_file.specs.declared.record.Secret.TheVariants.{Xmss}
 use Rattle.typecodes.specs.declared.secret.LmsSecret.{LmsSecret}
 use Rattle.typecodes.specs.declared.secret.XmssSecret.{XmssSecret}
-use Rattle.sign_core.specs.Caches.{Cached, HasCaches, HasLevel, LacksCache, LacksLevel, cache_at}
+use Rattle.sign_core.specs.Caches.{Cached, HasCaches, HasLevel, LacksCache, LacksLevel, LacksOwn, cache_at}
 use Rattle.sign_core.specs.Records.{binding_at, current, deepest, the_key}
 use Rattle.sign_core.specs.Signer.{is_before_caches, is_before_repeat, is_fault}
 use Rattle.sign_core.specs.Signing.{IsPrepared, MakesCaches, is_unprepared}
@@ -24,7 +24,7 @@ use Rattle.sign_core.specs.declared.key_trees.SecretTrees.{SecretTrees}
 use Rattle.sign_core.specs.declared.key_trees.SecretTrees.TheVariants.{Chain, Xmss as XmssTree}
 use Rattle.sign_core.specs.declared.ledger.Binding.{Binding}
 use Rattle.sign_core.specs.declared.trees.Tree.{Tree}
-use Rattle.sign_core.specs.inner.Caches.{HasOwn, KeepsDownTo, LacksOwn}
+use Rattle.sign_core.specs.inner.Caches.{HasOwn, KeepsDownTo}
 use Rattle.sign_core.specs.inner.Links.{IsTreeAt, MakesTrees, chain_trees}
 use Rattle.sign_core.specs.inner.Signing.{IsBindingOf}
 use Rattle.sign_core.proofs.Append.{current_above, current_new}

@@ -37,6 +37,7 @@ pub mod Uses
 pub mod Kept
 pub mod KeptCaches
 pub mod BegunCaches
+pub mod LostCaches
 pub mod BoundBelow
 pub mod TreeParts
 pub mod Stops

@@ -1,5 +1,5 @@
 -- The caches of current trees, and which one is missing for a signature.
-use Rattle.std.specs.Prelude.{◌≡◌, ◌≢◌, ◌⊎◌, ℕ, ◌<◌, ◌≤◌, List, length, slice_index_or, Option, Some, None}
+use Rattle.std.specs.Prelude.{◌≡◌, ◌≢◌, ◌⊎◌, ℕ, ◌<◌, ◌≤◌, ◌-◌, List, length, slice_index_or, Option, Some, None}
 use Rattle.typecodes.specs.declared.secret.LmsSecret.{LmsSecret}
 use Rattle.typecodes.specs.declared.secret.XmssSecret.{XmssSecret}
 use Rattle.state_file.specs.declared.record.Key.{Key}
@@ -52,6 +52,34 @@ LacksCache key records (Some lowest) before cached =
 -- All of them are there.
 abbrev pub HasCaches : Key → List Record → (lowest : Option ℕ) → (before : ℕ) → Cached → Type 0
 HasCaches key records lowest before cached = LacksCache key records lowest before cached → ⊥
+
+-- The cache of a level's current tree is missing, and the tree's record stands before this place.
+pub record LacksOwn (trees : Trees) (records : List Record) (level before : ℕ) (cached : Cached) : Type 0 where
+  pub tree : ℕ
+  pub is_current : current level records ≡ Some tree
+  pub earlier : tree < before
+  pub lacks : HasLevel cached level (secret_at trees records tree) → ⊥
+
+-- A level lacked its current tree's cache, and memory was refused for it: the level has none now. The current trees
+-- above have theirs, and the caches below are as they were.
+pub record LosesLevel (key : Key) (records : List Record) (lowest before : ℕ) (old new : Cached) : Type 0 where
+  pub trees : Trees
+  pub of_key : trees_of key.secret ≡ Some trees
+  pub level : ℕ
+  pub down_to : level ≤ lowest
+  pub lacked : LacksOwn trees records level before old
+  pub above : 1 ≤ level → HasCaches key records (Some (level - 1)) before new
+  pub here : cache_at new.levels level ≡ None
+  pub below : (k : ℕ) → level < k → cache_at new.levels k ≡ cache_at old.levels k
+
+pub record LosesXmss (key : Key) (old new : Cached) : Type 0 where
+  pub lacked : LacksXmss key old
+  pub here : new.xmss ≡ None
+  pub levels : new.levels ≡ old.levels
+
+-- Memory was refused for a cache that a signature needs: a level's, or an XMSS key's.
+abbrev pub LosesCache : Key → List Record → (lowest before : ℕ) → (old new : Cached) → Type 0
+LosesCache key records lowest before old new = LosesLevel key records lowest before old new ⊎ LosesXmss key old new
 
 -- Each current tree whose record stands at this place or behind it has its cache.
 abbrev pub HasBegun : Key → List Record → (start : ℕ) → Cached → Type 0

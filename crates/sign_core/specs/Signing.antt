@@ -1,11 +1,12 @@
 -- What the contracts of signing share: an answer with its bytes, the records' key, the memory of an output, and the
 -- caches that a request makes.
-use Rattle.std.specs.Prelude.{◌≡◌, ℕ, List, length, Option, Some, None, Bool, false, ◌||◌, Result, Ok, Err, max, ◌≤◌}
+use Rattle.std.specs.Prelude.{◌≡◌, ◌⊎◌, ℕ, List, length, Option, Some, None, Bool, true, false, ◌||◌}
+use Rattle.std.specs.Prelude.{Result, Ok, Err, max, ◌≤◌}
 use Rattle.state_file.specs.declared.record.Bound.{Bound}
 use Rattle.state_file.specs.declared.record.Key.{Key}
 use Rattle.state_file.specs.declared.record.Record.{Record}
 use Rattle.sign_core.specs.declared.fault.SignFault.{SignFault}
-use Rattle.sign_core.specs.Caches.{Cached, HasCaches}
+use Rattle.sign_core.specs.Caches.{Cached, HasCaches, LosesCache}
 use Rattle.sign_core.specs.Records.{deepest, the_key}
 use Rattle.sign_core.specs.Signer.{is_before_caches, is_before_repeat, is_fault, is_out_of_memory, signature_size}
 use Rattle.state_file.specs.Laws.{bottom_of}
@@ -47,6 +48,17 @@ MakesCaches key records (Some (k, bound)) cached capacity answer =
 MakesCaches key records None cached capacity answer =
     is_fault (is_unprepared is_before_caches) answer ≡ false
     → IsPrepared key records (deepest key.secret records) (length records) cached capacity
+
+-- 29 (OutOfMemory) leaves the caches as they were, or one that the request needs couldn't be made; or a new name has
+-- all that it needs, and memory was refused for a later step.
+abbrev pub LeavesCaches : {A : Type 0} → Key → List Record → Option (ℕ × Bound) → (old new : Cached)
+    → Result A SignFault → Type 0
+LeavesCaches key records (Some (k, bound)) old new answer = is_fault is_out_of_memory answer ≡ true
+    → (new ≡ old) ⊎ LosesCache key records (bottom_of key.secret) k old new
+LeavesCaches key records None old new answer = is_fault is_out_of_memory answer ≡ true
+    → (lowest : ℕ) → deepest key.secret records ≡ Some lowest
+    → (new ≡ old) ⊎ (LosesCache key records lowest (length records) old new
+    ⊎ HasCaches key records (Some lowest) (length records) new)
 
 -- ---- an XMSS key
 

@@ -96,6 +96,7 @@ impl<X: TreeSecret, P: TreeProgress> TreeRequest<'_, X, P> {
         ensures there { OnOk result (kept.new ≡ Some self.entry.secret) }
         ensures fault { IfErr result (λ fault. fault ≡ SignFault.OutOfMemory) }
         ensures lacking { OnErr result (kept.old ≢ Some self.entry.secret) }
+        ensures none { OnErr result (kept.new ≡ None) }
     {
         if leaves_made(kept, &self.secret).is_some() {
             return Ok(());
@@ -173,6 +174,7 @@ impl Caches {
         ensures there { OnOk result (HasLevel self.new asked.entry.level asked.entry.secret) }
         ensures fault { IfErr result (λ fault. fault ≡ SignFault.OutOfMemory) }
         ensures lacking { OnErr result (HasLevel self.old asked.entry.level asked.entry.secret → ⊥) }
+        ensures none { OnErr result (cache_at self.new.levels asked.entry.level ≡ None) }
         ensures others { (k : ℕ) → k ≢ asked.entry.level → cache_at self.new.levels k ≡ cache_at self.old.levels k }
         ensures xmss { self.new.xmss ≡ self.old.xmss }
     {
@@ -248,6 +250,7 @@ impl Caches {
         ensures there { OnOk result (self.new.xmss ≡ Some asked.entry.secret) }
         ensures fault { IfErr result (λ fault. fault ≡ SignFault.OutOfMemory) }
         ensures lacking { OnErr result (self.old.xmss ≢ Some asked.entry.secret) }
+        ensures none { OnErr result (self.new.xmss ≡ None) }
         ensures levels { self.new.levels ≡ self.old.levels }
     {
         asked.keep(&mut self.xmss, self.alloc)

@@ -188,11 +188,11 @@ impl KeyTrees {
 }
 
 impl Caches {
-    ghost use Rattle.sign_core.specs.Caches.{HasCaches, LacksCache, cache_at};
+    ghost use Rattle.sign_core.specs.Caches.{HasCaches, LacksCache, LacksOwn, LosesCache, cache_at};
     ghost use Rattle.std.specs.Prelude.{ℕ, ◌≢◌};
     ghost use Rattle.state_file.specs.Laws.{IsLegal};
     ghost use Rattle.sign_core.specs.Records.{the_key};
-    ghost use Rattle.sign_core.specs.inner.Caches.{HasOwn, LacksOwn};
+    ghost use Rattle.sign_core.specs.inner.Caches.{HasOwn};
     ghost use Rattle.sign_core.specs.inner.Links.{AreTreesOf, IsTreeAt, MakesTrees, chain_trees};
 
     // Makes the cache of a level's current tree, where it is missing and the tree's record stands before a place.
@@ -213,6 +213,7 @@ impl Caches {
         ensures there { OnOk result (HasOwn (chain_trees trees.now) ledger.now.records level before self.new) }
         ensures fault { IfErr result (λ fault. fault ≡ SignFault.OutOfMemory) }
         ensures lacking { OnErr result (LacksOwn (chain_trees trees.now) ledger.now.records level before self.old) }
+        ensures none { OnErr result (cache_at self.new.levels level ≡ None) }
         ensures others { (k : ℕ) → k ≢ level → cache_at self.new.levels k ≡ cache_at self.old.levels k }
         ensures xmss { self.new.xmss ≡ self.old.xmss }
     {
@@ -249,6 +250,7 @@ impl Caches {
         ensures fault { IfErr result (λ fault. fault ≡ SignFault.OutOfMemory) }
         ensures lacking { OnErr result
             (LacksCache ledger.now.key ledger.now.records (Some level) before self.old) }
+        ensures loses { OnErr result (LosesCache ledger.now.key ledger.now.records level before self.old self.new) }
         ensures others { (k : ℕ) → level < k → cache_at self.new.levels k ≡ cache_at self.old.levels k }
     {
         let trees = match keys {

@@ -19,13 +19,6 @@ abbrev pub HasOwn : Trees → List Record → (level before : ℕ) → Cached �
 HasOwn trees records level before cached = (tree : ℕ) → current level records ≡ Some tree → tree < before
     → HasLevel cached level (secret_at trees records tree)
 
--- It is missing.
-pub record LacksOwn (trees : Trees) (records : List Record) (level before : ℕ) (cached : Cached) : Type 0 where
-  pub tree : ℕ
-  pub is_current : current level records ≡ Some tree
-  pub earlier : tree < before
-  pub lacks : HasLevel cached level (secret_at trees records tree) → ⊥
-
 -- The caches of the levels down to this one stay, and an XMSS tree's.
 pub record KeepsDownTo (level : ℕ) (old new : Cached) : Type 0 where
   pub levels : (k : ℕ) → k ≤ level → cache_at new.levels k ≡ cache_at old.levels k

@@ -1,14 +1,14 @@
 //! A new name: room for its records and signature, its new trees, its binding, and its signature.
 
 ghost use Rattle.std.specs.Prelude.{◌≡◌, ◌<◌, ◌-◌, [], None, Some, true, false, length, vec_capacity};
-ghost use Rattle.std.specs.Prelude.{◌+◌, ℕ, IfErr, OnErr, OnOk};
+ghost use Rattle.std.specs.Prelude.{◌+◌, ◌⊎◌, ℕ, IfErr, OnErr, OnOk};
 ghost use Rattle.state_file.specs.Laws.{levels_of, bottom_of};
 ghost use Rattle.sign_core.specs.Records.{binding_at, free_at, has_moved, is_long, the_key};
 ghost use Rattle.sign_core.specs.Progress.{types_of_key};
 ghost use Rattle.sign_core.specs.inner.Request.{Prepares};
 ghost use Rattle.sign_core.specs.inner.Signing.{BindsBelow, BindsNext, CanBind, DrawsTree, Extends};
 ghost use Rattle.sign_core.specs.inner.Signing.{IsReady, Stands};
-ghost use Rattle.sign_core.specs.Caches.{HasAll, HasBegun};
+ghost use Rattle.sign_core.specs.Caches.{HasAll, HasBegun, LosesCache};
 ghost use Rattle.sign_core.specs.inner.Caches.{HasBegunTo, KeepsDownTo};
 ghost use Rattle.sign_core.specs.Signer.{is_before_caches};
 ghost use Rattle.sign_core.specs.Signing.{IsPrepared, KeepsCapacity, UnderKey, answered_value, is_unprepared};
@@ -65,6 +65,8 @@ impl<S: Store, R: Source> Signer<S, R> {
             (vec_capacity out.old) (length out.new.items) result) }
         ensures capacity { KeepsCapacity self.old.records (vec_capacity out.old) (vec_capacity out.new) }
         ensures refused { IfErr result (λ fault. is_unprepared is_before_caches fault ≡ true) }
+        ensures loses { OnErr result (UnderKey self.old.records (λ key. (self.new.cached ≡ self.old.cached)
+            ⊎ LosesCache key self.old.records level (length self.old.records) self.old.cached self.new.cached)) }
         ensures prepared { OnOk result (UnderKey self.old.records (λ key. IsPrepared key self.old.records (Some level)
             (length self.old.records) self.new.cached (vec_capacity out.new))) }
     {

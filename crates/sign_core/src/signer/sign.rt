@@ -1,6 +1,7 @@
 //! `sign`: the steps of a request, and what refuses it at each.
 
-ghost use Rattle.std.specs.Prelude.{◌≡◌, ◌<◌, [], None, Some, length, vec_capacity, IfErr, IsSome, OnErr, OnOk, ◌≤◌, ◌↔◌};
+ghost use Rattle.std.specs.Prelude.{◌≡◌, ◌<◌, [], None, Some, length, vec_capacity, IfErr, IsSome, OnErr, OnOk};
+ghost use Rattle.std.specs.Prelude.{◌≤◌, ◌↔◌};
 ghost use Rattle.typecodes.specs.declared.secret.XmssSecret.{XmssSecret as X};
 ghost use Rattle.sign_core.specs.Caches.{HasAll, HasBegun, HasCurrent};
 ghost use Rattle.sign_core.specs.Textbook.{Trees, trees_of};
@@ -8,7 +9,8 @@ ghost use Rattle.state_file.specs.Laws.{bottom_of, levels_of};
 ghost use Rattle.sign_core.specs.Records.{binding_at, the_key};
 ghost use Rattle.sign_core.specs.Progress.{types_of_key};
 ghost use Rattle.sign_core.specs.Signer.{KeepsForRepeat, Signs, is_before_repeat, is_fault};
-ghost use Rattle.sign_core.specs.Signing.{IsXmssKey, KeepsCapacity, MakesCaches, UnderKey, answered_value};
+ghost use Rattle.sign_core.specs.Signing.{IsXmssKey, KeepsCapacity, LeavesCaches};
+ghost use Rattle.sign_core.specs.Signing.{MakesCaches, UnderKey, answered_value};
 ghost use Rattle.typecodes.specs.Message.{Digests};
 ghost use Rattle.sign_core.specs.inner.Signing.{DrawsRandomizer};
 
@@ -109,9 +111,10 @@ impl<S: Store, R: Source> Signer<S, R> {
     /// Once the binding's append has answered Ok, `sign` answers Ok. It draws I, SEED and C for each new tree and C for
     /// the binding; for XMSS it draws nothing. The message is read to its end, or can't be read (27), or is as it was.
     /// A message takes no memory, however long it is (`tests/run` counts the growths). After 28, Ok and later failures
-    /// but 29, `out` has room for a signature, and the caches are there that the request needed. After the Ok of a new
-    /// name each current tree has its cache. A new tree whose record is acknowledged has its cache, whatever is answered.
-    /// No clause says which of the other caches there are after 29.
+    /// but 29, `out` has room for a signature, and the caches are there that the request needed. 29 leaves the caches
+    /// as they were; or a level has none, those above it have theirs, and those below are as they were; or a new name
+    /// has all that it needs, and a later step was refused. After the Ok of a new name each current tree has its cache.
+    /// A new tree whose record is acknowledged has its cache, whatever is answered.
     pub fn sign<M: Message>(
         &mut self,
         name: &Name,
@@ -127,6 +130,8 @@ impl<S: Store, R: Source> Signer<S, R> {
             KeepsForRepeat self.old self.new (is_fault is_before_repeat result) }
         ensures caches { UnderKey self.old.records (λ key. MakesCaches key self.old.records
             (binding_at self.old.records name.now) self.new.cached (vec_capacity out.new) result) }
+        ensures refused { UnderKey self.old.records (λ key. LeavesCaches key self.old.records
+            (binding_at self.old.records name.now) self.old.cached self.new.cached result) }
         ensures signed { OnOk result (UnderKey self.old.records (λ key. binding_at self.old.records name.now ≡ None
             → HasAll key self.new.records (bottom_of key.secret) self.new.cached)) }
         ensures begun { UnderKey self.old.records (λ key.
@@ -155,6 +160,8 @@ impl<S: Store, R: Source> Signer<S, R> {
             KeepsForRepeat self.old self.new (is_fault is_before_repeat result) }
         ensures caches { UnderKey self.old.records (λ key. MakesCaches key self.old.records
             (binding_at self.old.records name.now) self.new.cached (vec_capacity out.new) result) }
+        ensures refused { UnderKey self.old.records (λ key. LeavesCaches key self.old.records
+            (binding_at self.old.records name.now) self.old.cached self.new.cached result) }
         ensures signed { OnOk result (UnderKey self.old.records (λ key. binding_at self.old.records name.now ≡ None
             → HasAll key self.new.records (bottom_of key.secret) self.new.cached)) }
         ensures begun { UnderKey self.old.records (λ key.
@@ -184,6 +191,8 @@ impl<S: Store, R: Source> Signer<S, R> {
             KeepsForRepeat self.old self.new (is_fault is_before_repeat result) }
         ensures caches { UnderKey self.old.records (λ key. MakesCaches key self.old.records
             (binding_at self.old.records name.now) self.new.cached (vec_capacity out.new) result) }
+        ensures refused { UnderKey self.old.records (λ key. LeavesCaches key self.old.records
+            (binding_at self.old.records name.now) self.old.cached self.new.cached result) }
         ensures signed { OnOk result (UnderKey self.old.records (λ key. binding_at self.old.records name.now ≡ None
             → HasAll key self.new.records (bottom_of key.secret) self.new.cached)) }
         ensures begun { UnderKey self.old.records (λ key.

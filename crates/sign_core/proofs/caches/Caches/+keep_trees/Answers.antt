@@ -1,11 +1,13 @@
-use Rattle.std.proofs.Common.{◌≡◌, ◌∙◌, Some, ap, subst, sym, arith}
-use Rattle.sign_core.specs.Caches.{cache_at}
+use Rattle.std.proofs.Common.{◌≡◌, ◌∙◌, ◌-◌, Some, ap, subst, sym, arith}
+use Rattle.sign_core.specs.Caches.{HasCaches, cache_at}
 use Rattle.sign_core.specs.Textbook.{trees_of}
 use Rattle.sign_core.specs.inner.Links.{MakesTrees, chain_trees}
 use Rattle.sign_core.proofs.Heights.{height_of_xmss}
 use Rattle.sign_core.proofs.KeptCaches.{kept_level, lacks_level, on_err, on_ok}
+use Rattle.sign_core.proofs.BegunCaches.{both_err}
 use Rattle.sign_core.proofs.LinkParts.{IsUnder, is_under, top_level}
 use Rattle.sign_core.proofs.Signs.{is_none}
+use Rattle.sign_core.proofs.LostCaches.{loses_level}
 use Rattle.sign_core.proofs.caches.Caches.+keep_trees.Goals.{In-Some, in-Some+in_ok-keep_trees, in_default}
 use Rattle.sign_core.proofs.caches.Caches.+keep_trees.Goals as goal
 
@@ -68,4 +70,31 @@ returns-clause-lacking g t c =
           on_err c.keep_current.result
           (lacks_level l.key T l.records a.level a.before a.self.now c.match-made.self these (ap (λ x. cache_at x.levels a.level) w.self-is))
           c.keep_current.ensures.lacking
+    ]
+
+pub returns-clause-loses : goal.returns-clause-loses
+returns-clause-loses g t c =
+    let a = c.args in
+    let l = a.ledger.now in
+    let T = chain_trees c.in-Chain.trees in
+    let these : trees_of l.key.secret ≡ Some T = subst (MakesTrees l.key.secret) c.in-Chain.is c.requires.trees in
+    let others = c.keep_current.ensures.others in
+    elim c.match-made.branch [
+      | in-Some+in_ok-keep_trees w ↦
+          let below = (is_under l.key T l.records a.level a.place w.in-Some.made c.requires.legal c.requires.keyed these c.requires.stands
+          (sym c.made.ensures ∙ w.in-Some.is)).some in
+          both_err c.keep_current.result
+          (λ lacks none. loses_level l.key T l.records a.level a.before a.self.now c.match-made.self c.keep_current.new.self these
+          (λ some. subst (HasCaches l.key l.records (Some (a.level - 1)) a.before) (sym w.self-is) w.in_ok-keep_trees.ensures.kept)
+          (λ k low. ap (λ x. cache_at x.levels k) w.self-is ∙ w.keep_trees.ensures.others k (omega (arith, below, low)))
+          lacks none others c.keep_current.ensures.xmss)
+          c.keep_current.ensures.lacking c.keep_current.ensures.none
+      | in_default w ↦
+          let top = top_level l.records a.level a.place c.requires.stands (sym c.made.ensures ∙ is_none c.made.result w.in_default.not-Some) in
+          both_err c.keep_current.result
+          (λ lacks none. loses_level l.key T l.records a.level a.before a.self.now c.match-made.self c.keep_current.new.self these
+          (λ some. absurd (omega (arith, some, top)))
+          (λ k low. ap (λ x. cache_at x.levels k) w.self-is)
+          lacks none others c.keep_current.ensures.xmss)
+          c.keep_current.ensures.lacking c.keep_current.ensures.none
     ]

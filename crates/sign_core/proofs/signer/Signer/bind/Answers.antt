@@ -1,9 +1,8 @@
-use Rattle.std.proofs.Common.{List, rules, ◌≡◌, ◌∙◌, ◌-◌, ◌<◌, ◌^◌, ◌∷◌, [], ◌++◌, length, None, Some, Ok, Err, refl, sym, ap, subst, arith, true}
+use Rattle.std.proofs.Common.{rules, ◌≡◌, ◌∙◌, ◌-◌, ◌<◌, ◌^◌, ◌∷◌, [], ◌++◌, length, None, Some, Ok, Err, refl, sym, ap, subst, arith, true}
 use Rattle.std.specs.Prelude.{OnErr}
 use Rattle.state_file.specs.Laws.{bottom_of}
 use Rattle.state_file.specs.declared.record.Bound.{Bound}
 use Rattle.state_file.specs.declared.record.Key.{Key}
-use Rattle.state_file.specs.declared.record.Record.{Record}
 use Rattle.state_file.specs.declared.record.Record.TheVariants.{Bound as BoundRecord}
 use Rattle.sign_core.specs.declared.fault.SignFault.TheVariants.{MessageRead}
 use Rattle.sign_core.specs.Records.{binding_at, free_at, has_moved, the_key, next_at}

@@ -1,4 +1,4 @@
-use Rattle.std.proofs.Common.{rules, ◌≡◌, ◌∙◌, ◌≤◌, ℕ, ◌-◌, List, Some, Err, refl, sym, ap, subst, arith}
+use Rattle.std.proofs.Common.{rules, ◌≡◌, ◌∙◌, ◌≤◌, ℕ, ◌-◌, List, Some, Ok, Err, refl, sym, ap, subst, arith}
 use Rattle.std.specs.Prelude.{length, vec_capacity}
 use Rattle.std.proofs.lemmas.List.{take_at}
 use Rattle.state_file.specs.Laws.{bottom_of}
@@ -6,9 +6,9 @@ use Rattle.state_file.specs.declared.record.Key.{Key}
 use Rattle.state_file.specs.declared.record.Record.{Record}
 use Rattle.sign_core.specs.declared.fault.SignFault.TheVariants.{Changed}
 use Rattle.sign_core.specs.declared.ledger.Binding.{Binding}
-use Rattle.sign_core.specs.Caches.{Cached, HasCaches, LacksCache}
+use Rattle.sign_core.specs.Caches.{Cached, HasCaches, LacksCache, LosesCache}
 use Rattle.sign_core.specs.Records.{the_key, types_of}
-use Rattle.sign_core.specs.Signer.{is_before_repeat, signature_size, state_of}
+use Rattle.sign_core.specs.Signer.{is_before_repeat, is_fault, is_out_of_memory, signature_size, state_of}
 use Rattle.sign_core.specs.inner.Links.{IsTreeAt, MakesTrees}
 use Rattle.sign_core.specs.Signing.{IsPrepared, UnderKey, is_unprepared}
 use Rattle.sign_core.specs.inner.Signing.{IsBindingOf, Repeats}
@@ -19,6 +19,7 @@ use Rattle.sign_core.proofs.Heights.{types_are}
 use Rattle.sign_core.proofs.KeptCaches.{bound_stands, made_bound, refused_bound}
 use Rattle.sign_core.proofs.LedgerReading.{key_levels}
 use Rattle.sign_core.proofs.Repeats.{changed, damaged, fault_of, found_chain, found_digest, found_kept, found_signature, is_found, lacks_cache, lacks_room, linked_ok, given_back, same_size, signed, unread}
+use Rattle.sign_core.proofs.LostCaches.{leaves_as_they_were, leaves_bound, leaves_other}
 use Rattle.sign_core.proofs.signer.Signer.repeat.Goals as goal
 
 pub overflow_sub-bottom : goal.overflow_sub-bottom
@@ -275,3 +276,48 @@ returns-clause-caches g c key keyed name kept =
     } in
     made_bound key v.records name b _ _ _ (is_found key v.records name b kept)
     (subst (λ x. IsPrepared key v.records (Some (bottom_of key.secret)) b.place x (vec_capacity c.make_room.new.out)) (sym c.write_bound.ensures.caches) prepared)
+
+-- ---- the caches that it leaves where memory is refused
+
+pub returns-in_err-digest-clause-refused : goal.returns-in_err-digest-clause-refused
+returns-in_err-digest-clause-refused g c key keyed name kept =
+    let v = c.args.self.now in
+    leaves_as_they_were key v.records _ v.cached v.cached c.from_residual.result refl
+
+pub returns-then-ne-clause-refused : goal.returns-then-ne-clause-refused
+returns-then-ne-clause-refused g c key keyed name kept =
+    let v = c.args.self.now in
+    leaves_as_they_were {A = Unit {0}} key v.records _ v.cached v.cached (Err Changed) refl
+
+pub returns-in_err-make_room-clause-refused : goal.returns-in_err-make_room-clause-refused
+returns-in_err-make_room-clause-refused g c key keyed name kept =
+    let v = c.args.self.now in
+    leaves_as_they_were key v.records _ v.cached v.cached c.from_residual-in_err-make_room.result refl
+
+pub returns-in_err-keep_trees-clause-refused : goal.returns-in_err-keep_trees-clause-refused
+returns-in_err-keep_trees-clause-refused g c key keyed name kept =
+    let v = c.args.self.now in
+    let b = c.args.binding.now in
+    let own_is = same_key v.records c.key.result.now key (ap (λ w. the_key w.records) (sym c.self.view_is) ∙ c.key.ensures.first) keyed in
+    let own = sym c.key.ensures.key ∙ own_is in
+    let records = ap (λ w. w.records) c.self.view_is in
+    let bottom : c.levels-bottom.result - 1 ≡ bottom_of key.secret =
+    ap (λ n. n - 1) c.levels-bottom.ensures ∙ ap (λ (k : Key). bottom_of k.secret) own_is in
+    let loses : LosesCache key v.records (bottom_of key.secret) b.place v.cached c.keep_trees.new.self =
+    subst (λ (x : Key × List Record × ℕ × Cached). LosesCache x.0 x.1 x.2 b.place x.3 c.keep_trees.new.self)
+    (λ i. (own i, records i, bottom i, ap (λ w. w.cached) c.self.view_is i))
+    c.in_err-keep_trees.ensures.loses in
+    leaves_bound key v.records name b v.cached c.keep_trees.new.self c.from_residual-in_err-keep_trees.result
+    (is_found key v.records name b kept) loses
+
+pub returns-in_err-map_err-clause-refused : goal.returns-in_err-map_err-clause-refused
+returns-in_err-map_err-clause-refused g c key keyed name kept =
+    let L = c.self.inside.ledger in
+    let answer : c.from_residual-in_err-map_err.result ≡ Err c.in_err-map_err.field-0.0 = search rules in
+    let (slot, of_place, chain) = fault_of c.write_bound.result c.map_err.result c.in_err-map_err.field-0.0
+    (λ k. damaged_at L.key (bottom_of L.key.secret) L.records c.args.binding.now.tree ≡ Some k) c.map_err.ensures.cases c.in_err-map_err.was c.write_bound.ensures.damaged in
+    leaves_other key c.args.self.now.records _ _ c.write_bound.new.caches c.from_residual-in_err-map_err.result
+    (ap (is_fault is_out_of_memory) (answer ∙ ap Err of_place))
+
+pub returns-clause-refused : goal.returns-clause-refused
+returns-clause-refused g c key keyed name kept = leaves_other key c.args.self.now.records _ c.args.self.now.cached c.write_bound.new.caches (Ok tt) refl

@@ -1,4 +1,4 @@
-use Rattle.std.proofs.Common.{List, ℕ, rules, ◌≡◌, ◌∙◌, Err, true, false, ap, refl, sym, subst, ◌<◌, ◌-◌, None, Some, length, arith}
+use Rattle.std.proofs.Common.{List, ℕ, inr, rules, ◌≡◌, ◌∙◌, Err, true, false, ap, refl, sym, subst, ◌<◌, ◌-◌, None, Some, length, arith}
 use Rattle.std.specs.Prelude.{vec_capacity}
 use Rattle.std.proofs.lemmas.List.{take_at}
 use Rattle.state_file.specs.Laws.{bottom_of, levels_of}
@@ -7,9 +7,9 @@ use Rattle.state_file.specs.declared.record.Record.{Record}
 use Rattle.sign_core.specs.Caches.{HasAll, HasBegun}
 use Rattle.sign_core.specs.Ledger.{binding_kept, kept_of}
 use Rattle.sign_core.specs.Progress.{types_of_key}
-use Rattle.sign_core.specs.Records.{binding_at, deepest, is_long, the_key, types_of}
+use Rattle.sign_core.specs.Records.{binding_at, deepest, is_long, the_key}
 use Rattle.sign_core.specs.Signer.{IsSigner, KeepsForRepeat, Signs, is_before_caches, is_before_repeat, view_of}
-use Rattle.sign_core.specs.Signing.{IsPrepared, UnderKey, answered_value, is_unprepared}
+use Rattle.sign_core.specs.Signing.{IsPrepared, LeavesCaches, UnderKey, answered_value, is_unprepared}
 use Rattle.sign_core.specs.Textbook.{damaged_at, current_at}
 use Rattle.sign_core.specs.declared.fault.SignFault.TheVariants.{Damaged, LongName}
 use Rattle.sign_core.specs.inner.Caches.{HasBegunTo, KeepsDownTo}
@@ -18,12 +18,13 @@ use Rattle.sign_core.specs.inner.Signing.{CanBind, BindsBelow, IsBindingOf, Stan
 use Rattle.sign_core.proofs.BegunCaches.{none_begun, none_begun_to}
 use Rattle.sign_core.proofs.ChainParts.{same_key}
 use Rattle.sign_core.proofs.Heights.{types_are}
-use Rattle.sign_core.proofs.KeptCaches.{anyway, made_new, never_bound, on_ok, prepared_later, refused_early, refused_new}
+use Rattle.sign_core.proofs.KeptCaches.{anyway, made_new, never_bound, on_ok, prepared_later, refused_early, refused_new, stays_has}
 use Rattle.sign_core.proofs.Leaves.{deepest_is}
 use Rattle.sign_core.proofs.LedgerReading.{key_levels}
 use Rattle.sign_core.proofs.Refusals.{same_kind}
 use Rattle.sign_core.proofs.Repeats.{fault_of, linked_ok}
 use Rattle.sign_core.proofs.Signs.{binds_signs, can_bind, damaged_binds, deepest_after, exhausted_signs, binds_below_binds, none_fault, some_level, hindered_signs, long_signs, none_mapped, repeats_signs, unprepared_signs, is_none}
+use Rattle.sign_core.proofs.LostCaches.{leaves_as_they_were, leaves_new, loses_new}
 use Rattle.sign_core.proofs.signer.Signer.sign_into.Goals as goal
 
 pub returns-in_err-check_open-clause-step : goal.returns-in_err-check_open-clause-step
@@ -416,3 +417,75 @@ returns-clause-begun g c key keyed =
     subst (λ w. UnderKey w.records (λ k. (start : ℕ) → HasBegunTo k w.records level start w.cached
     → HasBegun k c.bind_below.new.self.records start c.bind_below.new.self.cached)) same c.bind_below.ensures.begun key (ap the_key made.keeps.records ∙ keyed)
     (length v.records) none
+
+-- ---- the caches that it leaves where memory is refused
+
+pub returns-in_err-check_open-clause-refused : goal.returns-in_err-check_open-clause-refused
+returns-in_err-check_open-clause-refused g c key keyed =
+    let v = c.args.self.now in
+    leaves_as_they_were key v.records (binding_at v.records c.args.name.now) v.cached v.cached c.from_residual.result refl
+
+pub returns-in-Some-clause-refused : goal.returns-in-Some-clause-refused
+returns-in-Some-clause-refused g c other others =
+    let v = c.args.self.now in
+    let key = c.self.inside.ledger.key in
+    let keyed = ap (λ w. the_key w.records) (sym c.self.view_is) ∙ c.self.invariant.1 in
+    let own : key ≡ other = same_key v.records key other keyed others in
+    let is : IsBindingOf v.records c.in-Some.binding key c.args.name.now =
+    ap (λ w. binding_kept key.secret w.records c.args.name.now) (sym c.self.view_is) ∙ sym c.find.ensures ∙ c.in-Some.is in
+    c.repeat.ensures.refused other others c.args.name.now (subst (λ (k : Key). IsBindingOf v.records c.in-Some.binding k c.args.name.now) own is)
+
+pub returns-then-as_bytes-from-clause-refused : goal.returns-then-as_bytes-from-clause-refused
+returns-then-as_bytes-from-clause-refused g c key keyed =
+    let v = c.args.self.now in
+    leaves_as_they_were key v.records (binding_at v.records c.args.name.now) v.cached v.cached (Err LongName) refl
+
+pub returns-in_err-level-clause-refused : goal.returns-in_err-level-clause-refused
+returns-in_err-level-clause-refused g c key keyed =
+    let v = c.args.self.now in
+    leaves_as_they_were key v.records (binding_at v.records c.args.name.now) v.cached v.cached c.from_residual-in_err-level.result refl
+
+pub returns-in_err-prepare-clause-refused : goal.returns-in_err-prepare-clause-refused
+returns-in_err-prepare-clause-refused g c key keyed =
+    let v = c.args.self.now in
+    let unbound = none_mapped (kept_of c.self.inside.ledger.key.secret v.records) (binding_at v.records c.args.name.now)
+    (ap (λ w. binding_kept c.self.inside.ledger.key.secret w.records c.args.name.now) (sym c.self.view_is) ∙ sym c.find.ensures ∙ is_none c.find.result c.in_default.not-Some) in
+    let some = some_level c.deepest.result c.in_ok-level.level (sym c.ok_or.ensures.value ∙ c.in_ok-level.was) in
+    let own = same_key v.records c.self.inside.ledger.key key (ap (λ w. the_key w.records) (sym c.self.view_is) ∙ c.self.invariant.1) keyed in
+    let at : deepest key.secret v.records ≡ Some c.in_ok-level.level = subst (λ (k : Key). deepest k.secret v.records ≡ Some c.in_ok-level.level) own
+    (ap (λ w. deepest c.self.inside.ledger.key.secret w.records) (sym c.self.view_is) ∙ sym c.deepest.ensures ∙ some) in
+    leaves_new key v.records (binding_at v.records c.args.name.now) c.in_ok-level.level v.cached c.prepare.new.self.cached
+    c.from_residual-in_err-prepare.result unbound at
+    (loses_new key v.records c.in_ok-level.level v.cached c.prepare.new.self.cached (c.in_err-prepare.ensures.loses key keyed))
+
+pub returns-in_err-map_err-clause-refused : goal.returns-in_err-map_err-clause-refused
+returns-in_err-map_err-clause-refused g c key keyed =
+    let v = c.args.self.now in
+    let unbound = none_mapped (kept_of c.self.inside.ledger.key.secret v.records) (binding_at v.records c.args.name.now)
+    (ap (λ w. binding_kept c.self.inside.ledger.key.secret w.records c.args.name.now) (sym c.self.view_is) ∙ sym c.find.ensures ∙ is_none c.find.result c.in_default.not-Some) in
+    let some = some_level c.deepest.result c.in_ok-level.level (sym c.ok_or.ensures.value ∙ c.in_ok-level.was) in
+    let own = same_key v.records c.self.inside.ledger.key key (ap (λ w. the_key w.records) (sym c.self.view_is) ∙ c.self.invariant.1) keyed in
+    let at : deepest key.secret v.records ≡ Some c.in_ok-level.level = subst (λ (k : Key). deepest k.secret v.records ≡ Some c.in_ok-level.level) own
+    (ap (λ w. deepest c.self.inside.ledger.key.secret w.records) (sym c.self.view_is) ∙ sym c.deepest.ensures ∙ some) in
+    let whole = c.self-2.inside in
+    let same = ap (λ x. view_of whole.store whole.random whole.ledger x whole.is_open) c.check_current.ensures.caches ∙ c.self-2.view_is in
+    subst (λ w. LeavesCaches key v.records (binding_at v.records c.args.name.now) v.cached w.cached c.from_residual-in_err-map_err.result) (sym same)
+    (leaves_new key v.records (binding_at v.records c.args.name.now) c.in_ok-level.level v.cached c.prepare.new.self.cached
+    c.from_residual-in_err-map_err.result unbound at (inr (inr (c.in_ok-prepare.ensures.prepared key keyed).caches)))
+
+pub returns-clause-refused : goal.returns-clause-refused
+returns-clause-refused g c key keyed =
+    let v = c.args.self.now in
+    let unbound = none_mapped (kept_of c.self.inside.ledger.key.secret v.records) (binding_at v.records c.args.name.now)
+    (ap (λ w. binding_kept c.self.inside.ledger.key.secret w.records c.args.name.now) (sym c.self.view_is) ∙ sym c.find.ensures ∙ is_none c.find.result c.in_default.not-Some) in
+    let some = some_level c.deepest.result c.in_ok-level.level (sym c.ok_or.ensures.value ∙ c.in_ok-level.was) in
+    let own = same_key v.records c.self.inside.ledger.key key (ap (λ w. the_key w.records) (sym c.self.view_is) ∙ c.self.invariant.1) keyed in
+    let at : deepest key.secret v.records ≡ Some c.in_ok-level.level = subst (λ (k : Key). deepest k.secret v.records ≡ Some c.in_ok-level.level) own
+    (ap (λ w. deepest c.self.inside.ledger.key.secret w.records) (sym c.self.view_is) ∙ sym c.deepest.ensures ∙ some) in
+    let whole = c.self-2.inside in
+    let same = ap (λ x. view_of whole.store whole.random whole.ledger x whole.is_open) c.check_current.ensures.caches ∙ c.self-2.view_is in
+    let later = stays_has key v.records c.in_ok-level.level (length v.records) c.prepare.new.self.cached c.bind_below.new.self.cached
+    (subst (λ w. KeepsDownTo c.in_ok-level.level w.cached c.bind_below.new.self.cached) same c.bind_below.ensures.keeps)
+    (c.in_ok-prepare.ensures.prepared key keyed).caches in
+    leaves_new key v.records (binding_at v.records c.args.name.now) c.in_ok-level.level v.cached c.bind_below.new.self.cached
+    c.bind_below.result unbound at (inr (inr later))
