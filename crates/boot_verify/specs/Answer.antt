@@ -87,7 +87,7 @@ GivesPrefix public bytes room answer =
 abbrev pub root_of : List ℕ → List ℕ
 root_of public = take 32 (drop (if nat_eq (length public) 68 then 4 else length public - 32) public)
 
--- Either a root was written, which is the key's exactly where the signature is valid, and the answer is that it's ready.
+-- Either a root was written, which is the key's exactly where the signature is valid, and the answer is ready.
 -- Or there is a refusal, of no valid signature, and what was in the room stays.
 abbrev pub GivesRoot : List ℕ → List ℕ → List ℕ → List ℕ → List ℕ → ℕ → Type 0
 GivesRoot public message bytes old new answer =
