@@ -2,8 +2,7 @@
  * The answers of include/hbs_verify.h for the files of each input line: a public key, a message and a signature, with
  * tabs between them. A line of output has the answers of hbs_verify, hbs_message_prefix, hbs_verify_digest and hbs_root
  * as number:detail, the prefix in hex, and the root. The digest is the SHA-256 of prefix and message, or zeros where
- * the prefix is refused. Prefix and root were filled with bytes ee. With any word it has the answer of hbs_verify
- * alone, which takes a third of the time.
+ * the prefix is refused. Prefix and root were filled with bytes ee.
  */
 #include <stdio.h>
 #include <stdlib.h>
@@ -39,48 +38,43 @@ static void print_bytes(const uint8_t *bytes, size_t count) {
 
 static void print(uint64_t answer) { printf("%u:%u ", (unsigned)HBS_NUMBER(answer), (unsigned)HBS_DETAIL(answer)); }
 
-static void print_verdict(const content *it) {
-    print(hbs_verify(it[0].bytes, it[0].length, it[1].bytes, it[1].length, it[2].bytes, it[2].length));
-}
-
-/* What the other calls answer, the prefix and the root. */
-static void print_others(const content *it) {
-    const content key = it[0], message = it[1], signature = it[2];
-    uint8_t *prefix = malloc(HBS_PREFIX_BYTES), *digest = calloc(1, HBS_DIGEST_BYTES), *root = malloc(HBS_ROOT_BYTES);
-    uint64_t answer;
-    sha256 hash;
-    if (!prefix || !digest || !root) exit(2);
-    memset(prefix, 0xee, HBS_PREFIX_BYTES);
-    memset(root, 0xee, HBS_ROOT_BYTES);
-    answer = hbs_message_prefix(key.bytes, key.length, signature.bytes, signature.length, prefix);
-    print(answer);
-    if (HBS_NUMBER(answer) == HBS_READY) {
-        start(&hash);
-        add(&hash, prefix, HBS_DETAIL(answer));
-        add(&hash, message.bytes, message.length);
-        finish(&hash, digest);
-    }
-    print(hbs_verify_digest(key.bytes, key.length, signature.bytes, signature.length, digest));
-    print(hbs_root(key.bytes, key.length, message.bytes, message.length, signature.bytes, signature.length, root));
-    print_bytes(prefix, HBS_PREFIX_BYTES);
-    putchar(' ');
-    print_bytes(root, HBS_ROOT_BYTES);
-    free(prefix);
-    free(digest);
-    free(root);
-}
-
-int main(int count, char **words) {
+int main(void) {
     char line[4096];
-    (void)words;
     while (fgets(line, sizeof line, stdin)) {
-        content parts[3];
-        for (int i = 0; i < 3; i++) parts[i] = content_of(strtok(i ? NULL : line, "\t\n"));
-        print_verdict(parts);
-        if (count == 1) print_others(parts);
+        const content key = content_of(strtok(line, "\t\n"));
+        const content message = content_of(strtok(NULL, "\t\n"));
+        const content signature = content_of(strtok(NULL, "\t\n"));
+        uint8_t *prefix = malloc(HBS_PREFIX_BYTES), *digest = calloc(1, HBS_DIGEST_BYTES);
+        uint8_t *root = malloc(HBS_ROOT_BYTES);
+        size_t length = 0;
+        uint64_t answer;
+        sha256 hash;
+        if (!prefix || !digest || !root) return 2;
+        memset(prefix, 0xee, HBS_PREFIX_BYTES);
+        memset(root, 0xee, HBS_ROOT_BYTES);
+        print(hbs_verify(key.bytes, key.length, message.bytes, message.length, signature.bytes, signature.length));
+        answer = hbs_message_prefix(key.bytes, key.length, signature.bytes, signature.length, prefix);
+        print(answer);
+        if (HBS_NUMBER(answer) == HBS_READY) {
+            length = HBS_DETAIL(answer);
+            start(&hash);
+            add(&hash, prefix, length);
+            add(&hash, message.bytes, message.length);
+            finish(&hash, digest);
+        }
+        print(hbs_verify_digest(key.bytes, key.length, signature.bytes, signature.length, digest));
+        print(hbs_root(key.bytes, key.length, message.bytes, message.length, signature.bytes, signature.length, root));
+        print_bytes(prefix, HBS_PREFIX_BYTES);
+        putchar(' ');
+        print_bytes(root, HBS_ROOT_BYTES);
         putchar('\n');
         fflush(stdout);
-        for (int i = 0; i < 3; i++) free(parts[i].bytes);
+        free(key.bytes);
+        free(message.bytes);
+        free(signature.bytes);
+        free(prefix);
+        free(digest);
+        free(root);
     }
     return 0;
 }

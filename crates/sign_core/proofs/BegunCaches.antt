@@ -91,7 +91,7 @@ begun_bound key records level start bound cached keyed begun trees lower tree th
     let within = stands_low records key lower tree keyed before in
     (begun trees lower tree these before from).1 ∙ ap Some (sym (secret_stays trees records (BoundRecord bound ∷ []) tree within))
 
--- a signer takes up no record whose append was refused
+-- A signer has no record whose append was refused.
 pub added_none : {S R : Type 0} (g : store.Ghosts S) (old new : View S R) (entry : Record) (answer : Result (Unit {0}) SignFault)
     → Adds g old new entry answer → OnErr answer (new.records ≡ old.records)
 added_none {S = S} {R = R} g old new entry answer adds = by_fate adds.fate adds.ends

@@ -1,4 +1,4 @@
--- What is told of a state file that has bytes behind its last record.
+-- What an alarm hears of a state file that has bytes behind its last record.
 use Rattle.std.specs.Prelude.{◌≡◌, ◌⊎◌, ℕ, zero, suc, List, ◌∷◌, length, Option, Some, None, Result, Ok, Err, IsTrue}
 use Rattle.std.specs.Prelude.{if◌then◌else◌}
 use Rattle.state_file.specs.declared.disk.Disk as disk

@@ -6,7 +6,7 @@ ghost use Rattle.sign_core.specs.Alarm.{TellsSlot, last_slot, slot_behind};
 
 use state_file::{Disk, FileStore, SlotList};
 
-/// Is told of the state files that are opened and seem cut short or damaged.
+/// Hears of the state files that are opened and seem cut short or damaged.
 pub trait Alarm {
     // the slots that it was told of, the last one first
     ghost slots: { Self → List ℕ };

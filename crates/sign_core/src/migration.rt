@@ -44,7 +44,7 @@ pub fn migrate_key<D: Disk + Drop, E: Disk + Drop>(
     migrate_key_telling(alloc, old, new, &mut SlotList::new())
 }
 
-/// As `migrate_key`. If the old file has bytes behind its last record, `alarm` is told so before anything is written.
+/// As `migrate_key`. If the old file has bytes behind its last record, `alarm` hears so before anything is written.
 pub fn migrate_key_telling<D: Disk + Drop, E: Disk + Drop, A: Alarm>(
     alloc: Global,
     old: D,

@@ -120,7 +120,7 @@ fn fault_of(fault: OpenFault) -> MigrateFault
 }
 
 /// Opens the old place, if it has legal records of version 1. Whether they are legal (44) and memory (46) come before
-/// their version (42). `alarm` is told if it has bytes behind its last record.
+/// their version (42). `alarm` hears where it has bytes behind its last record.
 pub(crate) fn open_old<D: Disk + Drop, A: Alarm>(
     alloc: Global,
     old: D,

@@ -61,7 +61,7 @@ fn noting(numbers: &Numbers, most: u64) -> Heard<'_>
     }
 }
 
-// The root, of which `numbers` is told.
+// The root; `numbers` hears of its leaves.
 fn told_root(tally: &Tally, numbers: &Numbers, height: u8, last: u64) -> [u8; 32]
     requires { height ≤ 10 }
 {
@@ -79,8 +79,8 @@ fn tells_of_root(height: u8, last: u64, often: u32) -> bool {
     root == worked_out(height, 0) && numbers.get() == (last, often)
 }
 
-// A number is told after each leaf, or each eight. In the last line the tree is taken to have 20 leaves, and no more
-// are told of.
+// `numbers` hears after each leaf, or each eight. In the last line the tree is taken to have 20 leaves, and it hears of
+// no more.
 fn tell_of_roots() -> bool {
     tells_of_root(0, 1, 1)
         && tells_of_root(1, 2, 2)
