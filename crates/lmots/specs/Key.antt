@@ -14,6 +14,8 @@ abbrev pub step_of : List ℕ → ℕ → Steps
 step_of identifier q i j value = sha256 (identifier ++ u32str q ++ u16str i ++ u8str j ++ value)
 
 -- H(I || u32str(q) || u16str(i) || u8str(0xff) || SEED): the private value of chain i (Appendix A)
+-- Requirement: RFC 8554 4.2, strength
+-- Requirement: SP 800-208 6.1, lms values
 abbrev pub private_value : List ℕ → ℕ → List ℕ → ℕ → List ℕ
 private_value identifier q seed i = sha256 (identifier ++ u32str q ++ u16str i ++ u8str 0xff ++ seed)
 

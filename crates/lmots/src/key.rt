@@ -12,7 +12,7 @@ ghost use Rattle.winternitz.specs.Lanes.{lanes};
 
 use sha2::{Digest, Sha256};
 use typecodes::{Message, MessageFailed, OtsType, put};
-use winternitz::{Step, feed};
+use winternitz::{Hasher, Step, feed};
 
 // D_PBLC (RFC 8554 4.3) and D_MESG (4.5).
 pub(crate) const PUBLIC: u16 = 0x8080;
@@ -93,7 +93,8 @@ impl LmOts {
         ensures { Digests M.transition M.remaining
             (message_digest_of self.now.identifier self.now.leaf randomizer.now) result message.old message.new }
     {
-        let mut hasher = self.message_hasher(randomizer);
+        let mut hasher = Hasher::new();
+        hasher.update(&self.message_prefix(randomizer));
         feed(&mut hasher, message)?;
         Ok(hasher.finalize())
     }

@@ -14,3 +14,5 @@ mod Vectors
 mod Long
 mod Words
 mod Ways
+mod Sums
+mod Absorbing

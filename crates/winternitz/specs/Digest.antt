@@ -47,6 +47,7 @@ pub record AreWinternitzDigits (w : ℕ) (digest digits : List ℕ) : Type 0 whe
   pub all : digits ≡ take (digit_count w) (message ++ checksum)
 
 -- The list has the whole checksum: v digits are enough for it before the shift, and the cut takes none of them away.
+-- Requirement: RFC 8391 3.1.5, checksum
 pub record HasWholeChecksum (w : ℕ) (digest digits : List ℕ) : Type 0 where
   pub message : List ℕ
   pub checksum : List ℕ

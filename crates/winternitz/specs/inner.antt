@@ -4,3 +4,4 @@ pub mod Chain
 pub mod Feeding
 pub mod Groups
 pub mod Lanes
+pub mod Sums

@@ -5,10 +5,9 @@ ghost use Rattle.std.specs.Prelude.{slice_index, slice_index_or};
 ghost use Rattle.std.specs.Int.{w32, to_be_bytes};
 ghost use Rattle.sha2.specs.Sha256 as spec;
 ghost use Rattle.sha2.specs.Sha256.{digest_bytes, initial_hash_256, padding, sha256, word_at};
-ghost use Rattle.winternitz.specs.Lanes.{lanes, lane_state, value_at};
+ghost use Rattle.winternitz.specs.Lanes.{lanes, lane_at, lane_state, value_at};
 ghost use Rattle.winternitz.specs.inner.Lanes.{four_bytes};
 
-use crate::lanes::constants::INITIAL;
 use crate::lanes::rounds::compress_words;
 use std::simd::u32x8;
 
@@ -16,9 +15,13 @@ mod beginning;
 mod constants;
 mod long;
 mod rounds;
+mod sums;
 
 pub use crate::lanes::beginning::Beginning;
+pub(crate) use crate::lanes::constants::INITIAL;
+pub(crate) use crate::lanes::long::block_at;
 pub use crate::lanes::long::sha256_in_lanes;
+pub(crate) use crate::lanes::sums::{Sums, fill_sums};
 
 /// The number of lanes. docs/CONTRIBUTING.md lists what else another number changes.
 pub const LANES: usize = 8;
@@ -69,11 +72,20 @@ pub fn compress(states: &States, blocks: &[[u8; 64]; LANES]) -> States
     ensures { (j : ℕ) → j < lanes
         → lane_state result j ≡ spec.compress (lane_state states.now j) (slice_index_or blocks.now j []) }
 {
+    compress_words(states, &block_words(blocks))
+}
+
+// The words of the block in each lane (FIPS 180-4 5.2.1).
+pub(crate) fn block_words(blocks: &[[u8; 64]; LANES]) -> [Words; 16]
+    ensures words { (j k : ℕ) → k < 16 → j < lanes
+        → lane_at result k j ≡ word_at (slice_index_or blocks.now j []) (4 * k) }
+    ensures exact_length { length result ≡ 16 }
+{
     let mut words = [Words::splat(0); 16];
     for k in 0..16 {
         words[k] = load(blocks, 4 * k);
     }
-    compress_words(states, &words)
+    words
 }
 
 // The words at byte i of each lane's bytes.
@@ -108,7 +120,7 @@ pub fn digests(states: &States) -> [[u8; 32]; LANES]
     digests
 }
 
-fn digest(state: &[u32; 8]) -> [u8; 32]
+pub(crate) fn digest(state: &[u32; 8]) -> [u8; 32]
     ensures { result ≡ digest_bytes state.now 8 }
 {
     let mut bytes = [0; 32];

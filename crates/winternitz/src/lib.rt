@@ -10,8 +10,8 @@
 //!
 //! `climb_whole`, `climb_to` and `climb_from` walk all chains of a key; each lane takes an equal part of the steps.
 //! `lanes` is SHA-256 of blocks side by side, one per lane (`specs/Lanes.antt`), with which a `Step` takes a step in
-//! each lane at once. `feed` gives a message to a hash, piece by piece. A verifier climbs `InLanes`, or `OneByOne` with
-//! little stack and code.
+//! each lane at once. `Hasher` is SHA-256 of a message in pieces, with the schedules of eight blocks side by side, and
+//! `feed` gives it a message. A verifier climbs `InLanes`, or `OneByOne` with little stack and code.
 //!
 //! ```rust
 //! use winternitz::{climb_from, digits};
@@ -23,8 +23,10 @@
 
 mod chain;
 mod climbing;
+mod compression;
 mod digest;
 mod groups;
+mod hasher;
 pub mod lanes;
 mod laws;
 mod message;
@@ -34,5 +36,6 @@ pub use crate::chain::{Step, added, climb};
 pub use crate::climbing::{InLanes, OneByOne};
 pub use crate::digest::{Digits, digits};
 pub use crate::groups::{MOST_CHAINS, Values, climb_from, climb_to, climb_whole};
+pub use crate::hasher::Hasher;
 pub use crate::laws::chain_law;
 pub use crate::message::feed;

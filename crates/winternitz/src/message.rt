@@ -1,17 +1,17 @@
 //! A message of any length, hashed piece by piece.
 
 ghost use Rattle.std.specs.Prelude.{OnErr, OnOk};
-ghost use Rattle.sha2.specs.Hashers.{Holds256};
+ghost use Rattle.winternitz.specs.Hasher.{HoldsBytes};
 ghost use Rattle.typecodes.specs.Message.{CantBeRead, Feeds};
 
-use sha2::{Digest, Sha256};
+use crate::hasher::Hasher;
 use std::convert::Infallible;
 use typecodes::{Message, MessageFailed, PieceTaker, read_to_end};
 
 // A hasher that takes the pieces of a message.
 #[derive(Drop)]
 struct Hashing<'a> {
-    hasher: &'a mut Sha256,
+    hasher: &'a mut Hasher,
 }
 
 impl PieceTaker for Hashing<'_> {
@@ -41,8 +41,8 @@ impl PieceTaker for Hashing<'_> {
 }
 
 /// Reads a message to its end and updates the hasher with each piece. `Err` if the message can't be read.
-pub fn feed<M: Message>(hasher: &mut Sha256, message: &mut M) -> Result<(), MessageFailed>
-    ensures ok { OnOk result (Feeds M.transition M.remaining Holds256 hasher.old hasher.new message.old message.new) }
+pub fn feed<M: Message>(hasher: &mut Hasher, message: &mut M) -> Result<(), MessageFailed>
+    ensures ok { OnOk result (Feeds M.transition M.remaining HoldsBytes hasher.old hasher.new message.old message.new) }
     ensures err { OnErr result (CantBeRead M.transition message.old message.new) }
 {
     let mut hashing = Hashing { hasher };

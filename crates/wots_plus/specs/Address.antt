@@ -14,6 +14,7 @@ unfoldable pub address : ℕ → ℕ → ℕ → ℕ → Adrs
 address kind first second third mask = flat_map (λ word. to_byte word 4) (words kind first second third mask)
 
 -- an OTS hash address: OTS address, chain address, hash address
+-- Requirement: RFC 8391 3.1.4, address
 abbrev pub one_time : ℕ → ℕ → ℕ → Adrs
 one_time leaf chain hash = address 0 leaf chain hash
 

@@ -42,5 +42,7 @@ rand_hash seed adrs left right =
 
 -- a private value: SHA-256(toByte(4, 32) || S_XMSS || SEED || ADRS), ADRS with keyAndMask 0. The standard leaves this
 -- choice open (3.1.7).
+-- Requirement: RFC 8391 3.1.3, derived
+-- Requirement: SP 800-208 6.2, xmss values
 abbrev pub private_value_at : List ℕ → List ℕ → Adrs → List ℕ
 private_value_at secret seed adrs = sha256 (to_byte 4 32 ++ secret ++ seed ++ adrs 0)

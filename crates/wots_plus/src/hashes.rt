@@ -14,8 +14,8 @@ ghost use Rattle.winternitz.specs.Lanes.{lanes};
 use crate::address::Address;
 use sha2::{Digest, Sha256};
 use typecodes::{Message, MessageFailed, put};
-use winternitz::feed;
 use winternitz::lanes::{LANES, compress, in_each, in_lane, initial, sha256_of_96, sha256_of_128};
+use winternitz::{Hasher, feed};
 
 /// F(KEY, M), the hash of a chain's step.
 pub fn hash_f(key: &[u8; 32], message: &[u8; 32]) -> [u8; 32]
@@ -115,7 +115,9 @@ pub fn hash_message_from<M: Message>(
 ) -> Result<[u8; 32], MessageFailed>
     ensures { Digests M.transition M.remaining (spec.hash_message key.now) result message.old message.new }
 {
-    let mut hasher = message_hasher(key);
+    let mut hasher = Hasher::new();
+    hasher.update(&number_in_32(2));
+    hasher.update(key);
     feed(&mut hasher, message)?;
     Ok(hasher.finalize())
 }
@@ -132,12 +134,20 @@ pub(crate) fn keyed(number: u8, key: &[u8]) -> Sha256
     requires { number ≤ 4 }
     ensures { Holds256 result (to_byte number 32 ++ key.now) }
 {
-    let mut prefix = [0; 32];
-    prefix[31] = number;
     let mut hasher = Sha256::new();
-    hasher.update(prefix);
+    hasher.update(number_in_32(number));
     hasher.update(key);
     hasher
+}
+
+// A hash's number in 32 bytes.
+fn number_in_32(number: u8) -> [u8; 32]
+    requires { number ≤ 4 }
+    ensures { result ≡ to_byte number 32 }
+{
+    let mut bytes = [0; 32];
+    bytes[31] = number;
+    bytes
 }
 
 /// PRF under one key. The first block of all its messages is the same. That it is hashed only once is measured, not

@@ -2,6 +2,7 @@
 
 mod climbs;
 mod digits;
+mod hashers;
 mod lanes;
 mod laws;
 mod shares;

@@ -88,12 +88,11 @@ fn blocks_at<const N: usize>(messages: &[[u8; N]; LANES], k: usize) -> [[u8; 64]
     blocks
 }
 
-fn block_at<const N: usize>(message: &[u8; N], k: usize) -> [u8; 64]
-    requires { (k + 1) * 64 ≤ N }
+pub(crate) fn block_at(message: &[u8], k: usize) -> [u8; 64]
+    requires { (k + 1) * 64 ≤ length message.now }
     ensures { result ≡ take 64 (drop (k * 64) message.now) }
 {
     let mut block = [0; 64];
-    let bytes = &message[..];
-    block.copy_from_slice(&bytes[k * 64..(k + 1) * 64]);
+    block.copy_from_slice(&message[k * 64..(k + 1) * 64]);
     block
 }

@@ -2,7 +2,7 @@
 use Rattle.std.proofs.Common.{◌≡◌, ℕ, ◌*◌, ◌<◌, [], length, slice_index_or}
 use Rattle.sha2.specs.Sha256.{word_at}
 use Rattle.winternitz.specs.Lanes.{lane_at, lanes}
-use Rattle.winternitz.proofs.lanes.compress.Given as goal
+use Rattle.winternitz.proofs.lanes.block_words.Given as goal
 
 abbrev pub invariant-loop-k : goal.invariant-loop-k
 invariant-loop-k l = record {
