@@ -18,6 +18,7 @@ pub mod Moved
 pub mod OneWay
 pub mod Pairs
 pub mod PastEnd
+pub mod Pieces
 pub mod Ranges
 pub mod SlotWrites
 pub mod StoreReads

@@ -50,12 +50,12 @@ loads_of store = store.loads
 abbrev pub given_of : {D : Type 0} {bound : _} → FileStore D bound → List Record
 given_of store = store.given
 
--- the disk afterwards: the store's, or the one that a refusal hands back
+-- the disk afterwards: the store's, or the one in a refusal
 abbrev pub disk_of_result : {D F : Type 0} {bound : _} → Result (FileStore D bound) (Refused D F) → D
 disk_of_result (Ok store) = store.disk
 disk_of_result (Err refused) = refused.given
 
--- the answer, without what a refusal hands back
+-- the answer, without what a refusal gives back
 abbrev pub outcome_of : {A T F : Type 0} → Result A (Refused T F) → Result A F
 outcome_of (Ok a) = Ok a
 outcome_of (Err refused) = Err refused.fault

@@ -25,7 +25,7 @@ use Rattle.state_file.specs.declared.store.file_store.FileStore.{FileStore}
 abbrev pub place_disk : {E : Type 0} {bound : _} → Place E bound → E
 place_disk place = place.disk
 
--- the disk afterwards: the place's, or the one that a refusal hands back
+-- the disk afterwards: the place's, or the one in a refusal
 abbrev pub disk_checked : {E F : Type 0} {bound : _} → Result (Place E bound) (Refused E F) → E
 disk_checked (Ok place) = place.disk
 disk_checked (Err refused) = refused.given
@@ -45,7 +45,7 @@ pub record ChecksPlace {E : Type 0} {bound : _} (e : disk.Ghosts E) (given : E)
 abbrev pub store_of : {D : Type 0} {bound : _} → Sealed D bound → FileStore D bound
 store_of sealed = sealed.store
 
--- the store afterwards: the sealed one, or the one that a refusal hands back
+-- the store afterwards: the sealed one, or the one in a refusal
 abbrev pub store_sealed : {D F : Type 0} {bound : _} → Result (Sealed D bound) (Refused (FileStore D bound) F)
     → FileStore D bound
 store_sealed (Ok sealed) = sealed.store

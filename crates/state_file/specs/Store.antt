@@ -28,6 +28,8 @@ abbrev pub WhileRunning : (honest stopped : Bool) → Type 0 → Type 0
 WhileRunning honest stopped Then = IsTrue honest → stopped ≡ false → Then
 
 -- What an append does, by its answer: to the list, whether the store has stopped, and the failures of its device.
+-- Requirement: RFC 8554 5.4.1, stored
+-- Requirement: SP 800-208 8.1, before export
 abbrev pub Appends : {A : Type 0} (most : ℕ) (old : List Record) (old_stopped : Bool) (entry : Record)
     (new : List Record) (new_stopped : Bool) (failures_before failures_after : ℕ) → Result A StoreFault → Type 0
 Appends most old old_stopped entry new new_stopped before after (Ok _) =

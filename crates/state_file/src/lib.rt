@@ -34,7 +34,7 @@ mod slot;
 mod store;
 
 pub use crate::disk::{Disk, DiskFault, MemoryDisk, Pick};
-pub use crate::file::{FormatFault, OpenFault};
+pub use crate::file::{FormatFault, OpenFault, Taker};
 pub use crate::laws::{content_laws, legal_laws, migration_laws, slot_laws, store_laws};
 pub use crate::migration::{MigrateFault, Place, Sealed, fill, seal};
 pub use crate::record::{Bound, Extend, Key, Record, RecordList, Secret, Version};

@@ -1,5 +1,6 @@
 -- The parts of an opening: the length, the first slot, and each slot after it.
-use Rattle.std.specs.Prelude.{◌≡◌, ℕ, ◌+◌, ◌*◌, ◌<◌, ◌≤◌, true, List, length, Option, Some, None, Result, IfErr, IsTrue}
+use Rattle.std.specs.Prelude.{◌≡◌, ℕ, ◌+◌, ◌*◌, ◌/◌, ◌<◌, ◌≤◌, true, List, length, take, drop, Option, Some, None}
+use Rattle.std.specs.Prelude.{Result, IfErr, IsTrue}
 use Rattle.state_file.specs.File.{Holds, IsWhole, MayHaveKey, SpellsRecords, begins_key, fields_at, most_records}
 use Rattle.state_file.specs.File.{previous_tag, tag_at, version_of}
 use Rattle.state_file.specs.Disk.{IsSteady}
@@ -28,6 +29,17 @@ pub record StartsWithKey (version : Version) (content : List ℕ) : Type 0 where
   pub may : MayHaveKey content
   pub key : begins_key (fields_at content 0) ≡ true
   pub known : version_of (fields_at content 0) ≡ Some version
+
+-- The buffer has slot k's piece: 256 slots from a multiple of 256 on, as far as the content goes.
+pub record HasPiece (content : List ℕ) (k : ℕ) (piece : List ℕ) : Type 0 where
+  pub bytes : (n : ℕ) → n ≤ 65536 → 65536 * (k / 256) + n ≤ length content
+      → take n piece ≡ take n (drop (65536 * (k / 256)) content)
+
+-- What is known of a content when its slot k is looked at: its length, slot k's piece, and the tag before the slot.
+pub record IsReached (content : List ℕ) (len : ℕ) (piece : List ℕ) (k : ℕ) (previous : List ℕ) : Type 0 where
+  pub is_length : len ≡ length content
+  pub has_piece : HasPiece content k piece
+  pub is_previous : previous ≡ previous_tag content k
 
 -- The slot holds the record, in this version, and has the tag; the next gate is in the content.
 pub record HasSlot (version : Version) (content : List ℕ) (k : ℕ) (entry : Record) (tag : List ℕ) : Type 0 where

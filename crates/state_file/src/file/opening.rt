@@ -1,23 +1,23 @@
 //! Reading a file's slots, up to the first closed gate.
 
-ghost use Rattle.std.specs.Prelude.{◌≡◌, ◌+◌, ◌*◌, ◌-◌, ◌<◌, ◌≤◌, ◌==◌, ◌∷◌, [], ◌++◌, ◌↔◌, IsTrue, IfOk};
-ghost use Rattle.std.specs.Prelude.{IfErr, OnOk, MatchOption, Some, length, slice_index};
+ghost use Rattle.std.specs.Prelude.{◌≡◌, ◌+◌, ◌*◌, ◌-◌, ◌<◌, ◌≤◌, ◌∷◌, [], ◌++◌, ◌↔◌, ℕ, List, false, IsTrue};
+ghost use Rattle.std.specs.Prelude.{IfErr, IfOk, OnOk, MatchOption, Some, length};
 ghost use Rattle.typecodes.specs.Layout.{Spells};
-ghost use Rattle.state_file.specs.File.{MayHaveKey, fields_at, first_tag, most_records, open_value, previous_tag};
-ghost use Rattle.state_file.specs.File.{tag_at, tag_of};
+ghost use Rattle.state_file.specs.File.{MayHaveKey, fields_at, first_tag, most_records, previous_tag, tag_at, tag_of};
 ghost use Rattle.state_file.specs.Laws.{has_moved, is_moved};
 ghost use Rattle.state_file.specs.Slot.{slot_record};
 ghost use Rattle.state_file.specs.declared.record.Record.{Record as Entry};
 ghost use Rattle.state_file.specs.Disk.{settled, MayLeave, LeavesOnly, is_failure};
 ghost use Rattle.state_file.specs.DiskCalls.{CountsFailures};
 ghost use Rattle.state_file.specs.inner.DiskCalls.{ReadsDisk};
-ghost use Rattle.state_file.specs.Opening.{is_failed_opening};
-ghost use Rattle.state_file.specs.inner.Opening.{HasBytes, HasEntry, HasSlot, IsFound, IsLengthOf};
-ghost use Rattle.state_file.specs.Opening.{KeepsContent};
-ghost use Rattle.state_file.specs.inner.Opening.{StartsWithKey, ReportsDisk, ReportsSlot};
+ghost use Rattle.state_file.specs.Opening.{KeepsContent, is_failed_opening};
+ghost use Rattle.state_file.specs.inner.Opening.{HasBytes, HasEntry, HasSlot, IsFound, IsLengthOf, IsReached};
+ghost use Rattle.state_file.specs.inner.Opening.{ReportsDisk, ReportsSlot, StartsWithKey};
 
 use crate::disk::{Disk, DiskFault};
 use crate::file::gates::{SLOT, read_within, sync_and_len};
+use crate::file::piece::{Body, PIECE, body_in_piece, read_gate};
+use crate::file::taker::Taker;
 use crate::record::{Record, RecordList, Version};
 use crate::slot::{FIRST_TAG, begins_key, is_open, read_record, tag, version_of};
 use thiserror::Error;
@@ -103,25 +103,6 @@ struct Slot {
     tag: [u8; 32],
 }
 
-// A slot's bytes after its gate.
-#[derive(Drop)]
-struct Body {
-    fields: [u8; 223],
-    tag: [u8; 32],
-}
-
-// Whether slot k's gate is open.
-fn read_gate<D: Disk>(disk: &mut D, k: u32) -> Result<bool, DiskFault>
-    requires { HasBytes D.Disk disk.old (256 * k + 1) }
-    ensures gate { IsTrue (D.honest disk.old) →
-        IfOk result (λ opened. opened ≡ (slice_index (D.state disk.old).content (256 * k) == open_value)) }
-    ensures reads { ReadsDisk D.Disk is_failure disk.old disk.new result }
-{
-    let mut gate = [0];
-    read_within(disk, SLOT * u64::from(k), &mut gate)?;
-    Ok(is_open(gate[0]))
-}
-
 // Bytes 1 to 223 of slot k.
 fn read_fields<D: Disk>(disk: &mut D, k: u32) -> Result<[u8; 223], DiskFault>
     requires { HasBytes D.Disk disk.old (256 * k + 224) }
@@ -185,26 +166,26 @@ pub(crate) fn read_entry<D: Disk>(
     Ok(entry_of(version, &previous, &body))
 }
 
-// Slot k's record and tag. `previous` is the tag before it. `Damaged(k)` if the slot is damaged.
-fn read_slot<D: Disk>(
-    disk: &mut D,
+// Slot k's record and tag, from its piece. `previous` is the tag before it. `Damaged(k)` if the slot is damaged.
+fn slot_in_piece(
+    piece: &[u8; PIECE],
     len: u64,
     version: Version,
     k: u32,
     previous: &[u8; 32],
 ) -> Result<Slot, OpenFault>
-    requires len { IsLengthOf D.Disk disk.old len }
-    requires previous { IsTrue (D.honest disk.old) → previous.now ≡ previous_tag (D.state disk.old).content k }
     ensures below_limit { OnOk result (k < most_records) }
-    ensures slot { IsTrue (D.honest disk.old) →
-        IfOk result (λ slot. HasSlot version (D.state disk.old).content k slot.entry slot.tag) }
-    ensures fault { IsTrue (D.honest disk.old) → IfErr result (ReportsSlot version (D.state disk.old).content k) }
-    ensures reads { ReadsDisk D.Disk is_failed_opening disk.old disk.new result }
+    ensures ends { OnOk result (256 * (k + 1) < len) }
+    ensures slot { (content : List ℕ) → IsReached content len piece.now k previous.now →
+        IfOk result (λ slot. HasSlot version content k slot.entry slot.tag) }
+    ensures fault { (content : List ℕ) → IsReached content len piece.now k previous.now →
+        IfErr result (ReportsSlot version content k) }
+    ensures only_damaged { IfErr result (λ fault. is_failed_opening fault ≡ false) }
 {
     if k >= MOST || SLOT * (u64::from(k) + 1) >= len {
         return Err(OpenFault::Damaged(k));
     }
-    let body = read_body(disk, k)?;
+    let body = body_in_piece(piece, k);
     match entry_of(version, previous, &body) {
         Some(entry) => Ok(Slot {
             entry,
@@ -237,14 +218,19 @@ fn read_first_fields<D: Disk>(disk: &mut D, len: u64) -> Result<[u8; 223], OpenF
         IfOk result (λ fields. fields ≡ fields_at (D.state disk.old).content 0) }
     ensures fault { ReportsDisk D.Disk disk.old result }
     ensures reads { ReadsDisk D.Disk is_failed_opening disk.old disk.new result }
+    ensures long { OnOk result (257 ≤ len) }
 {
     if len < SLOT + 1 {
         return Err(OpenFault::NoKey);
     }
-    if !read_gate(disk, 0)? {
+    let mut bytes = [0; 224];
+    read_within(disk, 0, &mut bytes)?;
+    if !is_open(bytes[0]) {
         return Err(OpenFault::NoKey);
     }
-    Ok(read_fields(disk, 0)?)
+    let mut fields = [0; 223];
+    fields.copy_from_slice(&bytes[1..]);
+    Ok(fields)
 }
 
 // The version of the Key in the first slot. Refused where there is none (40, 41), or an unknown version (42).
@@ -254,6 +240,7 @@ fn check_key<D: Disk>(disk: &mut D, len: u64) -> Result<Version, OpenFault>
         IfOk result (λ version. StartsWithKey version (D.state disk.old).content) }
     ensures fault { ReportsDisk D.Disk disk.old result }
     ensures reads { ReadsDisk D.Disk is_failed_opening disk.old disk.new result }
+    ensures long { OnOk result (257 ≤ len) }
 {
     let fields = read_first_fields(disk, len)?;
     if !begins_key(&fields) {
@@ -279,8 +266,10 @@ impl Found {
         }
     }
 
-    fn push(&mut self, slot: &Slot)
+    // Adds the slot's record, which the taker is handed.
+    fn push<T: Taker>(&mut self, slot: &Slot, taker: &mut T)
         requires { self.old.count < most_records }
+        ensures taken { T.taken taker.new ≡ T.taken taker.old ++ slot.now.entry ∷ [] }
         ensures count { self.new.count ≡ self.old.count + 1 }
         ensures tag { self.new.tag ≡ slot.now.tag }
         ensures records { self.new.records ≡ self.old.records ++ slot.now.entry ∷ [] }
@@ -288,6 +277,7 @@ impl Found {
         ensures version { self.new.version ≡ self.old.version }
         ensures len { self.new.len ≡ self.old.len }
     {
+        taker.take(&slot.entry);
         self.count += 1;
         self.moved = slot.entry.is_moved();
         self.tag = slot.tag;
@@ -303,33 +293,46 @@ impl Found {
     }
 }
 
-// The records up to the first closed gate.
-fn read_slots<D: Disk>(disk: &mut D, len: u64, version: Version) -> Result<Found, OpenFault>
+// The records up to the first closed gate, read 256 slots at a time. The taker is handed each of them.
+fn read_slots<D: Disk, T: Taker>(
+    disk: &mut D,
+    len: u64,
+    version: Version,
+    taker: &mut T,
+) -> Result<Found, OpenFault>
     requires len { IsLengthOf D.Disk disk.old len }
+    requires long { 257 ≤ len }
     requires key { IsTrue (D.honest disk.old) → StartsWithKey version (D.state disk.old).content }
     ensures counted { IfOk result (λ found. found.count ≡ length found.records) }
     ensures at_most_limit { IfOk result (λ found. found.count ≤ most_records) }
     ensures moved { IfOk result (λ found. found.moved ≡ has_moved found.records) }
     ensures len { IfOk result (λ found. found.len ≡ len) }
+    ensures taken { IfOk result (λ found. T.taken taker.new ≡ T.taken taker.old ++ found.records) }
     ensures found { IsTrue (D.honest disk.old) →
         IfOk result (λ found. IsFound found.version (D.state disk.old).content found.records found.tag) }
     ensures fault { ReportsDisk D.Disk disk.old result }
     ensures reads { ReadsDisk D.Disk is_failed_opening disk.old disk.new result }
 {
     let mut found = Found::none(len, version);
-    while read_gate(disk, found.count)? {
-        let slot = read_slot(disk, len, version, found.count, &found.tag)?;
-        found.push(&slot);
+    let mut piece = [0; PIECE];
+    while read_gate(disk, len, found.count, &mut piece)? {
+        let slot = slot_in_piece(&piece, len, version, found.count, &found.tag)?;
+        found.push(&slot, taker);
     }
     Ok(found)
 }
 
-/// Syncs, and finds a file's records. Meanwhile a crash leaves only what it could leave before.
-pub(crate) fn find_records<D: Disk>(disk: &mut D) -> Result<Found, OpenFault>
+/// Syncs, and finds a file's records. The taker is handed each of them. Meanwhile a crash leaves only what it could
+/// leave before.
+pub(crate) fn find_records<D: Disk, T: Taker>(
+    disk: &mut D,
+    taker: &mut T,
+) -> Result<Found, OpenFault>
     ensures counted { IfOk result (λ found. found.count ≡ length found.records) }
     ensures at_most_limit { IfOk result (λ found. found.count ≤ most_records) }
     ensures moved { IfOk result (λ found. found.moved ≡ has_moved found.records) }
     ensures len { IsTrue (D.honest disk.old) → IfOk result (λ found. found.len ≡ length (D.state disk.old).content) }
+    ensures taken { IfOk result (λ found. T.taken taker.new ≡ T.taken taker.old ++ found.records) }
     ensures found { IsTrue (D.honest disk.old) →
         IfOk result (λ found. IsFound found.version (D.state disk.old).content found.records found.tag) }
     ensures fault { ReportsDisk D.Disk disk.old result }
@@ -342,5 +345,5 @@ pub(crate) fn find_records<D: Disk>(disk: &mut D) -> Result<Found, OpenFault>
 {
     let len = sync_and_len(disk)?;
     let version = check_key(disk, len)?;
-    read_slots(disk, len, version)
+    read_slots(disk, len, version, taker)
 }

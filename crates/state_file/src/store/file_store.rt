@@ -16,7 +16,8 @@ ghost use Rattle.state_file.specs.Store.{is_device_failed, is_out_of_memory, is_
 
 use crate::disk::Disk;
 use crate::file::{
-    FormatFault, MOST, OpenFault, add_slot, find_records, format, read_entry, read_tag,
+    FormatFault, KeepNone, MOST, OpenFault, Taker, add_slot, find_records, format, read_entry,
+    read_tag,
 };
 use crate::record::{Record, RecordList, Version};
 use crate::refused::Refused;
@@ -134,11 +135,23 @@ impl<D: Disk + Drop> FileStore<D> {
     /// Opens the records of a key. It syncs before it reads: meanwhile a crash leaves only what it could leave before,
     /// and afterwards what the store shows. No byte changes. The faults come in the order of their numbers. Each hands
     /// the disk back, with the old content unless the disk failed.
+    ///
+    /// It reads 256 slots by one call. So it also reads bytes behind the last record. They don't count, but where they
+    /// can't be read the opening is refused (45).
     pub fn open(disk: D) -> Result<Self, Refused<D, OpenFault>>
         ensures { FindsRecords D.Disk disk result }
     {
+        Self::open_into(disk, &mut KeepNone::new())
+    }
+
+    /// Opens the records of a key, as `open` does, and hands each of them to the taker, the first one first. A refused
+    /// opening may have handed over records, too: those before what it refuses.
+    pub fn open_into<T: Taker>(disk: D, taker: &mut T) -> Result<Self, Refused<D, OpenFault>>
+        ensures finds { FindsRecords D.Disk disk result }
+        ensures taken { IfOk result (λ store. T.taken taker.new ≡ T.taken taker.old ++ records_of store) }
+    {
         let mut disk = disk;
-        match find_records(&mut disk) {
+        match find_records(&mut disk, taker) {
             Ok(found) => {
                 let behind = found.has_bytes_behind();
                 let tag = found.tag;
@@ -163,7 +176,7 @@ impl<D: Disk + Drop> FileStore<D> {
 
 impl<D: Disk + Drop> FileStore<D> {
     ghost use Rattle.state_file.specs.FileStore.{WhileStoreRuns, disk_of, has_bytes_behind, has_stopped, records_of};
-    ghost use Rattle.state_file.specs.FileStore.{unreadable_of};
+    ghost use Rattle.state_file.specs.FileStore.{given_of, loads_of, unreadable_of};
 
     /// Slot k's tag, 32 bytes. Nothing is written.
     pub fn tag_at(&mut self, k: u32) -> Result<[u8; 32], StoreFault>
@@ -175,6 +188,8 @@ impl<D: Disk + Drop> FileStore<D> {
         ensures keeps_records { records_of self.new ≡ records_of self.old }
         ensures behind { has_bytes_behind self.new ≡ has_bytes_behind self.old }
         ensures unreadable { unreadable_of self.new ≡ unreadable_of self.old }
+        ensures loads { loads_of self.new ≡ loads_of self.old }
+        ensures given { given_of self.new ≡ given_of self.old }
         ensures reads { WhileStoreRuns D.Disk self.old
             (OnlyReads D.state D.moment D.left_since (disk_of self.old) (disk_of self.new)) }
         ensures any_moment { WhileStoreRuns D.Disk self.old

@@ -1,7 +1,7 @@
 use Rattle.std.proofs.Common.{sym, ap, ◌∙◌, arith}
 use Rattle.state_file.specs.Slot.{version_code}
 use Rattle.state_file.proofs.Finding.{found_kept}
-use Rattle.state_file.proofs.store.file_store.FileStore.open.Goals as goal
+use Rattle.state_file.proofs.store.file_store.FileStore.open_into.Goals as goal
 
 pub invariant_of-result : goal.invariant_of-result
 invariant_of-result g c = record {
