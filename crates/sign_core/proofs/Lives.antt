@@ -55,17 +55,17 @@ list_or_none : (content : List ℕ) → ((list : List Record) × StandsFor list 
 list_or_none content = let (kind, is) = some_opening content in stands_by content kind is
 
 -- If each list that is left has P, and some list doesn't, a content that is left stands for a list.
-one_left : (P : List Record → Type 0) (other : List Record) → (P other → ⊥) → (since : ℕ → List ℕ → Type 0) (t : ℕ) (content : List ℕ)
+pub one_left : (P : List Record → Type 0) (other : List Record) → (P other → ⊥) → (since : ℕ → List ℕ → Type 0) (t : ℕ) (content : List ℕ)
     → since t content → ((list : List Record) → LeftLists since t list → P list) → (list : List Record) × StandsFor list content × P list
 one_left P other never since t content is each = elim (list_or_none content) [
   | inl (list, stands) ↦ (list, stands, each list (content, is, inl stands))
   | inr none ↦ absurd (never (each other (content, is, inr none)))
 ]
 
-longer : List Record → List Record
+pub longer : List Record → List Record
 longer all = all ++ Moved ∷ []
 
-not_longer : (all : List Record) → longer all ≡ all → ⊥
+pub not_longer : (all : List Record) → longer all ≡ all → ⊥
 unfolding longer
 not_longer all same = omega (arith, ap length same, length_push all Moved)
 
@@ -80,26 +80,26 @@ not_beginning least all begins = omega (arith, ap length begins.beginning, lengt
 
 -- ---- runs
 
-runs_on : (limit : ℕ) (a b c : World) → IsRun limit a b → IsRun limit b c → IsRun limit a c
+pub runs_on : (limit : ℕ) (a b c : World) → IsRun limit a b → IsRun limit b c → IsRun limit a c
 runs_on limit a b c first later = record {
   events = first.events ++ later.events;
   possible = all_both first.events later.events first.possible later.possible;
   leads = run_both limit a first.events later.events ∙ ap (λ w. run limit w later.events) first.leads ∙ later.leads;
 }
 
-no_run : (limit : ℕ) (world : World) → IsRun limit world world
+pub no_run : (limit : ℕ) (world : World) → IsRun limit world world
 no_run limit world = record { events = []; possible = tt; leads = refl }
 
-one_event : (limit : ℕ) (world : World) (event : Event) → IsEvent event → IsRun limit world (after limit world event)
+pub one_event : (limit : ℕ) (world : World) (event : Event) → IsEvent event → IsRun limit world (after limit world event)
 one_event limit world event can = record { events = event ∷ []; possible = (can, tt); leads = refl }
 
-by_stop : (limit : ℕ) (world : World) → IsRun limit world (world_of (closed_state world.state.records) world.handed)
+pub by_stop : (limit : ℕ) (world : World) → IsRun limit world (world_of (closed_state world.state.records) world.handed)
 by_stop limit world = record { events = stop ∷ []; possible = (tt, tt); leads = refl }
 
 left_run : (limit : ℕ) (world : World) (list : List Record) → IsLeftBy limit world list → IsRun limit world (world_of (closed_state list) world.handed)
 left_run limit world list by = record { events = by.events; possible = by.possible; leads = by.leads }
 
-run_once : (limit : ℕ) (world : World) → IsRun limit beginning world → IsOnce limit world
+pub run_once : (limit : ℕ) (world : World) → IsRun limit beginning world → IsOnce limit world
 run_once limit world by = subst (IsOnce limit) by.leads (once limit (run limit beginning by.events) (kept_by_run limit by.events by.possible))
 
 -- ---- an event after which no signer is open hands nothing out
@@ -139,11 +139,11 @@ pub record IsTiedToDisk {D : Type 0} (d : disk.Ghosts D) (g : store.Ghosts (File
 
 module _ {D : Type 0} (d : disk.Ghosts D) (g : store.Ghosts (FileStore D d)) (time : KeepsTime d) (tied : IsTiedToDisk d g) (limit : ℕ) where
   -- what a crash right now leaves of the store's disk, a run from the first world leaves
-  abbrev LeavesRuns : (first now : World) → FileStore D d → Type 0
+  abbrev pub LeavesRuns : (first now : World) → FileStore D d → Type 0
   LeavesRuns first now store = (content : List ℕ) → d.left_since (disk_of store) (d.moment (disk_of store)) content
       → IsLeftByRun limit first now.handed content
 
-  in_call : (first now : World) (old : FileStore D d) (call : Call (FileStore D d)) (content : List ℕ) → IsRun limit first now
+  pub in_call : (first now : World) (old : FileStore D d) (call : Call (FileStore D d)) (content : List ℕ) → IsRun limit first now
       → LeavesRuns first now old → IsCall g.moment g.left_since limit now old call
       → d.left_since (disk_of call.store) (d.moment (disk_of old)) content → IsLeftByRun limit first now.handed content
   in_call first now old call content runs was is since =
@@ -191,12 +191,12 @@ module _ {D : Type 0} (d : disk.Ghosts D) (g : store.Ghosts (FileStore D d)) (ti
       (in_call first now old call content runs was is.is_call since_old)
 
   -- what calls lead to
-  record HasServed (first now : World) (store : FileStore D d) : Type 0 where
-    honest : IsTrue (d.honest (disk_of store))
-    runs : IsRun limit first now
-    leaves : LeavesRuns first now store
+  pub record HasServed (first now : World) (store : FileStore D d) : Type 0 where
+    pub honest : IsTrue (d.honest (disk_of store))
+    pub runs : IsRun limit first now
+    pub leaves : LeavesRuns first now store
 
-  one_call : (first now : World) (old : FileStore D d) (call : Call (FileStore D d)) → HasServed first now old → IsLastingCall g limit now old call
+  pub one_call : (first now : World) (old : FileStore D d) (call : Call (FileStore D d)) → HasServed first now old → IsLastingCall g limit now old call
       → HasServed first (after limit now call.event) call.store
   one_call first now old call served is =
       let honest = subst IsTrue (sym (tied.honest old call.store is.honest)) served.honest in
@@ -217,7 +217,7 @@ module _ {D : Type 0} (d : disk.Ghosts D) (g : store.Ghosts (FileStore D d)) (ti
 
   -- ---- one life
 
-  has_first : (on : D) (store : FileStore D d) → IsTrue (d.honest on) → IsStoreOn d on store → IsTrue (d.honest (disk_of store))
+  pub has_first : (on : D) (store : FileStore D d) → IsTrue (d.honest on) → IsStoreOn d on store → IsTrue (d.honest (disk_of store))
   has_first on store honest (inl opened) = subst IsTrue (sym opened.honest) honest
   has_first on store honest (inr prepared) = subst IsTrue (sym prepared.honest) honest
 
@@ -227,7 +227,7 @@ module _ {D : Type 0} (d : disk.Ghosts D) (g : store.Ghosts (FileStore D d)) (ti
   leaves_first on store content honest (inr prepared) may =
       kept_leaves store.records store.tag (d.state store.disk) content (store.kept honest prepared.running) may
 
-  served_first : (on : D) (store : FileStore D d) (handed : List Handed) → IsTrue (d.honest on) → IsStoreOn d on store
+  pub served_first : (on : D) (store : FileStore D d) (handed : List Handed) → IsTrue (d.honest on) → IsStoreOn d on store
       → HasServed (world_found store handed) (world_found store handed) store
   served_first on store handed honest is =
       let own = has_first on store honest is in
@@ -244,7 +244,7 @@ module _ {D : Type 0} (d : disk.Ghosts D) (g : store.Ghosts (FileStore D d)) (ti
   finds_no_key : (content : List ℕ) (store : FileStore D d) → PreparesPlace content (d.state (disk_of store)) → HasNoKey content
   finds_no_key content store prepares = elim prepares.1 [ inl short ↦ inl short.0 | inr closed ↦ inr closed.1 ]
 
-  finds : (on : D) (store : FileStore D d) (records : List Record) → IsStoreOn d on store → StandsFor records (d.state on).content
+  pub finds : (on : D) (store : FileStore D d) (records : List Record) → IsStoreOn d on store → StandsFor records (d.state on).content
       → records_of store ≡ records
   finds on store records (inl opened) stands =
       stands_one (records_of store) records (d.state on).content (spelled_stands (records_of store) (d.state on).content opened.records) stands

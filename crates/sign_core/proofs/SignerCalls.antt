@@ -28,7 +28,8 @@ use Rattle.sign_core.specs.Calls.{IsLastingCall}
 use Rattle.sign_core.specs.Events.{IsEvent}
 use Rattle.sign_core.specs.Cuts.{IsBeginning, reached}
 use Rattle.sign_core.specs.Records.{first_illegal, the_key}
-use Rattle.sign_core.specs.Signer.{Creates, IsAnswered, IsRead, IsSigner, LoadFails, Opens, Retires, Signs, StopsOpening, View, is_before_draws, is_fault, is_of_append}
+use Rattle.sign_core.specs.Serving.{SignsGiven}
+use Rattle.sign_core.specs.Signer.{Creates, IsAnswered, IsRead, IsSigner, LoadFails, OpensRecords, Retires, Signs, StopsOpening, View, is_before_draws, is_fault, is_of_append}
 use Rattle.sign_core.specs.Signer.{state_of, store_of_result}
 use Rattle.sign_core.specs.SignerCalls.{AreClosed, HandsOut, IsAfter, IsEventOf, IsOpenSigner, IsRefusedCall, IsRefusedOpening, IsRunning, OpensIn, OpensInWorld, RetiresInWorld, SignerLaw, SignsInWorld, world_of}
 use Rattle.sign_core.specs.Textbook.{any_public_of}
@@ -77,6 +78,34 @@ hands_out m name given is_read before later (Ok signature) handed reads read =
     (text, whole, ap (λ g. handed ++ newly_handed name g (Ok signature)) same)
 hands_out m name None is_read before later (Err fault) handed reads read = append-nil handed
 hands_out m name (Some text) is_read before later (Err fault) handed reads read = append-nil handed
+
+none_read : (given : Option (List ℕ)) → given ≡ None → IsSome given → ⊥
+none_read (Some text) is some = absurd (cc)
+none_read None is some = absurd (cc)
+
+-- On Ok of a request its signature is handed out, for the text that its message gave.
+abbrev pub HandsGiven : (name : List ℕ) → (given : Option (List ℕ)) → Result (List ℕ) SignFault → List Handed → Type 0
+HandsGiven name given (Ok signature) handed = (text : List ℕ) × (given ≡ Some text)
+    × (handed ≡ record { name = name; message = text; signature = signature } ∷ [])
+HandsGiven name given (Err fault) handed = handed ≡ []
+
+hands_given : (name : List ℕ) (read given : Option (List ℕ)) (is_read : Bool) (answer : Result (List ℕ) SignFault) (handed : List Handed)
+    → ((signature : List ℕ) → answer ≡ Ok signature → IsSome read × (is_read ≡ true)) → (is_read ≡ true → read ≡ given)
+    → (own : List Handed) × HandsGiven name given answer own × (handed ++ newly_handed name read answer ≡ handed ++ own)
+hands_given name (Some text) given is_read (Ok signature) handed reads same =
+    let x : Handed = record { name = name; message = text; signature = signature } in
+    (x ∷ [], (text, sym (same (reads signature refl).1), refl), refl)
+hands_given name None given is_read (Ok signature) handed reads same = absurd (none_read None refl (reads signature refl).0)
+hands_given name None given is_read (Err fault) handed reads same = ([], refl, refl)
+hands_given name (Some text) given is_read (Err fault) handed reads same = ([], refl, refl)
+
+-- a request of a serve, as this event
+pub record RequestsInWorld {S R : Type 0} (g : store.Ghosts S) (handed : List Handed) (event : Event) (old new : View S R) (name : List ℕ)
+    (given : Option (List ℕ)) (answer : Result (List ℕ) SignFault) : Type 0 where
+  pub is : IsEventOf g (g.most old.store) (world_of (state_of old) handed) event old.store new.store
+  pub leaves : IsAfter new (after (g.most old.store) (world_of (state_of old) handed) event)
+  pub hands : (own : List Handed) × HandsGiven name given answer own
+      × ((after (g.most old.store) (world_of (state_of old) handed) event).handed ≡ handed ++ own)
 
 -- ---- each call
 
@@ -129,6 +158,39 @@ retires_in g old new upto answer handed signer retires =
       hands = refl;
     }
 
+-- ---- a request whose message gave this
+
+-- As `signs_in`, for a request of a serve.
+pub answers_in : {S R : Type 0} (g : store.Ghosts S) (r : source.Ghosts R) (old new : View S R) (name : List ℕ) (given : Option (List ℕ)) (capacity : ℕ)
+    (answer : Result (List ℕ) SignFault) (handed : List Handed) → IsOpenSigner g old → IsName name
+    → (does : SignsGiven g r old new name given capacity answer) → RequestsInWorld g handed (request name does.answers.chance) old new name given answer
+answers_in g r old new name given capacity answer handed signer is_name does =
+    let limit = g.most old.store in
+    let world = world_of (state_of old) handed in
+    let event = request name does.answers.chance in
+    let mine = requested limit (state_of old) name does.answers.chance in
+    let moments = does.answers.ends.store.moments signer.honest (signer.signer.tied signer.is_open).running in
+    let leaves = subst (λ (o : Outcome (List ℕ)). LeavesOnly g.moment g.left_since old.store new.store (IsBeginning (length old.records) (reached o)))
+    (sym does.answers.step) moments in
+    let answers : mine.answer ≡ answer =
+    ap (λ (o : Outcome (List ℕ)). o.answer) does.answers.step ∙ does.answers.ends.answer_is in
+    let out = hands_given name does.answers.chance.given given mine.is_read mine.answer handed
+    (λ signature is. signed_read limit (state_of old) name signature does.answers.chance is)
+    (λ is. does.message (sym (ap (λ (o : Outcome (List ℕ)). o.is_read) does.answers.step) ∙ is)) in
+    record {
+      is = record {
+        is_call = record {
+          possible = (is_name, draws_of does.answers.key.secret does.answers.chance does.answers.possible);
+          leaves = inl leaves;
+        };
+        honest = does.answers.ends.store.honest;
+      };
+      leaves = is_after new (after limit world event) mine does.answers.outcome does.answers.step refl
+          (open_acknowledged limit world event) does.answers.ends.records does.answers.ends.is_open;
+      hands = subst (λ a. (own : List Handed) × HandsGiven name given a own × (handed ++ newly_handed name does.answers.chance.given mine.answer ≡ handed ++ own))
+          answers out;
+    }
+
 -- ---- calls of a closed signer
 
 nothing_handed : (handed : List Handed) (name : List ℕ) (given : Option (List ℕ)) (fault : SignFault)
@@ -170,6 +232,28 @@ refuses_in g r m old new name before later capacity answer world closed is_name 
         leaves = inr keeps.store;
       };
       stays = request_stays limit world name signs.answers.chance closed.none_open;
+    }
+
+pub refuses_given : {S R : Type 0} (g : store.Ghosts S) (r : source.Ghosts R) (old new : View S R) (name : List ℕ) (given : Option (List ℕ)) (capacity : ℕ)
+    (answer : Result (List ℕ) SignFault) (world : World) → AreClosed old world → IsName name
+    → (does : SignsGiven g r old new name given capacity answer) → IsRefusedCall g world (request name does.answers.chance) old new answer
+refuses_given g r old new name given capacity answer world closed is_name does =
+    let limit = g.most old.store in
+    let is : refused (state_of old) Stopped ≡ does.answers.outcome =
+    sym (closed_key limit (state_of old) name does.answers.chance (the_key old.records) closed.is_closed)
+    ∙ does.answers.step in
+    let answer_is : answer ≡ Err Stopped =
+    sym (ap (λ (o : Outcome (List ℕ)). o.answer) is ∙ does.answers.ends.answer_is) in
+    let keeps = does.answers.keeps.at_once (ap (is_fault is_before_draws) answer_is) in
+    record {
+      answer_is = answer_is;
+      is_open = keeps.is_open ∙ closed.is_closed;
+      store = keeps.store;
+      is_call = record {
+        possible = (is_name, draws_of does.answers.key.secret does.answers.chance does.answers.possible);
+        leaves = inr keeps.store;
+      };
+      stays = request_stays limit world name does.answers.chance closed.none_open;
     }
 
 refuses_to_retire : {S R : Type 0} (g : store.Ghosts S) (old new : View S R) (upto : ℕ) (answer : Result (Unit {0}) SignFault) (world : World)
@@ -287,12 +371,11 @@ creates_in g r version spec kept_in random result handed is can creates =
     }
 
 opens_again : {S R : Type 0} (g : store.Ghosts S) (kept_in : S) (random : R) (result : Result (View S R) (Refused (S × R) SignFault)) (handed : List Handed)
-    → IsRunning g kept_in → (opens : Opens g kept_in random result)
-    → OpensInWorld g (g.list kept_in) handed (reopen opens.loads.chance) kept_in result
-opens_again g kept_in random result handed is opens =
+    → IsRunning g kept_in → (opens : OpensRecords g kept_in (store_of_result result) (IsAnswered result))
+    → OpensInWorld g (g.list kept_in) handed (reopen opens.chance) kept_in result
+opens_again g kept_in random result handed is loads =
     let limit = g.most kept_in in
     let list = g.list kept_in in
-    let loads = opens.loads in
     let world = world_of (closed_state list) handed in
     let event = reopen loads.chance in
     let mine = opened (closed_state list) loads.chance in
@@ -405,9 +488,9 @@ refuses_to_create g r version spec kept_in random result world stopped can creat
     (ap (λ (o : Outcome AnyPublic). record { state = o.state; handed = world.handed }) (at world.state))
 
 refuses_to_open : {S R : Type 0} (g : store.Ghosts S) (kept_in : S) (random : R) (result : Result (View S R) (Refused (S × R) SignFault)) (world : World)
-    → g.stopped kept_in ≡ true → (opens : Opens g kept_in random result) → IsRefusedOpening g world (reopen opens.loads.chance) kept_in result
-refuses_to_open g kept_in random result world stopped opens =
-    let loads = opens.loads in
+    → g.stopped kept_in ≡ true → (opens : OpensRecords g kept_in (store_of_result result) (IsAnswered result))
+    → IsRefusedOpening g world (reopen opens.chance) kept_in result
+refuses_to_open g kept_in random result world stopped loads =
     let chance = loads.chance in
     let first = stopped_opening chance (g.list kept_in) (g.stopped kept_in) (g.honest kept_in) stopped loads.load in
     let at = λ (state : State). ap (opened state) first ∙ opened_none state (first_illegal state.records) in

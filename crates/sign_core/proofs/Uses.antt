@@ -15,7 +15,7 @@ use Rattle.lmots.specs.Key.{message_digest_of}
 use Rattle.lms.specs.declared.key.LmsPublic.{LmsPublic}
 use Rattle.lms.specs.Signature.{Signature as LmsSignature, signature as lms_signature}
 use Rattle.lms.specs.Secret.{public_of as lms_public_of, rooted_public as lms_rooted_public}
-use Rattle.lms.specs.Writing.{signature_bytes as lms_signature_bytes, textbook as lms_textbook}
+use Rattle.lms.specs.Writing.{public_bytes as lms_public_bytes, signature_bytes as lms_signature_bytes, textbook as lms_textbook}
 use Rattle.lms.proofs.OneWay.{one_way-signature as lms_one_way}
 use Rattle.xmss.specs.Signature.{signature as xmss_signature}
 use Rattle.xmss.specs.Writing.{public_bytes as xmss_public_bytes, signature_bytes as xmss_signature_bytes, textbook as xmss_textbook}
@@ -43,7 +43,7 @@ use Rattle.sign_core.specs.Records.{current}
 use Rattle.sign_core.specs.Headline.{IsBoundTo, IsLast}
 use Rattle.sign_core.specs.Headline.{LeafUse, MakesUses, lms_use, xmss_use}
 use Rattle.sign_core.specs.Textbook.{AllHaveSizes, AreSound, Trees, damaged_at, lms_secret, any_public, any_public_of, secret_at, made_secret}
-use Rattle.sign_core.specs.Textbook.{textbook_signature, chain_signings, current_at}
+use Rattle.sign_core.specs.Textbook.{textbook_signature, chain_signings, current_at, digest_at}
 use Rattle.sign_core.proofs.Chains.{SignsNext, current_made}
 use Rattle.sign_core.proofs.TreeSteps.{current_before}
 use Rattle.sign_core.proofs.Valid.{AreLevelsOf, IsSoundlyBound, hss_levels, hss_trees, key_with, soundly_bound, undamaged}
@@ -370,3 +370,111 @@ pub last_recorded : (records : List Record) (key : Key) (name message : List ℕ
 last_recorded records key name message k bound public uses u sound sizes is is_public makes last =
     let undamaged_here = undamaged records key (bottom_of key.secret) (current_at (bottom_of key.secret) records k) sound is.keyed in
     last_checked records key name message k bound public uses u sound.legal sizes is undamaged_here is_public makes last
+
+-- ---- the digest of any text
+
+last_is : (n : ℕ) (f : ℕ → LeafUse) (uses : List LeafUse) (u : LeafUse) → uses ≡ map f (range_with_len 0 (n + 1)) → IsLast u uses → f n ≡ u
+last_is n f uses u are (front, are_too) =
+    let count : length uses ≡ n + 1 = ap length are ∙ length-map-range_with_len f 0 (n + 1) in
+    let long : length front ≡ n = omega (arith, count, ap length are_too, length-append front (u ∷ [])) in
+    sym (use_at f (n + 1) n u (omega arith)) ∙ ap (λ us. get_or us n u) (sym are ∙ are_too) ∙ get_or_at front u [] u n long
+
+lms_last : (records : List Record) (version : Version) (secret : LmsSecret) (root message text : List ℕ) (k : ℕ) (bound : Bound) (uses : List LeafUse)
+    (u : LeafUse) → IsSoundlyBound records (key_with version (Lms secret) root) message k bound
+    → MakesUses (AnyLms (lms_rooted_public secret root)) text (textbook_signature (key_with version (Lms secret) root) records k bound) uses
+    → IsLast u uses → u.digest ≡ digest_at (key_with version (Lms secret) root) records k bound.leaf bound.randomizer text
+lms_last records version secret root message text k bound uses u is (s, spelled, are) last =
+    let public = lms_rooted_public secret root in
+    let t = lms_textbook secret bound.leaf bound.randomizer bound.digest in
+    let (has_tree, inside, randomizer) = is.fits k (BoundRecord bound) is.stands in
+    let t_spelled = textbook_spelled secret bound.leaf bound.randomizer bound.digest inside (is.sizes k (BoundRecord bound) is.stands).0 in
+    let same : s ≡ t = (unambiguous lms_signature lms_one_way).one_value s t (lms_signature_bytes t) spelled t_spelled in
+    ap (λ (v : LeafUse). v.digest) (sym (last_is 0 (λ i. lms_use public text t) uses u (are ∙ ap (λ s. lms_use public text s ∷ []) same) last))
+
+xmss_last : (records : List Record) (version : Version) (secret : XmssSecret) (root message text : List ℕ) (k : ℕ) (bound : Bound) (uses : List LeafUse)
+    (u : LeafUse) → IsSoundlyBound records (key_with version (Xmss secret) root) message k bound
+    → MakesUses (AnyXmss (record { tree = secret.tree; root = root; seed = secret.public_seed })) text
+    (textbook_signature (key_with version (Xmss secret) root) records k bound) uses
+    → IsLast u uses → u.digest ≡ digest_at (key_with version (Xmss secret) root) records k bound.leaf bound.randomizer text
+xmss_last records version secret root message text k bound uses u is (s, spelled, are) last =
+    let public : XmssPublic = record { tree = secret.tree; root = root; seed = secret.public_seed } in
+    let t = xmss_textbook secret bound.leaf bound.digest in
+    let (has_tree, inside, randomizer) = is.fits k (BoundRecord bound) is.stands in
+    let same : s ≡ t = (unambiguous (xmss_signature secret.tree) (xmss_one_way secret.tree)).one_value s t (xmss_signature_bytes t) spelled
+    (xmss_textbook_spelled secret bound.leaf bound.digest inside) in
+    ap (λ (v : LeafUse). v.digest) (sym (last_is 0 (λ i. xmss_use public text t) uses u (are ∙ ap (λ s. xmss_use public text s ∷ []) same) last))
+
+-- the bottom level of a textbook signature signs the text itself
+bottom_digest : (above : List Signing) (bottom : Signing) (text : List ℕ) (top : LmsPublic) → top.identifier ≡ (level_at above bottom 0).secret.identifier
+    → (lms_use (key_at top (hss_textbook above bottom) (length above)) (message_at text (hss_textbook above bottom) (length above))
+    (hss_signature_at (hss_textbook above bottom) (length above))).digest
+    ≡ message_digest_of bottom.secret.identifier bottom.leaf bottom.randomizer text
+unfolding signature_of key_of
+bottom_digest above bottom text top first =
+    let t = hss_textbook above bottom in
+    let n = length above in
+    let key = key_at top t n in
+    let bytes_in : SignedKey → List ℕ = λ one. lms_public_bytes one.key in
+    let long : length (map bytes_in t.signed) ≡ n = length-map t.signed bytes_in ∙ signed-count signature_of key_of above bottom in
+    let is_text : message_at text t n ≡ text = get_or_at (map bytes_in t.signed) text [] text n long in
+    let last : level_at above bottom n ≡ bottom = get_or_at above bottom [] bottom n refl in
+    ap (λ s. (lms_use key (message_at text t n) s).digest) (signature_here above bottom n (omega arith) ∙ ap signature_of last)
+    ∙ ap (λ identifier. message_digest_of identifier bottom.leaf bottom.randomizer (message_at text t n))
+    (identifier_here above bottom top n (omega arith) first ∙ ap (λ (l : Signing). l.secret.identifier) last)
+    ∙ ap (message_digest_of bottom.secret.identifier bottom.leaf bottom.randomizer) is_text
+
+hss_last : (records : List Record) (version : Version) (pair : LmsPair) (rest : List LmsPair) (identifier seed root message text : List ℕ) (k : ℕ)
+    (bound : Bound) (uses : List LeafUse) (u : LeafUse)
+    → IsSoundlyBound records (key_with version (Hss (pair ∷ rest) identifier seed) root) message k bound
+    → MakesUses (AnyHss (record { levels = length (pair ∷ rest); top = lms_rooted_public (lms_secret pair identifier seed) root })) text
+    (textbook_signature (key_with version (Hss (pair ∷ rest) identifier seed) root) records k bound) uses
+    → IsLast u uses → u.digest ≡ digest_at (key_with version (Hss (pair ∷ rest) identifier seed) root) records k bound.leaf bound.randomizer text
+unfolding signature_of key_of
+hss_last records version pair rest identifier seed root message text k bound uses u is (s, spelled, are) last =
+    let trees = hss_trees pair rest identifier seed in
+    let top = lms_rooted_public (lms_secret pair identifier seed) root in
+    let level = length (pair ∷ rest) - 1 in
+    let tree = current_at level records k in
+    let above = chain_signings trees level records tree in
+    let bottom = signing_of_bound trees records tree bound in
+    let levels = hss_levels records version pair rest identifier seed root message k bound is in
+    let t = hss_textbook above bottom in
+    let t_spelled = hss_textbook_spelled above bottom (omega (arith, levels.count, levels.within_limit)) levels.sized in
+    let same : s ≡ t = (unambiguous hss_signature hss_one_way).one_value s t (hss_signature_bytes t) spelled t_spelled in
+    let made_entry : HssSignature → ℕ → LeafUse = λ s i. lms_use (key_at top s i) (message_at text s i) (hss_signature_at s i) in
+    let count : length t.signed ≡ length above = signed-count signature_of key_of above bottom in
+    let all : uses ≡ map (made_entry t) (range_with_len 0 (length above + 1)) = are
+    ∙ ap (λ s. map (made_entry s) (range_with_len 0 (length s.signed + 1))) same ∙ ap (λ n. map (made_entry t) (range_with_len 0 (n + 1))) count in
+    let first : top.identifier ≡ (level_at above bottom 0).secret.identifier = ap (λ (secret : LmsSecret). secret.identifier)
+    (sym (levels.chained.top (level_at above bottom 0)
+    (slice_get-get_or (all_levels above bottom) 0 bottom (omega (arith, length-append above (bottom ∷ [])))))) in
+    ap (λ (v : LeafUse). v.digest) (sym (last_is (length above) (made_entry t) uses u all last)) ∙ bottom_digest above bottom text top first
+
+last_by : (records : List Record) (version : Version) (secret : Secret) (root message text : List ℕ) (k : ℕ) (bound : Bound) (public : AnyPublic)
+    (uses : List LeafUse) (u : LeafUse)
+    → IsSoundlyBound records (key_with version secret root) message k bound → any_public secret root ≡ Some public
+    → MakesUses public text (textbook_signature (key_with version secret root) records k bound) uses
+    → IsLast u uses → u.digest ≡ digest_at (key_with version secret root) records k bound.leaf bound.randomizer text
+last_by records version (Lms secret) root message text k bound public uses u is is_public makes =
+    lms_last records version secret root message text k bound uses u is
+    (subst (λ p. MakesUses p text (textbook_signature (key_with version (Lms secret) root) records k bound) uses)
+    (sym (same_Some (AnyLms (lms_rooted_public secret root)) public is_public)) makes)
+last_by records version (Hss [] identifier seed) root message text k bound public uses u is is_public makes = absurd (cc)
+last_by records version (Hss (pair ∷ rest) identifier seed) root message text k bound public uses u is is_public makes =
+    hss_last records version pair rest identifier seed root message text k bound uses u is
+    (subst (λ p. MakesUses p text (textbook_signature (key_with version (Hss (pair ∷ rest) identifier seed) root) records k bound) uses)
+    (sym (same_Some (AnyHss (record { levels = length (pair ∷ rest); top = lms_rooted_public (lms_secret pair identifier seed) root })) public is_public)) makes)
+last_by records version (Xmss secret) root message text k bound public uses u is is_public makes =
+    xmss_last records version secret root message text k bound uses u is
+    (subst (λ p. MakesUses p text (textbook_signature (key_with version (Xmss secret) root) records k bound) uses)
+    (sym (same_Some (AnyXmss (record { tree = secret.tree; root = root; seed = secret.public_seed })) public is_public)) makes)
+
+-- The last use of a binding's textbook signature signs, of any text, the digest under the bound leaf and C.
+pub last_digest : (records : List Record) (key : Key) (name message text : List ℕ) (k : ℕ) (bound : Bound) (public : AnyPublic) (uses : List LeafUse)
+    (u : LeafUse) → AreSound records → AllHaveSizes records → IsBoundTo records key name message k bound → any_public_of key ≡ Some public
+    → MakesUses public text (textbook_signature key records k bound) uses → IsLast u uses
+    → u.digest ≡ digest_at key records k bound.leaf bound.randomizer text
+last_digest records key name message text k bound public uses u sound sizes is is_public makes =
+    let undamaged_here = undamaged records key (bottom_of key.secret) (current_at (bottom_of key.secret) records k) sound is.keyed in
+    last_by records key.version key.secret key.root message text k bound public uses u
+    (soundly_bound records key name message k bound sound.legal sizes is undamaged_here) is_public makes

@@ -144,7 +144,7 @@ pub record LivesLaw {D : Type 0} (d : disk.Ghosts D) (g : store.Ghosts (FileStor
   pub after_power : (limit : ℕ) (handed : List Handed) (lives : List (Life D d)) (on : D) (content : List ℕ)
       → IsTrue (d.honest on) → d.state on ≡ settled content → all_contents_left d (LedTo limit handed) lives content
       → IsAtStart d (all_contents_left d (LedTo limit handed) lives) on
-  -- without a crash, with the disk that the life hands back
+  -- without a crash, with the disk at the life's end
   pub goes_on : (limit : ℕ) (handed : List Handed) (lives : List (Life D d)) (life : Life D d)
       → IsTrue (d.honest (disk_at_end life))
       → IsLife d g limit (all_contents_left d (LedTo limit handed) lives) (all_handed limit handed lives) life

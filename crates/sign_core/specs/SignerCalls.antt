@@ -13,7 +13,8 @@ use Rattle.sign_core.specs.declared.fault.SignFault.{SignFault}
 use Rattle.sign_core.specs.declared.fault.SignFault.TheVariants.{Stopped}
 use Rattle.sign_core.specs.declared.source.Source as source
 use Rattle.sign_core.specs.Calls.{IsCall, IsLastingCall}
-use Rattle.sign_core.specs.Signer.{Creates, IsSigner, Opens, Retires, Signs, View, state_of, store_of_result}
+use Rattle.sign_core.specs.Signer.{Creates, IsAnswered, IsSigner, OpensRecords, Retires, Signs, View, state_of}
+use Rattle.sign_core.specs.Signer.{store_of_result}
 use Rattle.sign_core.specs.World.{Event, Handed, State, World, after, closed_state, create, reopen, request, retire}
 use Rattle.state_file.specs.declared.record.Version.{Version}
 
@@ -106,8 +107,8 @@ pub record IsRefusedOpening {S R : Type 0} (g : store.Ghosts S) (world : World) 
   pub stays : after (g.most kept_in) world event ≡ world
 
 -- Over an honest store each call of an open signer, each create and each opening is the event of the world in its
--- contract. Over any store a call of a closed signer is an event that leaves the world as it was. So is a create or an
--- opening on a store that has stopped.
+-- contract; of an opening `OpensRecords` is that part, whichever way it reads. Over any store a call of a closed signer
+-- is an event that leaves the world as it was. So is a create or an opening on a store that has stopped.
 pub record SignerLaw {S R M : Type 0} (g : store.Ghosts S) (r : source.Ghosts R) (m : message.Ghosts M) : Type 0 where
   pub signs : (old new : View S R) (name : List ℕ) (before later : M) (capacity : ℕ)
       (answer : Result (List ℕ) SignFault) (handed : List Handed) → IsOpenSigner g old → IsName name
@@ -130,16 +131,18 @@ pub record SignerLaw {S R M : Type 0} (g : store.Ghosts S) (r : source.Ghosts R)
       → (creates : Creates g r version spec kept_in random result)
       → OpensInWorld g (g.list kept_in) handed (create spec creates.chance) kept_in result
   pub opens : (kept_in : S) (random : R) (result : Result (View S R) (Refused (S × R) SignFault))
-      (handed : List Handed) → IsRunning g kept_in → (opens : Opens g kept_in random result)
-      → OpensInWorld g (g.list kept_in) handed (reopen opens.loads.chance) kept_in result
+      (handed : List Handed) → IsRunning g kept_in
+      → (opens : OpensRecords g kept_in (store_of_result result) (IsAnswered result))
+      → OpensInWorld g (g.list kept_in) handed (reopen opens.chance) kept_in result
   -- a store that has stopped, with any records in the world
   pub refuses_creating : (version : Version) (spec : Spec) (kept_in : S) (random : R)
       (result : Result (View S R) (Refused (S × R) SignFault)) (world : World) → g.stopped kept_in ≡ true → IsSpec spec
       → (creates : Creates g r version spec kept_in random result)
       → IsRefusedOpening g world (create spec creates.chance) kept_in result
   pub refuses_opening : (kept_in : S) (random : R) (result : Result (View S R) (Refused (S × R) SignFault))
-      (world : World) → g.stopped kept_in ≡ true → (opens : Opens g kept_in random result)
-      → IsRefusedOpening g world (reopen opens.loads.chance) kept_in result
+      (world : World) → g.stopped kept_in ≡ true
+      → (opens : OpensRecords g kept_in (store_of_result result) (IsAnswered result))
+      → IsRefusedOpening g world (reopen opens.chance) kept_in result
   -- before a first call a crash leaves the records of an open signer, and of a store that runs
   pub settled : (view : View S R) (left : List Record) → IsOpenSigner g view
       → g.left_since view.store (g.moment view.store) left → left ≡ view.records

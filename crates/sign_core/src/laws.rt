@@ -2,7 +2,7 @@
 //! proved for every list of records and of events.
 
 ghost use Rattle.std.specs.Prelude.{◌≡◌, ◌≢◌, ◌⊎◌, ◌↔◌, ℕ, ◌+◌, ◌<◌, List, Some, None, Ok, true, length, slice_get};
-ghost use Rattle.std.specs.Prelude.{take};
+ghost use Rattle.std.specs.Prelude.{Option, take};
 ghost use Rattle.state_file.specs.declared.record.Bound.{Bound};
 ghost use Rattle.state_file.specs.declared.record.Key.{Key};
 ghost use Rattle.state_file.specs.declared.record.Record.{Record};
@@ -12,8 +12,10 @@ ghost use Rattle.state_file.specs.Laws.{IsCurrent, IsLegal, bottom_of, identifie
 ghost use Rattle.sign_core.specs.declared.key.AnyPublic.{AnyPublic};
 ghost use Rattle.sign_core.specs.Records.{IsNext, binding_at, current, deepest, first_illegal, free_at};
 ghost use Rattle.sign_core.specs.Records.{has_identifier, the_key, next_leaf};
+ghost use Rattle.sign_core.specs.BoundNames.{BoundInCalls, BoundInMoved, BoundInSession};
 ghost use Rattle.sign_core.specs.Cuts.{CutLaw, StopLaw};
 ghost use Rattle.sign_core.specs.Headline.{HeadlineLaw, IsBoundTo, IsValidUnder};
+ghost use Rattle.sign_core.specs.HeadlineOfCalls.{HeadlineOfCalls, HeadlineOfMoved, SessionLaw};
 ghost use Rattle.sign_core.specs.Key.{KeyVerdict};
 ghost use Rattle.sign_core.specs.Lasting.{LastingLaw};
 ghost use Rattle.sign_core.specs.Once.{OnceLaw};
@@ -22,9 +24,13 @@ ghost use Rattle.sign_core.specs.AfterRefusal.{AfterRefusalLaw};
 ghost use Rattle.sign_core.specs.Calls.{CallsLaw, StoppedLaw};
 ghost use Rattle.sign_core.specs.Lives.{LivesLaw};
 ghost use Rattle.sign_core.specs.Moves.{MovesLaw};
+ghost use Rattle.sign_core.specs.NotEmpty.{NotEmptyLaw, RefusesWrongAnswers, RefusesWrongSigners};
 ghost use Rattle.sign_core.specs.Opened.{OpenedLaw};
 ghost use Rattle.sign_core.specs.RefusalOrder.{RefusalLaw};
+ghost use Rattle.sign_core.specs.Sessions.{RequestLaw};
+ghost use Rattle.sign_core.specs.Signer.{View};
 ghost use Rattle.sign_core.specs.SignerCalls.{SignerLaw};
+ghost use Rattle.sign_core.specs.World.{Handed};
 ghost use Rattle.sign_core.specs.Textbook.{AllHaveSizes, AreSound, any_public_of, current_at, damaged_at};
 ghost use Rattle.sign_core.specs.Textbook.{IsTreeChain, textbook_signature, tree_chain};
 
@@ -250,6 +256,85 @@ pub fn moves_law<D: Disk + Drop, E: Disk + Drop>()
 ///
 /// So all calls of one signer from its create or opening on, whatever they answer, are a chain of calls for
 /// `stopped_law`, and each of them lasts, as `lives_law` requires.
+///
+/// `requests`: a call of `sign` is a request of `headline_law`, whose text its message gave to the end.
 pub fn signer_law<S: Store, R: Source, M: Message>()
     ensures signer { SignerLaw S.Store R.Source M.Message }
+    ensures requests { RequestLaw S.Store R.Source M.Message }
+{}
+
+/// The headline, of all calls over one store: creates, openings, signings, requests of a serve and retirings, one after
+/// the other, whatever they answer.
+///
+/// The store is honest, runs, and begins without records, as one in memory does. Then what `headline_law` says of calls
+/// over a disk holds of these.
+pub fn session_law<S: Store, R: Source, M: Message>()
+    ensures session { SessionLaw S.Store R.Source }
+    ensures names { BoundInSession S.Store R.Source }
+{
+    signer_law::<S, R, M>();
+}
+
+/// The headline, of all calls over one disk, in all its lives, and over another to which the key was moved.
+///
+/// In each life a store is opened on the disk, or prepared. Then come creates, openings, signings, requests of a serve
+/// and retirings, one after the other, whatever they answer. Or the key is moved to another disk, which may fail. A
+/// crash may come between two calls or inside one, also in the opening of the store. The next life begins with what it
+/// left, or without a crash with the same disk. The disk keeps what was synced, and has no key as the first life
+/// begins. A request has the text that its message gave; of `sign` that is the clause `requests` of `signer_law`. Then
+/// of all signatures that these calls answered (`calls`):
+///
+/// - No leaf at any level signs two digests, and none of the bottom level signs under two names. One name has one
+///   signature. Each is valid for the text that was read, under whichever public key a create or an opening gave.
+/// - The next request under a name that was signed is refused as changed (21), if its text has another digest under
+///   the signature's bottom leaf. For the signed digest it gets the signature that was handed out, or 29 where memory
+///   is refused. Before these come 26 of a closed signer, 31 after a Moved, and 27 of a message that can't be read;
+///   nothing else comes. Names that a crash left bound are `bound_law`'s.
+///
+/// So it is, too, where the key was moved and the calls go on over the new disk, of all signatures of both (`moved`).
+/// They go on after an Ok, and after any other answer, or a crash in the migration, that left a key at the new place.
+/// The premises are the calls' own contracts. `specs/HeadlineOfCalls.antt` says it, and `specs/Sessions.antt` has the
+/// calls and the lives.
+pub fn headline_law<D: Disk + Drop, E: Disk + Drop, R: Source, M: Message>()
+    ensures calls { HeadlineOfCalls D.Disk E.Disk ⟦<FileStore<D> as Store>⟧ R.Source }
+    ensures moved { HeadlineOfMoved D.Disk E.Disk ⟦<FileStore<D> as Store>⟧ ⟦<FileStore<E> as Store>⟧ R.Source }
+{
+    signer_law::<FileStore<D>, R, M>();
+    signer_law::<FileStore<E>, R, M>();
+}
+
+/// What the next request gets under a bound name, after the calls of `headline_law`.
+///
+/// It has one signature, also where none was handed out for it, as after a crash. The next request under it is refused
+/// as changed (21), if its message hasn't the bound digest. For the bound digest it gets this signature, or 29 where
+/// the output lacks memory for it or a cache of its trees is missing. Before these come 26 of a closed signer, 31 after
+/// a Moved, and 27 of a message that can't be read. A name that was signed is bound, and the signature is the one that
+/// was handed out.
+pub fn bound_law<D: Disk + Drop, E: Disk + Drop, R: Source, M: Message>()
+    ensures calls { BoundInCalls D.Disk E.Disk ⟦<FileStore<D> as Store>⟧ R.Source }
+    ensures moved { BoundInMoved D.Disk E.Disk ⟦<FileStore<D> as Store>⟧ ⟦<FileStore<E> as Store>⟧ R.Source }
+{
+    signer_law::<FileStore<D>, R, M>();
+    signer_law::<FileStore<E>, R, M>();
+}
+
+/// Signatures are handed out: the laws over all runs aren't empty.
+///
+/// For every spec, and any name that a file of the key's version can hold, some run of the world hands out a signature
+/// under this name, for any message: a create, and then the request. The store takes nine records.
+pub fn not_empty_law()
+    ensures runs { NotEmptyLaw }
+{}
+
+/// The headline's clauses are false of signers that go wrong, whatever their contracts are.
+///
+/// - `signatures`: two signers, as of a disk and an old copy, that sign two digests by one leaf; lives with different
+///   keys; a life that forgot the records, and gives a name another signature.
+/// - `answers`: under a name that was signed, other bytes than its signature, bytes for a changed text, 21 for a
+///   repeat, 26 of an open signer, 31 without a Moved, 27 of a message that can be read, and any other refusal but 29,
+///   as 22.
+pub fn wrong_signers_law<S, R>()
+    ensures signatures { RefusesWrongSigners }
+    ensures answers { (public : AnyPublic) (signer : View S R) (x : Handed) (given : Option (List ℕ)) →
+        RefusesWrongAnswers public signer x given }
 {}
