@@ -5,6 +5,7 @@ use Rattle.state_file.specs.declared.record.Record.{Record}
 use Rattle.state_file.specs.declared.store.Store as store
 use Rattle.state_file.specs.Disk.{Counts, LeavesOnly}
 use Rattle.sign_core.specs.declared.fault.SignFault.{SignFault}
+use Rattle.sign_core.specs.Caches.{Cached}
 use Rattle.sign_core.specs.Cuts.{IsBeginning}
 use Rattle.sign_core.specs.inner.Signer.{Adds, added}
 use Rattle.sign_core.specs.Signer.{Ends, GrowsAlike, UnlessAppended, View, is_before_draws, is_fault, is_of_append, is_random_failed}
@@ -90,4 +91,23 @@ ends_alike g view new random one other answer last state acknowledged failed ans
   };
   unreadable = ends.unreadable;
   asked = ends.asked;
+}
+
+-- Caches don't matter to an append.
+pub adds_caching : {S R : Type 0} (g : store.Ghosts S) (old new : View S R) (cached : Cached) (entry : Record) (answer : Result (Unit {0}) SignFault)
+    → Adds g old new entry answer → Adds g old (record new { cached = cached }) entry answer
+adds_caching g old new cached entry answer adds = record {
+  fate = adds.fate;
+  ends = record {
+    answer_is = adds.ends.answer_is;
+    records = adds.ends.records;
+    is_open = adds.ends.is_open;
+    store = adds.ends.store;
+    unreadable = adds.ends.unreadable;
+    asked = adds.ends.asked;
+  };
+  random = adds.random;
+  refusals = adds.refusals;
+  memory = adds.memory;
+  untaken = adds.untaken;
 }

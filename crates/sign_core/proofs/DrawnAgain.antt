@@ -67,8 +67,12 @@ module _ (Q : Outcome (List ℕ) → Type 0) (limit : ℕ) (state : State) (name
   settled_sound key level (Some slot) rest = refuses (Damaged slot) (λ e. cc)
   settled_sound key level None rest = rest
 
+  is_true : (b : Bool) → not b ≡ false → b ≡ true
+  is_true true is = refl
+  is_true false is = absurd (cc)
+
   settled_level : (key : Key) (found : Option ℕ) → deepest key.secret state.records ≡ found
-      → ((level : ℕ) → deepest key.secret state.records ≡ Some level
+      → ((level : ℕ) → deepest key.secret state.records ≡ Some level → chance.has_room ≡ true
       → Q (bound_trees key name chance (bottom_of key.secret - level) chance.trees state.records))
       → Q (bound_level limit state key name chance found)
   settled_level key None is rest = refuses Exhausted (λ e. cc)
@@ -76,36 +80,40 @@ module _ (Q : Outcome (List ℕ) → Type 0) (limit : ℕ) (state : State) (name
       kept_choice Q (nat_lt limit (length state.records + wanted_count key.secret level)) _ _ (λ full. refuses LedgerFull (λ e. cc))
       (λ fits. kept_choice Q (not chance.has_room) _ _ (λ none. refuses OutOfMemory (λ e. cc))
       (λ room. settled_sound key level
-      (damaged_at key level state.records (current_at level state.records (length state.records))) (rest level is)))
+      (damaged_at key level state.records (current_at level state.records (length state.records))) (rest level is (is_true chance.has_room room))))
 
   settled_of : (key : Key) (found : Option (ℕ × Bound)) → binding_at state.records name ≡ found
       → ((k : ℕ) (bound : Bound) → binding_at state.records name ≡ Some (k, bound) → Q (repeated state key k bound chance chance.given))
-      → (binding_at state.records name ≡ None → (level : ℕ) → deepest key.secret state.records ≡ Some level
+      → (binding_at state.records name ≡ None → (level : ℕ) → deepest key.secret state.records ≡ Some level → chance.has_room ≡ true
       → Q (bound_trees key name chance (bottom_of key.secret - level) chance.trees state.records))
       → Q (requested_binding limit state key name chance found)
   settled_of key (Some (k, bound)) is again rest = again k bound is
   settled_of key None is again rest = kept_choice Q (is_long key name) _ _ (λ long. refuses LongName (λ e. cc))
       (λ short. settled_level key (deepest key.secret state.records) refl (rest is))
 
+  -- a new name's records come after memory was granted
+  pub settled_room : (found : Option Key) → the_key state.records ≡ found
+      → ((key : Key) (k : ℕ) (bound : Bound) → binding_at state.records name ≡ Some (k, bound) → Q (repeated state key k bound chance chance.given))
+      → ((key : Key) (level : ℕ) → WantsRecords state name key level → chance.has_room ≡ true
+      → Q (bound_trees key name chance (bottom_of key.secret - level) chance.trees state.records))
+      → Q (requested_key limit state name chance found)
+  settled_room None keyed again rest = refuses Stopped (λ e. cc)
+  settled_room (Some key) keyed again rest =
+      kept_choice Q (not state.is_open) _ _ (λ closed. refuses Stopped (λ e. cc))
+      (λ open_now. kept_choice Q (has_moved state.records) _ _ (λ moved. refuses MovedAway (λ e. cc))
+      (λ stays. settled_of key (binding_at state.records name) refl (again key)
+      (λ unbound level is. rest key level (record {
+        active = record { is_open = is_true state.is_open open_now; stays = stays; keyed = keyed };
+        unbound = unbound;
+        level_is = is;
+      }))))
+
   pub settled_key : (found : Option Key) → the_key state.records ≡ found
       → ((key : Key) (k : ℕ) (bound : Bound) → binding_at state.records name ≡ Some (k, bound) → Q (repeated state key k bound chance chance.given))
       → ((key : Key) (level : ℕ) → WantsRecords state name key level
       → Q (bound_trees key name chance (bottom_of key.secret - level) chance.trees state.records))
       → Q (requested_key limit state name chance found)
-  settled_key None keyed again rest = refuses Stopped (λ e. cc)
-  settled_key (Some key) keyed again rest =
-      kept_choice Q (not state.is_open) _ _ (λ closed. refuses Stopped (λ e. cc))
-      (λ open_now. kept_choice Q (has_moved state.records) _ _ (λ moved. refuses MovedAway (λ e. cc))
-      (λ stays. settled_of key (binding_at state.records name) refl (again key)
-      (λ unbound level is. rest key level (record {
-        active = record { is_open = not_closed state.is_open open_now; stays = stays; keyed = keyed };
-        unbound = unbound;
-        level_is = is;
-      }))))
-    where
-      not_closed : (is_open : Bool) → not is_open ≡ false → is_open ≡ true
-      not_closed true is = refl
-      not_closed false is = absurd (cc)
+  settled_key found keyed again rest = settled_room found keyed again (λ key level wants room. rest key level wants)
 
 -- ---- 24
 

@@ -1,4 +1,4 @@
--- When the message of a new name is read: once its new trees are recorded, and C is drawn.
+-- When the message of a new name is read: once memory is granted, its new trees are recorded, and C is drawn.
 use Rattle.std.proofs.Common.{drop, ◌≡◌, ◌∙◌, refl, sym, ℕ, zero, suc, ◌+◌, ◌-◌, ◌≤◌, true, false, List, []}
 use Rattle.std.proofs.Common.{◌∷◌, ◌++◌, length, Option, Some, None, Err, true≢false, arith}
 use Rattle.std.specs.Prelude.{IsSome}
@@ -15,7 +15,7 @@ use Rattle.sign_core.specs.World.{Chance, Draw, Fate, Outcome, State, acked, app
 use Rattle.sign_core.specs.World.{no_memory, open_state, randomizer_of_fields, requested}
 use Rattle.sign_core.specs.inner.Cases.{bound_trees, extended}
 use Rattle.sign_core.proofs.Cases.{bound_message, extended_identifier, extended_seed}
-use Rattle.sign_core.proofs.DrawnAgain.{settled_key}
+use Rattle.sign_core.proofs.DrawnAgain.{settled_room}
 use Rattle.sign_core.proofs.OnceKept.{kept_choice}
 
 -- A message that was read came after this many more trees, and after C.
@@ -124,15 +124,16 @@ late_bound_below key name chance (suc below) draws records =
 pub in_turn : (limit : ℕ) (state : State) (name : List ℕ) (chance : Chance) → binding_at state.records name ≡ None
     → (requested limit state name chance).is_read ≡ true → IsInTurn state name chance (requested limit state name chance)
 in_turn limit state name chance unbound =
-    settled_key (λ outcome. outcome.is_read ≡ true → IsInTurn state name chance outcome) limit state name chance
+    settled_room (λ outcome. outcome.is_read ≡ true → IsInTurn state name chance outcome) limit state name chance
     (λ fault other is. unread is) (the_key state.records) refl
     (λ key k bound found. absurd (none-some _ (sym unbound ∙ found)))
-    (λ key level wants is.
+    (λ key level wants room is.
     let follows = late_bound_below key name chance (bottom_of key.secret - level) chance.trees state.records is in
     record {
       key = key;
       level = level;
       wants = wants;
+      room = room;
       trees = follows.trees;
       randomizer = follows.randomizer;
       refusals = follows.refusals;

@@ -37,6 +37,7 @@ pub mod Uses
 pub mod Kept
 pub mod KeptCaches
 pub mod BegunCaches
+pub mod RenewedCaches
 pub mod LostCaches
 pub mod BoundBelow
 pub mod TreeParts
@@ -50,7 +51,8 @@ pub mod Sound
 pub mod LedgerReading
 pub mod LedgerSteps
 pub mod LedgerPushes
-pub mod Replay
+pub mod Replaying
+pub mod Replayed
 pub mod LinkParts
 pub mod Adding
 pub mod Retiring
@@ -86,3 +88,6 @@ pub mod OldFile
 pub mod MigrateKey
 pub mod Moves
 pub mod Told
+pub mod Sessions
+pub mod HeadlineOfCalls
+pub mod NotEmpty

@@ -19,7 +19,7 @@ use Rattle.sign_core.proofs.Follow.{key_first}
 use Rattle.sign_core.proofs.Lives.{KeepsTime, migrates, spelled_stands}
 
 -- records that can move are of a key of version 1
-can_migrate : (content : List ℕ) (records : List Record) → SpellsMovable content records → CanMigrate records
+pub can_migrate : (content : List ℕ) (records : List Record) → SpellsMovable content records → CanMigrate records
 can_migrate content records is =
     let keyed = key_first records is.legal.key is.legal.first in
     (is.legal.key, keyed, sym (version_of_key records is.legal.key keyed) ∙ is.version)

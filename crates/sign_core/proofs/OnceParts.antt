@@ -57,7 +57,7 @@ never_damaged Q state handed key kept keyed level tree slot is =
 
 -- ---- an open signer
 
--- a request goes by the name's binding
+-- the name's binding decides a request
 open_request : (limit : ℕ) (state : State) (key : Key) (name : List ℕ) (chance : Chance) (found : Option (ℕ × Bound)) → state.is_open ≡ true
     → has_moved state.records ≡ false
     → the_key state.records ≡ Some key → binding_at state.records name ≡ found

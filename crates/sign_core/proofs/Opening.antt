@@ -179,7 +179,7 @@ whole_same g old records k begins honest = ap (λ l. l ++ drop k (g.list old)) (
 -- ---- refusals
 
 -- the first fault comes before any record that isn't legal
-stops : (all : List Record) (k : ℕ) (fault : SignFault) (illegal : Option ℕ) → ((j : ℕ) → illegal ≡ Some j → k ≤ j)
+pub stops : (all : List Record) (k : ℕ) (fault : SignFault) (illegal : Option ℕ) → ((j : ℕ) → illegal ≡ Some j → k ≤ j)
     → opened_illegal (closed_state all) (Some (k, fault)) illegal ≡ refused (closed_state all) fault
 stops all k fault None later = refl
 stops all k fault (Some j) later =
@@ -204,28 +204,30 @@ pub stopped_at : {S : Type 0} (g : store.Ghosts S) (old now next : S) (records :
     → GoesTo {A = AnyPublic} (g.most old) (Some (k, fault)) (whole g old records k) (g.refusals old) (g.refusals next) loads k (Err fault)
     → LoadsAll g old next (IsTakenUp (Err fault))
 stopped_at g old now next records k loads fault has load stopped list moments failures refusals unreadable honest most stays asked gave order = record {
-  records = whole g old records k;
-  same_length = whole_long g old records k has.begins;
-  same = whole_same g old records k has.begins;
-  chance = Some (k, fault);
-  outcome = refused (closed_state (whole g old records k)) fault;
-  step = stopped_step g old now records k fault has;
-  answer = refl;
-  load = load;
-  stopped = stopped;
-  list = list;
-  moments = moments;
-  failures = failures;
-  refusals = refusals;
-  unreadable = unreadable;
+  opening = record {
+    records = whole g old records k;
+    same_length = whole_long g old records k has.begins;
+    same = whole_same g old records k has.begins;
+    chance = Some (k, fault);
+    outcome = refused (closed_state (whole g old records k)) fault;
+    step = stopped_step g old now records k fault has;
+    answer = refl;
+    load = load;
+    stopped = stopped;
+    list = list;
+    moments = moments;
+    failures = failures;
+    refusals = refusals;
+    unreadable = unreadable;
+    honest = honest;
+    most = most;
+    stays = stays;
+  };
   loads = loads;
   given = k;
   asked = asked;
   gave = gave_whole g old next records (drop k (g.list old)) k has.begins.same_length (gave ∙ has.gave);
   order = order;
-  honest = honest;
-  most = most;
-  stays = stays;
 }
 
 -- another load of a store that has stopped
@@ -298,28 +300,30 @@ pub illegal_at : {S : Type 0} (g : store.Ghosts S) (old now next : S) (records :
 illegal_at g old now next records k entry has loads not =
     let begins = begins_more g old now next records k entry has.kept has.begins loads in
     let kept = kept_some g old now next k entry has.kept loads in record {
-      records = whole g old (records ++ entry ∷ []) (k + 1);
-      same_length = whole_long g old (records ++ entry ∷ []) (k + 1) begins;
-      same = whole_same g old (records ++ entry ∷ []) (k + 1) begins;
-      chance = None;
-      outcome = refused (closed_state (whole g old (records ++ entry ∷ []) (k + 1))) (Illegal k);
-      step = illegal_step records (drop (k + 1) (g.list old)) entry k has.begins.same_length has.legal not;
-      answer = refl;
-      load = sym has.kept.stopped ∙ loads.loads.0;
-      stopped = kept.stopped;
-      list = kept.list;
-      moments = kept.moments;
-      failures = kept.failures;
-      refusals = kept.refusals;
-      unreadable = kept.unreadable;
+      opening = record {
+        records = whole g old (records ++ entry ∷ []) (k + 1);
+        same_length = whole_long g old (records ++ entry ∷ []) (k + 1) begins;
+        same = whole_same g old (records ++ entry ∷ []) (k + 1) begins;
+        chance = None;
+        outcome = refused (closed_state (whole g old (records ++ entry ∷ []) (k + 1))) (Illegal k);
+        step = illegal_step records (drop (k + 1) (g.list old)) entry k has.begins.same_length has.legal not;
+        answer = refl;
+        load = sym has.kept.stopped ∙ loads.loads.0;
+        stopped = kept.stopped;
+        list = kept.list;
+        moments = kept.moments;
+        failures = kept.failures;
+        refusals = kept.refusals;
+        unreadable = kept.unreadable;
+        honest = kept.honest;
+        most = kept.most;
+        stays = kept.stays;
+      };
       loads = k + 1;
       given = k + 1;
       asked = asked_more g old now next k has.asked loads.asked;
       gave = gave_whole g old next (records ++ entry ∷ []) (drop (k + 1) (g.list old)) (k + 1) begins.same_length (gave_more g old now next records entry has.gave loads.gave);
       order = (refl, refl);
-      honest = kept.honest;
-      most = kept.most;
-      stays = kept.stays;
     }
 
 -- ---- records that are taken up
@@ -357,29 +361,31 @@ unroomed g old now next table k entry is loads follows lacking =
       later = is.some;
       lacking = elim lacking [ inl (takes, none) ↦ inl takes | inr full ↦ inr (sym is.loaded.begins.same_length ∙ full) ];
     } in record {
-      records = whole g old records (k + 1);
-      same_length = whole_long g old records (k + 1) begins;
-      same = whole_same g old records (k + 1) begins;
-      chance = Some (k, NoMemoryToOpen);
-      outcome = refused (closed_state (whole g old records (k + 1))) NoMemoryToOpen;
-      step = stops (records ++ more) k NoMemoryToOpen (first_illegal (records ++ more))
-          (λ j at. omega (arith, begins.same_length, illegal_after records more j legal at));
-      answer = refl;
-      load = (is.loaded.running is.some, is.loaded.begins.inside);
-      stopped = kept.stopped;
-      list = kept.list;
-      moments = kept.moments;
-      failures = kept.failures;
-      refusals = inr (kept.refusals, lacks);
-      unreadable = kept.unreadable;
+      opening = record {
+        records = whole g old records (k + 1);
+        same_length = whole_long g old records (k + 1) begins;
+        same = whole_same g old records (k + 1) begins;
+        chance = Some (k, NoMemoryToOpen);
+        outcome = refused (closed_state (whole g old records (k + 1))) NoMemoryToOpen;
+        step = stops (records ++ more) k NoMemoryToOpen (first_illegal (records ++ more))
+            (λ j at. omega (arith, begins.same_length, illegal_after records more j legal at));
+        answer = refl;
+        load = (is.loaded.running is.some, is.loaded.begins.inside);
+        stopped = kept.stopped;
+        list = kept.list;
+        moments = kept.moments;
+        failures = kept.failures;
+        refusals = inr (kept.refusals, lacks);
+        unreadable = kept.unreadable;
+        honest = kept.honest;
+        most = kept.most;
+        stays = kept.stays;
+      };
       loads = k + 1;
       given = k + 1;
       asked = asked_more g old now next k is.loaded.asked loads.asked;
       gave = gave_whole g old next records more (k + 1) begins.same_length (gave_more g old now next table.records entry is.loaded.gave loads.gave);
       order = inr (refl, refl, lacks, refl);
-      honest = kept.honest;
-      most = kept.most;
-      stays = kept.stays;
     }
 
 -- a record that isn't taken up
@@ -448,7 +454,7 @@ key_taken g old next table key only loads sizes same records =
 
 -- ---- the end
 
-published_step : (records : List Record) (key : Key) (public : AnyPublic) → first_illegal records ≡ None → the_key records ≡ Some key
+pub published_step : (records : List Record) (key : Key) (public : AnyPublic) → first_illegal records ≡ None → the_key records ≡ Some key
     → any_public_of key ≡ Some public → opened (closed_state records) None ≡ answered (open_state records) public
 published_step records key public legal keyed is =
     ap (opened_illegal (closed_state records) None) legal ∙ ap (opened_key records) keyed ∙ ap (published records) is
@@ -459,28 +465,30 @@ all_taken g old now table k loads is end last =
     let (public, made) = public_made table.key.secret table.key.root is.sizes in
     let begins = is.loaded.begins in
     let kept = is.loaded.kept in record {
-      records = table.records;
-      same_length = omega (arith, begins.same_length, begins.inside, end);
-      same = λ honest. begins.same honest ∙ take_all k (g.list old) end;
-      chance = None;
-      outcome = answered (open_state table.records) public;
-      step = published_step table.records table.key public is.loaded.legal is.keyed made;
-      answer = (public, refl, ap public_of_key is.keyed ∙ made, refl);
-      load = is.loaded.running is.some;
-      stopped = kept.stopped;
-      list = kept.list;
-      moments = kept.moments;
-      failures = kept.failures;
-      refusals = kept.refusals;
-      unreadable = kept.unreadable;
+      opening = record {
+        records = table.records;
+        same_length = omega (arith, begins.same_length, begins.inside, end);
+        same = λ honest. begins.same honest ∙ take_all k (g.list old) end;
+        chance = None;
+        outcome = answered (open_state table.records) public;
+        step = published_step table.records table.key public is.loaded.legal is.keyed made;
+        answer = (public, refl, ap public_of_key is.keyed ∙ made, refl);
+        load = is.loaded.running is.some;
+        stopped = kept.stopped;
+        list = kept.list;
+        moments = kept.moments;
+        failures = kept.failures;
+        refusals = kept.refusals;
+        unreadable = kept.unreadable;
+        honest = kept.honest;
+        most = kept.most;
+        stays = kept.stays;
+      };
       loads = loads;
       given = k;
       asked = is.loaded.asked;
       gave = is.loaded.gave ∙ ap (λ l. g.given old ++ l) (sym (take_all k table.records (omega (arith, begins.same_length))));
       order = (sym begins.same_length, last);
-      honest = kept.honest;
-      most = kept.most;
-      stays = kept.stays;
     }
 
 pub all_tied : {S : Type 0} (g : store.Ghosts S) (old now : S) (table : Table) (k loads : ℕ) → IsLoadedTo g old now table k loads → length (g.list old) ≤ k
@@ -538,28 +546,30 @@ pub none_there : {S : Type 0} (g : store.Ghosts S) (old next : S) → LeavesItsL
 none_there g old next only loads =
     let kept = kept_none g old old next 0 (none_loaded g old only).kept loads in
     let empty = no_records (g.list old) loads.loads.1 in record {
-      records = [];
-      same_length = ap length empty;
-      same = λ honest. empty;
-      chance = None;
-      outcome = refused (closed_state []) NoKey;
-      step = refl;
-      answer = refl;
-      load = loads.loads.0;
-      stopped = kept.stopped;
-      list = kept.list;
-      moments = kept.moments;
-      failures = kept.failures;
-      refusals = kept.refusals;
-      unreadable = kept.unreadable;
+      opening = record {
+        records = [];
+        same_length = ap length empty;
+        same = λ honest. empty;
+        chance = None;
+        outcome = refused (closed_state []) NoKey;
+        step = refl;
+        answer = refl;
+        load = loads.loads.0;
+        stopped = kept.stopped;
+        list = kept.list;
+        moments = kept.moments;
+        failures = kept.failures;
+        refusals = kept.refusals;
+        unreadable = kept.unreadable;
+        honest = kept.honest;
+        most = kept.most;
+        stays = kept.stays;
+      };
       loads = 1;
       given = 0;
       asked = loads.asked;
       gave = loads.gave ∙ sym (append-nil (g.given old));
       order = (refl, refl);
-      honest = kept.honest;
-      most = kept.most;
-      stays = kept.stays;
     }
 
 -- ---- the signer of the records
@@ -567,30 +577,33 @@ none_there g old next only loads =
 -- another answer of the same outcome
 loaded_with : {S : Type 0} (g : store.Ghosts S) (old new : S) (P Q : Outcome AnyPublic → Type 0)
     → ((outcome : Outcome AnyPublic) → P outcome → Q outcome) → LoadsAll g old new P → LoadsAll g old new Q
-loaded_with g old new P Q to loads = record {
-  records = loads.records;
-  same_length = loads.same_length;
-  same = loads.same;
-  chance = loads.chance;
-  outcome = loads.outcome;
-  step = loads.step;
-  answer = to loads.outcome loads.answer;
-  load = loads.load;
-  stopped = loads.stopped;
-  list = loads.list;
-  moments = loads.moments;
-  failures = loads.failures;
-  refusals = loads.refusals;
-  unreadable = loads.unreadable;
-  loads = loads.loads;
-  given = loads.given;
-  asked = loads.asked;
-  gave = loads.gave;
-  order = loads.order;
-  honest = loads.honest;
-  most = loads.most;
-  stays = loads.stays;
-}
+loaded_with g old new P Q to loads =
+    let opens = loads.opening in record {
+      opening = record {
+        records = opens.records;
+        same_length = opens.same_length;
+        same = opens.same;
+        chance = opens.chance;
+        outcome = opens.outcome;
+        step = opens.step;
+        answer = to opens.outcome opens.answer;
+        load = opens.load;
+        stopped = opens.stopped;
+        list = opens.list;
+        moments = opens.moments;
+        failures = opens.failures;
+        refusals = opens.refusals;
+        unreadable = opens.unreadable;
+        honest = opens.honest;
+        most = opens.most;
+        stays = opens.stays;
+      };
+      loads = loads.loads;
+      given = loads.given;
+      asked = loads.asked;
+      gave = loads.gave;
+      order = loads.order;
+    }
 
 pub held_old : {S R : Type 0} (g : store.Ghosts S) (old new : S) (random : R) (ledger : Result Table SignFault)
     (result : Result (View S R) (Refused (S × R) SignFault)) → LoadsAll g old new (IsTakenUp ledger) → HoldsParts new random ledger result

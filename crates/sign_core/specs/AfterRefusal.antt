@@ -101,11 +101,12 @@ is_after_message StoreFailed = true
 is_after_message OutOfMemory = true
 is_after_message _ = false
 
--- The turn of a new name's message had come: each new tree is recorded, and C is drawn.
+-- The turn of a new name's message had come: memory was granted, each new tree is recorded, and C is drawn.
 pub record IsInTurn (state : State) (name : List ℕ) (chance : Chance) (outcome : Outcome (List ℕ)) : Type 0 where
   pub key : Key
   pub level : ℕ
   pub wants : WantsRecords state name key level
+  pub room : chance.has_room ≡ true
   pub trees : length state.records + (bottom_of key.secret - level) ≤ length outcome.acknowledged
   pub randomizer : IsSome (randomizer_of_fields key.secret chance.bound.fields)
   pub refusals : (fault : SignFault) → outcome.answer ≡ Err fault → is_after_message fault ≡ true

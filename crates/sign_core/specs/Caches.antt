@@ -1,5 +1,5 @@
 -- The caches of current trees, and which one is missing for a signature.
-use Rattle.std.specs.Prelude.{◌≡◌, ◌≢◌, ◌⊎◌, ℕ, ◌<◌, ◌≤◌, ◌-◌, List, length, slice_index_or, Option, Some, None}
+use Rattle.std.specs.Prelude.{◌≡◌, ◌≢◌, ◌⊎◌, ℕ, ◌<◌, ◌≤◌, ◌-◌, List, length, slice_index_or, Option, None, Some}
 use Rattle.typecodes.specs.declared.secret.LmsSecret.{LmsSecret}
 use Rattle.typecodes.specs.declared.secret.XmssSecret.{XmssSecret}
 use Rattle.state_file.specs.declared.record.Key.{Key}
@@ -71,6 +71,7 @@ pub record LosesLevel (key : Key) (records : List Record) (lowest before : ℕ) 
   pub above : 1 ≤ level → HasCaches key records (Some (level - 1)) before new
   pub here : cache_at new.levels level ≡ None
   pub below : (k : ℕ) → level < k → cache_at new.levels k ≡ cache_at old.levels k
+  pub xmss : new.xmss ≡ old.xmss
 
 pub record LosesXmss (key : Key) (old new : Cached) : Type 0 where
   pub lacked : LacksXmss key old
@@ -89,3 +90,17 @@ HasBegun key records start cached = (trees : Trees) (level tree : ℕ) → trees
 -- Each current tree down to this level has its cache.
 abbrev pub HasAll : Key → List Record → (lowest : ℕ) → Cached → Type 0
 HasAll key records lowest cached = HasCaches key records (Some lowest) (length records) cached
+
+-- A level has its current tree's cache.
+abbrev pub HasRenewed : Key → List Record → (level : ℕ) → Cached → Type 0
+HasRenewed key records level cached =
+    (trees : Trees) × (trees_of key.secret ≡ Some trees) × HasCurrent trees records level cached
+
+-- An XMSS key has its tree's cache.
+abbrev pub HasXmss : Key → Cached → Type 0
+HasXmss key cached = (secret : XmssSecret) × (key.secret ≡ Xmss secret) × (cached.xmss ≡ Some secret)
+
+-- Each level has the cache that it had, or its current tree's. So has an XMSS key.
+pub record KeepsOrRenews (key : Key) (records : List Record) (old new : Cached) : Type 0 where
+  pub levels : (level : ℕ) → (cache_at new.levels level ≡ cache_at old.levels level) ⊎ HasRenewed key records level new
+  pub xmss : (new.xmss ≡ old.xmss) ⊎ HasXmss key new

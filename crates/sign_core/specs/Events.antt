@@ -17,6 +17,10 @@ AreFields [] (field ∷ fields) = ⊥
 AreFields (size ∷ sizes) (field ∷ fields) = (length field ≡ size) × AreBytes field × AreFields sizes fields
 
 -- what a create draws: I and SEED, or the three seeds of XMSS
+-- Requirement: RFC 8554 5.2, secret
+-- Requirement: RFC 8391 3.1.7, seeds
+-- Requirement: RFC 8391 4.1.3, prf key
+-- Requirement: RFC 8391 4.1.7, seeded
 abbrev pub key_sizes : Spec → List ℕ
 key_sizes (Xmss tree) = 32 ∷ 32 ∷ 32 ∷ []
 key_sizes _ = 16 ∷ 32 ∷ []

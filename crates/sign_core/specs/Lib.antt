@@ -24,6 +24,10 @@ pub mod Signing
 pub mod Signer
 pub mod Key
 pub mod Lives
+pub mod Sessions
+pub mod HeadlineOfCalls
+pub mod BoundNames
+pub mod NotEmpty
 pub mod RefusalOrder
 pub mod AfterRefusal
 pub mod Caches

@@ -3,7 +3,7 @@ use Rattle.std.specs.Prelude.{ℕ, List}
 use Rattle.sign_core.specs.World.{Event, World, beginning, run}
 use Rattle.sign_core.specs.Events.{AllEvents}
 use Rattle.sign_core.specs.Headline.{SignsOnce}
-pub use Rattle.sign_core.specs.Headline.{IsOneLeaf, IsValidUnder}
+pub use Rattle.sign_core.specs.Uses.{IsOneLeaf, IsValidUnder}
 pub use Rattle.sign_core.specs.Textbook.{public_of_key}
 use Rattle.sign_core.specs.Requests.{AreRequestsAnswered}
 use Rattle.sign_core.specs.Retirings.{AreRetiringsAnswered}

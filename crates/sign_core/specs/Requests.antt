@@ -161,6 +161,7 @@ pub record AreRequestsAnswered (limit : ℕ) (world : World) : Type 0 where
       → binding_at (requested limit world.state name chance).state.records other
       ≡ binding_at world.state.records other
   -- for a name that isn't too long, 22 comes exactly where no leaf is free at any level
+  -- Requirement: RFC 8554 6.2, exhausted
   pub exhausted : (key : Key) (name : List ℕ) (chance : Chance) → world.state.is_open ≡ true
       → has_moved world.state.records ≡ false → the_key world.state.records ≡ Some key
       → binding_at world.state.records name ≡ None → length name ≤ name_most key.version

@@ -1,11 +1,14 @@
 -- What serving requests over an input does: the answers, the replies that are written, and how it ends.
 use Rattle.std.specs.Prelude.{◌≡◌, ◌⊎◌, ℕ, ◌<◌, ◌≤◌, ◌^◌, Bool, true, false, List, [], ◌∷◌, ◌++◌, length, map, Option}
-use Rattle.std.specs.Prelude.{Some, None, Result, Ok, Err, IsSome}
+use Rattle.std.specs.Prelude.{Some, None, Result, Ok, Err, IsSome, OnOk}
 use Rattle.std.specs.List.{concat}
 use Rattle.std.specs.Io.KnownBytes.{Appends}
 use Rattle.byteorder.specs.Endian.{big_bytes}
 use Rattle.typecodes.specs.declared.message.Message as message
 use Rattle.typecodes.specs.Name.{IsName}
+use Rattle.state_file.specs.Laws.{bottom_of}
+use Rattle.state_file.specs.declared.record.Bound.{Bound}
+use Rattle.state_file.specs.declared.record.Record.{Record}
 use Rattle.state_file.specs.declared.store.Store as store
 use Rattle.sign_core.specs.declared.fault.ServeFault.{ServeFault}
 use Rattle.sign_core.specs.declared.fault.ServeFault.TheVariants.{FrameCut, MessageRead, WriteFailed}
@@ -17,9 +20,10 @@ use Rattle.sign_core.specs.declared.source.Source as source
 use Rattle.sign_core.specs.Fault.{sign_fault_number}
 use Rattle.sign_core.specs.Frames.{CutsField, Ending, IsCut, IsFrame, IsWholeMessage, ReadsInput, Request, broken}
 use Rattle.sign_core.specs.Frames.{ended, given_message, going, head}
+use Rattle.sign_core.specs.Caches.{Cached, HasAll, HasBegun}
 use Rattle.sign_core.specs.Records.{binding_at}
 use Rattle.sign_core.specs.Signer.{AnswersRequest, KeepsForRepeat, View, is_before_repeat, is_fault}
-use Rattle.sign_core.specs.Signing.{KeepsCapacity}
+use Rattle.sign_core.specs.Signing.{KeepsCaches, KeepsCapacity, LeavesCaches, MakesCaches, UnderKey}
 
 -- ---- replies
 
@@ -66,12 +70,31 @@ AnswersBy g r (Refused fault) signature request old new capacity =
     IsName request.name × SignsGiven g r old new request.name (given_message request) capacity (Err fault)
 AnswersBy g r BadName signature request old new capacity = (IsName request.name → ⊥) × (new ≡ old)
 
--- The output keeps its capacity, which grows no further than the signature takes.
+-- The caches after a call of sign, by what its contract says of them: which the request made, which a refused memory
+-- left, those of new trees, and the other levels'.
+pub record SettlesCaches (before after : List Record) (found : Option (ℕ × Bound)) (old new : Cached) (room : ℕ)
+    (answer : Result (Unit {0}) SignFault) : Type 0 where
+  pub made : UnderKey before (λ key. MakesCaches key before found new room answer)
+  pub refused : UnderKey before (λ key. LeavesCaches key before after found old new answer)
+  pub signed : OnOk answer (UnderKey before (λ key. found ≡ None → HasAll key after (bottom_of key.secret) new))
+  pub begun : UnderKey before (λ key. HasBegun key after (length before) new)
+  pub kept : UnderKey before (λ key. KeepsCaches key after old new answer)
+
+-- So they are after a reply; if the signer wasn't asked, they are as they were.
+abbrev pub SettlesReply : {S R : Type 0} → Reply → (name : List ℕ) → (old new : View S R) → (room : ℕ) → Type 0
+SettlesReply Signed name old new room =
+    SettlesCaches old.records new.records (binding_at old.records name) old.cached new.cached room (Ok tt)
+SettlesReply (Refused fault) name old new room =
+    SettlesCaches old.records new.records (binding_at old.records name) old.cached new.cached room (Err fault)
+SettlesReply BadName name old new room = new.cached ≡ old.cached
+
+-- The output keeps its capacity, which grows no further than the signature takes. The caches are settled.
 abbrev pub AnswersExchange : {S R : Type 0} → store.Ghosts S → source.Ghosts R → Exchange → (old new : View S R)
     → (capacity after : ℕ) → Type 0
 AnswersExchange g r exchange old new capacity after =
     KeepsCapacity old.records capacity after
     × AnswersBy g r exchange.reply exchange.signature exchange.request old new capacity
+    × SettlesReply exchange.reply exchange.request.name old new after
 
 abbrev pub AnswersInTurn : {S R : Type 0} → store.Ghosts S → source.Ghosts R → List Exchange → (old new : View S R)
     → (capacity after : ℕ) → Type 0

@@ -2,7 +2,7 @@
 --
 -- The step speaks of the signer's own list of records, for every store; the store enters by `IsTied` and `GrowsAlike`.
 -- What may go wrong stands in fields of a chance. What callers see is tied to the chance by one field of one record
--- (`Signs`, `Creates`, `Opens`, `Retires`), never by separate clauses.
+-- (`Signs`, `Creates`, `Opens`, `OpensReplayed`, `Retires`), never by separate clauses.
 use Rattle.std.specs.Prelude.{◌≡◌, ◌⊎◌, ℕ, ◌+◌, ◌<◌, ◌≤◌, Bool, true, false, ◌||◌, IsTrue, List, [], ◌∷◌, ◌++◌, length}
 use Rattle.std.specs.Prelude.{take, zero, suc, Option, Some, None, Result, Ok, Err}
 use Rattle.typecodes.specs.declared.message.Message as message
@@ -397,11 +397,10 @@ GoesTo most (Some (slot, _)) records before after loads given (Err NoMemoryToOpe
     ⊎ ((given ≡ slot + 1) × (loads ≡ given) × (lacks : RunsOutOfMemory records) × (lacks.place ≡ slot))
 GoesTo most chance records before after loads given (Err _) = ⊥
 
--- Loading the records of a store is a step of the world, and its outcome is the answer. It asks for slot after slot
--- from 0 on, and ends at the first refusal (`GoesTo`). The records are as many as the store's, and an honest store's
--- own. The store has stopped if it had before, or after a 45; one that had is as it was. After a 43 of k it has
--- reported slot k as unreadable.
-pub record LoadsAll {S : Type 0} (g : store.Ghosts S) (old new : S) (IsAnswer : Outcome AnyPublic → Type 0)
+-- Opening on the records of a store is a step of the world, and its outcome is the answer. The records are as many as
+-- the store's, and an honest store's own. The store has stopped if it had before, or after a 45; one that had is as it
+-- was. After a 43 of k it has reported slot k as unreadable.
+pub record OpensRecords {S : Type 0} (g : store.Ghosts S) (old new : S) (IsAnswer : Outcome AnyPublic → Type 0)
     : Type 0 where
   pub records : List Record
   pub same_length : length records ≡ length (g.list old)
@@ -417,17 +416,38 @@ pub record LoadsAll {S : Type 0} (g : store.Ghosts S) (old new : S) (IsAnswer : 
   pub failures : Counts is_device_failed (g.failures old) (g.failures new) outcome.answer
   pub refusals : RefusesToOpen records outcome.answer (g.refusals old) (g.refusals new)
   pub unreadable : Collects unreadable_slot (g.unreadable old) (g.unreadable new) outcome.answer
-  pub loads : ℕ
-  pub given : ℕ
-  pub asked : g.loads new ≡ first_slots loads ++ g.loads old
-  pub gave : g.given new ≡ g.given old ++ take given records
-  pub order : GoesTo (g.most old) chance records (g.refusals old) (g.refusals new) loads given outcome.answer
   pub honest : g.honest new ≡ g.honest old
   pub most : g.most new ≡ g.most old
   pub stays : g.stopped old ≡ true → new ≡ old
+
+-- Opening by loads asks for slot after slot from 0 on, and ends at the first refusal (`GoesTo`).
+pub record LoadsAll {S : Type 0} (g : store.Ghosts S) (old new : S) (IsAnswer : Outcome AnyPublic → Type 0)
+    : Type 0 where
+  pub opening : OpensRecords g old new IsAnswer
+  pub loads : ℕ
+  pub given : ℕ
+  pub asked : g.loads new ≡ first_slots loads ++ g.loads old
+  pub gave : g.given new ≡ g.given old ++ take given opening.records
+  pub order : GoesTo (g.most old) opening.chance opening.records (g.refusals old) (g.refusals new) loads given
+      opening.outcome.answer
 
 -- A call of open loads the records, and draws nothing.
 pub record Opens {S R : Type 0} (g : store.Ghosts S) (kept_in : S) (random : R)
     (result : Result (View S R) (Refused (S × R) SignFault)) : Type 0 where
   pub loads : LoadsAll g kept_in (store_of_result result) (IsAnswered result)
+  pub same_random : random_of_result result ≡ random
+
+-- What stops an opening on records that were read before: nothing, or want of memory for one of them.
+abbrev pub LacksMemoryAt : Opening → List Record → Type 0
+LacksMemoryAt None records = Unit {0}
+LacksMemoryAt (Some (slot, NoMemoryToOpen)) records = (lacks : RunsOutOfMemory records) × (lacks.place ≡ slot)
+LacksMemoryAt (Some (slot, _)) records = ⊥
+
+-- A call of open_replayed opens on the store's own records. It leaves the store, so it loads none, and draws nothing.
+pub record OpensReplayed {S R : Type 0} (g : store.Ghosts S) (kept_in : S) (random : R)
+    (result : Result (View S R) (Refused (S × R) SignFault)) : Type 0 where
+  pub opening : OpensRecords g kept_in (store_of_result result) (IsAnswered result)
+  pub own : opening.records ≡ g.list kept_in
+  pub memory : LacksMemoryAt opening.chance opening.records
+  pub same_store : store_of_result result ≡ kept_in
   pub same_random : random_of_result result ≡ random

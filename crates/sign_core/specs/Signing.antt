@@ -6,7 +6,7 @@ use Rattle.state_file.specs.declared.record.Bound.{Bound}
 use Rattle.state_file.specs.declared.record.Key.{Key}
 use Rattle.state_file.specs.declared.record.Record.{Record}
 use Rattle.sign_core.specs.declared.fault.SignFault.{SignFault}
-use Rattle.sign_core.specs.Caches.{Cached, HasCaches, LosesCache}
+use Rattle.sign_core.specs.Caches.{Cached, HasCaches, KeepsOrRenews, LosesCache}
 use Rattle.sign_core.specs.Records.{deepest, the_key}
 use Rattle.sign_core.specs.Signer.{is_before_caches, is_before_repeat, is_fault, is_out_of_memory, signature_size}
 use Rattle.state_file.specs.Laws.{bottom_of}
@@ -49,16 +49,23 @@ MakesCaches key records None cached capacity answer =
     is_fault (is_unprepared is_before_caches) answer ≡ false
     → IsPrepared key records (deepest key.secret records) (length records) cached capacity
 
--- 29 (OutOfMemory) leaves the caches as they were, or one that the request needs couldn't be made; or a new name has
--- all that it needs, and memory was refused for a later step.
-abbrev pub LeavesCaches : {A : Type 0} → Key → List Record → Option (ℕ × Bound) → (old new : Cached)
+-- 29 (OutOfMemory) leaves the caches as they were, or one that the request needs couldn't be made. Or a new name has
+-- all that it needs, and memory was refused for a later step: then each level has the cache that it had or its current
+-- tree's.
+abbrev pub LeavesCaches : {A : Type 0} → Key → (before after : List Record) → Option (ℕ × Bound) → (old new : Cached)
     → Result A SignFault → Type 0
-LeavesCaches key records (Some (k, bound)) old new answer = is_fault is_out_of_memory answer ≡ true
-    → (new ≡ old) ⊎ LosesCache key records (bottom_of key.secret) k old new
-LeavesCaches key records None old new answer = is_fault is_out_of_memory answer ≡ true
-    → (lowest : ℕ) → deepest key.secret records ≡ Some lowest
-    → (new ≡ old) ⊎ (LosesCache key records lowest (length records) old new
-    ⊎ HasCaches key records (Some lowest) (length records) new)
+LeavesCaches key before after (Some (k, bound)) old new answer = is_fault is_out_of_memory answer ≡ true
+    → (new ≡ old) ⊎ LosesCache key before (bottom_of key.secret) k old new
+LeavesCaches key before after None old new answer = is_fault is_out_of_memory answer ≡ true
+    → (new ≡ old) ⊎ ((lowest : ℕ) × (deepest key.secret before ≡ Some lowest)
+    × (LosesCache key before lowest (length before) old new
+    ⊎ (HasCaches key before (Some lowest) (length before) new × KeepsOrRenews key after old new)))
+
+-- After any other answer each level has the cache that it had, or its current tree's. So a level whose new tree wasn't
+-- recorded has the cache that it had.
+abbrev pub KeepsCaches : {A : Type 0} → Key → List Record → (old new : Cached) → Result A SignFault → Type 0
+KeepsCaches key records old new answer =
+    is_fault is_out_of_memory answer ≡ false → KeepsOrRenews key records old new
 
 -- ---- an XMSS key
 

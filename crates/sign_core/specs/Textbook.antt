@@ -42,6 +42,7 @@ made_secret trees (Some (ExtendRecord extend)) =
     lms_secret (slice_index_or trees.pairs extend.level trees.top.pair) extend.identifier extend.seed
 made_secret trees _ = trees.top
 
+-- Requirement: RFC 8554 6, parameters
 abbrev pub secret_at : Trees → List Record → (tree : ℕ) → LmsSecret
 secret_at trees records tree = made_secret trees (slice_get records tree)
 

@@ -280,6 +280,8 @@ draw_seed (seed ∷ randomizer ∷ []) state rest = drawing (seed ++ randomizer)
 draw_seed fields state rest = drawing (concat fields) (refused state RandomFailed)
 
 -- A new tree of a level: I is drawn, which no record may have yet; then SEED and C.
+-- Requirement: RFC 8554 6, independent
+-- Requirement: RFC 8554 7.1, identifier
 abbrev pub begin_tree : {B : Type 0} → Key → (level : ℕ) → Draw → Step B (Unit {0})
 begin_tree key level chance = do
   records ← the_records
@@ -299,12 +301,15 @@ begin_trees key (suc below) draws = do
   begin_trees key below (drop 1 draws)
 
 -- C; XMSS draws none, since it makes it from the leaf's number
+-- Requirement: RFC 8554 7.1, randomizer
 abbrev pub randomizer_of_fields : Secret → (fields : List (List ℕ)) → Option (List ℕ)
 randomizer_of_fields (Xmss secret) [] = Some (replicate 32 0)
 randomizer_of_fields (Xmss secret) fields = None
 randomizer_of_fields _ (randomizer ∷ []) = Some randomizer
 randomizer_of_fields _ _ = None
 
+-- Requirement: RFC 8554 5.4.1, next
+-- Requirement: RFC 8391 4.1.9, updated
 abbrev pub bind : Key → (name : List ℕ) → Chance → Step (List ℕ) (List ℕ)
 bind key name chance = do
   old ← the_records

@@ -6,6 +6,7 @@ pub mod Ledger
 pub mod Links
 pub mod OldFile
 pub mod Progress
+pub mod Replay
 pub mod Request
 pub mod Serving
 pub mod Signer

@@ -182,24 +182,28 @@ impl Caches {
         asked.keep(kept, self.alloc)
     }
 
-    /// Replaces a level's cache by a new tree's, and answers the tree's root.
+    /// Makes a new tree, and answers its root and its cache, which no level has yet.
     pub(crate) fn begin<P: TreeProgress>(
-        &mut self,
+        &self,
         asked: TreeRequest<'_, LmsSecret, P>,
-    ) -> Result<[u8; 32], SignFault>
-        requires { asked.level < 8 }
+    ) -> Result<([u8; 32], TreeCache<LmsSecret>), SignFault>
         ensures fault { IfErr result (λ fault. fault ≡ SignFault.OutOfMemory) }
-        ensures stays { OnErr result (self.new ≡ self.old) }
-        ensures root { IfOk result (λ root. root ≡ lms_root_of asked.entry.secret) }
-        ensures there { OnOk result (HasLevel self.new asked.entry.level asked.entry.secret) }
-        ensures others { (k : ℕ) → k ≢ asked.entry.level → cache_at self.new.levels k ≡ cache_at self.old.levels k }
-        ensures xmss { self.new.xmss ≡ self.old.xmss }
+        ensures root { IfOk result (λ made. made.0 ≡ lms_root_of asked.entry.secret) }
+        ensures cache { IfOk result (λ made. made.1 ≡ asked.entry.secret) }
     {
-        let level = usize::from(asked.level);
         let cache = TreeCache::new(self.alloc, asked)?;
         let root = cache.cache.root();
-        self.levels[level] = Some(cache);
-        Ok(root)
+        Ok((root, cache))
+    }
+
+    /// Gives a level the cache of a new tree, in the place of its own.
+    pub(crate) fn renew(&mut self, level: u8, cache: TreeCache<LmsSecret>)
+        requires { level < 8 }
+        ensures there { HasLevel self.new level cache }
+        ensures others { (k : ℕ) → k ≢ level → cache_at self.new.levels k ≡ cache_at self.old.levels k }
+        ensures xmss { self.new.xmss ≡ self.old.xmss }
+    {
+        self.levels[usize::from(level)] = Some(cache);
     }
 
     /// An LMS tree, ready to sign by the leaf: from the level's cache, if that is the secret's, else made anew.

@@ -188,11 +188,11 @@ impl KeyTrees {
 }
 
 impl Caches {
-    ghost use Rattle.sign_core.specs.Caches.{HasCaches, LacksCache, LacksOwn, LosesCache, cache_at};
-    ghost use Rattle.std.specs.Prelude.{ℕ, ◌≢◌};
+    ghost use Rattle.sign_core.specs.Caches.{HasCaches, HasCurrent, LacksCache, LacksOwn, LosesCache, cache_at};
+    ghost use Rattle.std.specs.Prelude.{ℕ, ◌≢◌, ◌⊎◌};
     ghost use Rattle.state_file.specs.Laws.{IsLegal};
     ghost use Rattle.sign_core.specs.Records.{the_key};
-    ghost use Rattle.sign_core.specs.inner.Caches.{HasOwn};
+    ghost use Rattle.sign_core.specs.inner.Caches.{HasOwn, RenewsDownTo};
     ghost use Rattle.sign_core.specs.inner.Links.{AreTreesOf, IsTreeAt, MakesTrees, chain_trees};
 
     // Makes the cache of a level's current tree, where it is missing and the tree's record stands before a place.
@@ -211,6 +211,8 @@ impl Caches {
         requires within_limit { level < 8 }
         requires types { progress.now.spec ≡ types_of ledger.now.key.secret }
         ensures there { OnOk result (HasOwn (chain_trees trees.now) ledger.now.records level before self.new) }
+        ensures made { OnOk result ((cache_at self.new.levels level ≡ cache_at self.old.levels level)
+            ⊎ HasCurrent (chain_trees trees.now) ledger.now.records level self.new) }
         ensures fault { IfErr result (λ fault. fault ≡ SignFault.OutOfMemory) }
         ensures lacking { OnErr result (LacksOwn (chain_trees trees.now) ledger.now.records level before self.old) }
         ensures none { OnErr result (cache_at self.new.levels level ≡ None) }
@@ -247,6 +249,7 @@ impl Caches {
         requires stands { IsTreeAt ledger.now.records level place }
         requires types { progress.now.spec ≡ types_of ledger.now.key.secret }
         ensures kept { OnOk result (HasCaches ledger.now.key ledger.now.records (Some level) before self.new) }
+        ensures renews { OnOk result (RenewsDownTo ledger.now.key ledger.now.records level self.old self.new) }
         ensures fault { IfErr result (λ fault. fault ≡ SignFault.OutOfMemory) }
         ensures lacking { OnErr result
             (LacksCache ledger.now.key ledger.now.records (Some level) before self.old) }

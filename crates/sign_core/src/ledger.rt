@@ -7,11 +7,12 @@ ghost use Rattle.sign_core.specs.Records.{has_identifier, has_moved, is_free, th
 ghost use Rattle.sign_core.specs.Ledger.{TakesMemory};
 
 use crate::key::AnyPublic;
+use crate::replay::Replay;
 use crate::trees::{CurrentTrees, Tree};
 use arrayvec::ArrayVec;
 use hss::HssPublic;
 use lms::LmsPublic;
-use state_file::{Bound, Extend, Key, Record, RecordList, Secret, Version};
+use state_file::{Bound, Extend, Key, Record, RecordList, Secret, Taker, Version};
 use std::alloc::{AllocError, Global};
 use std::collections::HashMap;
 use std::marker::Model;
@@ -161,18 +162,15 @@ impl Ledger {
         ensures legal { OnOk result (IsLegal records.now) }
         ensures refused { IfErr result (IsRefused records.now) }
     {
-        let (first, rest) = records.split_first().ok_or(LedgerFault::Empty)?;
-        let Record::Key(key) = first else {
-            return Err(LedgerFault::Illegal(0));
-        };
-        let mut ledger = Ledger::new(alloc, key.copied());
-        for entry in rest {
-            ledger.take_up(entry)?;
+        let mut replay = Replay::new(alloc);
+        for entry in records {
+            replay.take(entry);
         }
-        Ok(ledger)
+        replay.finish()
     }
 
-    pub(crate) fn key(&self) -> &Key
+    /// The key: record 0, with its secret.
+    pub fn key(&self) -> &Key
         ensures key { result.now ≡ self.now.key }
         ensures first { the_key self.now.records ≡ Some result.now }
         ensures legal { IsLegal self.now.records }

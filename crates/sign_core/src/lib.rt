@@ -23,10 +23,13 @@
 //! assert_eq!(rt; signer.left().as_slice(), [31].as_slice());
 //! ```
 //!
-//! The contract for the crates above: each call of `create`, `open`, `sign` and `retire` is a step of the world of one
-//! key. The store, the source and the message decide its chance (`specs/Signer.antt`, `specs/World.antt`). Over every
-//! list of such steps, and of crashes at any moment, no leaf signs two digests and a name has one signature. Every
-//! signature handed out is valid (`once_law`, `specs/Headline.antt`).
+//! Where the records are in a file, `FileStore::open_into` hands them to a `Replay` as it reads, and
+//! `Signer::open_replayed` opens on these, so the file is read once.
+//!
+//! The contract for the crates above: each call of `create`, `open`, `open_replayed`, `sign` and `retire` is a step of
+//! the world of one key. The store, the source and the message decide its chance (`specs/Signer.antt`,
+//! `specs/World.antt`). Over every list of such steps, and of crashes at any moment, no leaf signs two digests and a
+//! name has one signature. Every signature handed out is valid (`once_law`, `specs/Headline.antt`).
 //!
 //! `migrate_key` moves a key to one new state file, and no crash leaves two files that can sign
 //! (`specs/Migration.antt`). The old file's runs go on across it (`moves_law`). By a `KeyProgress`,
@@ -44,6 +47,7 @@ mod laws;
 mod ledger;
 mod migration;
 mod progress;
+mod replay;
 mod serving;
 mod signer;
 mod source;
@@ -55,12 +59,14 @@ pub use crate::alarm::{Alarm, slot_behind, tell_behind};
 pub use crate::fault::{ServeFault, SignFault};
 pub use crate::key::{AnyPublic, KeyFault, verify_any};
 pub use crate::laws::{
-    after_refusal_law, calls_law, cut_law, lasting_law, ledger_laws, lives_law, moves_law,
-    once_law, opened_law, refusal_law, signer_law, sound_law, stop_law, stopped_law, textbook_laws,
+    after_refusal_law, bound_law, calls_law, cut_law, headline_law, lasting_law, ledger_laws,
+    lives_law, moves_law, not_empty_law, once_law, opened_law, refusal_law, session_law,
+    signer_law, sound_law, stop_law, stopped_law, textbook_laws, wrong_signers_law,
 };
 pub use crate::ledger::{Ledger, LedgerFault};
 pub use crate::migration::{migrate_key, migrate_key_telling};
 pub use crate::progress::{KeyProgress, SilentLeaves, TreeProgress};
+pub use crate::replay::Replay;
 pub use crate::serving::{serve, serve_telling};
 pub use crate::signer::{Signer, types_of};
 pub use crate::source::{RngSource, Source, SourceFault, TapeSource};

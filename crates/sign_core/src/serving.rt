@@ -3,7 +3,7 @@
 ghost use Rattle.std.specs.Prelude.{◌≡◌, ◌<◌, Some, vec_capacity};
 ghost use Rattle.sign_core.specs.inner.Frames.{WasReadOrFailed};
 ghost use Rattle.sign_core.specs.inner.Serving.{Asks, Finishes, Turns, WritesReply, is_unread};
-ghost use Rattle.sign_core.specs.Serving.{Serves};
+ghost use Rattle.sign_core.specs.Serving.{Serves, SettlesReply};
 ghost use Rattle.sign_core.specs.Serving.{reply_bytes, reply_frame};
 ghost use Rattle.sign_core.specs.Progress.{types_of_key};
 ghost use Rattle.sign_core.specs.Records.{the_key};
@@ -149,6 +149,7 @@ fn ask<S: Store, R: Source, M: Message, P: TreeProgress>(
     ensures asks { Asks S.Store R.Source M.Message name.now signer.old signer.new message.old message.new
         (vec_capacity signature.old) signature.new.items result }
     ensures capacity { KeepsCapacity signer.old.records (vec_capacity signature.old) (vec_capacity signature.new) }
+    ensures caches { SettlesReply result name.now signer.old signer.new (vec_capacity signature.new) }
 {
     let Ok(name) = Name::new(name) else {
         return Reply::BadName;

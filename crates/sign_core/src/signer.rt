@@ -6,7 +6,8 @@ ghost use Rattle.sign_core.specs.Records.{types_of};
 ghost use Rattle.sign_core.specs.inner.Progress.{height_at};
 ghost use Rattle.sign_core.specs.inner.Signer.{DrawsSecret, Hinders, IsTakenUp};
 ghost use Rattle.sign_core.specs.Signer.{IsTied, LoadsAll, MakesKey};
-ghost use Rattle.sign_core.specs.inner.Signer.{LoadsRecord, LooksForKey, TakesUpLoaded};
+ghost use Rattle.sign_core.specs.inner.Replay.{TakesOver};
+ghost use Rattle.sign_core.specs.inner.Signer.{LoadsRecord, LooksForKey, TakesUpLoaded, loading_fault};
 ghost use Rattle.sign_core.specs.Textbook.{HasSizes, key_root};
 ghost use Rattle.typecodes.specs.Spec.{IsSpec};
 
@@ -19,6 +20,7 @@ use crate::fault::SignFault;
 use crate::key::AnyPublic;
 use crate::ledger::{Ledger, LedgerFault};
 use crate::progress::{KeyProgress, TreeMaker, TreeProgress};
+use crate::replay::Replay;
 use crate::source::{Source, draw};
 use arrayvec::ArrayVec;
 use merkle::Silent;
@@ -160,14 +162,32 @@ fn load_at<S: Store>(store: &mut S, slot: u32) -> Result<Option<Record>, SignFau
     }
 }
 
+// What an opening answers where a record is refused.
+fn loading_fault(fault: LedgerFault) -> SignFault
+    ensures { result ≡ loading_fault fault }
+{
+    match fault {
+        LedgerFault::Empty => SignFault::NoKey,
+        LedgerFault::Illegal(place) => SignFault::Illegal(place),
+        LedgerFault::OutOfMemory => SignFault::NoMemoryToOpen,
+    }
+}
+
 // Takes up the next loaded record: 44 where it can't follow, else 46.
 fn take_up(ledger: &mut Ledger, entry: &Record) -> Result<(), SignFault>
     ensures { TakesUpLoaded ledger.old ledger.new entry.now result }
 {
-    ledger.take_up(entry).map_err(|fault| match fault {
-        LedgerFault::Illegal(place) => SignFault::Illegal(place),
-        LedgerFault::Empty | LedgerFault::OutOfMemory => SignFault::NoMemoryToOpen,
-    })
+    ledger.take_up(entry).map_err(loading_fault)
+}
+
+// The ledger of the records that a replay took, with an opening's faults.
+fn take_over(replay: Replay) -> Result<Ledger, SignFault>
+    ensures { TakesOver replay result }
+{
+    let ledger = replay.finish().map_err(loading_fault)?;
+    // For the prover: its records have their sizes.
+    let _key = ledger.key();
+    Ok(ledger)
 }
 
 // Loads the records of a store in their order, and takes them up.
@@ -196,7 +216,8 @@ impl<S: Store, R: Source> Signer<S, R> {
     ghost use Rattle.state_file.specs.declared.record.Key.{Key as K};
     ghost use Rattle.sign_core.specs.Textbook.{public_of_key};
     ghost use Rattle.sign_core.specs.inner.Signer.{Adds, HoldsParts, AreBottomLeaves};
-    ghost use Rattle.sign_core.specs.Signer.{Creates, Opens, Retires, is_before_caches, is_before_repeat};
+    ghost use Rattle.sign_core.specs.Signer.{Creates, Opens, OpensReplayed, Retires, is_before_caches};
+    ghost use Rattle.sign_core.specs.Signer.{is_before_repeat};
     ghost use Rattle.sign_core.specs.Signing.{is_unprepared};
     ghost use Rattle.sign_core.specs.Ledger.{TakesMemory};
     ghost use Rattle.state_file.specs.Slot.{FitsVersion, file_version};
@@ -266,6 +287,25 @@ impl<S: Store, R: Source> Signer<S, R> {
     {
         let loaded = load_all(alloc, &mut store);
         Signer::holding(alloc, store, random, loaded)
+    }
+
+    /// Opens the signer on the records of a store that a replay took, as `FileStore::open_into` hands them over. It
+    /// loads no slot, and leaves the store as it was. The refusals are those of `open` where each load succeeds: 40, 44
+    /// and 46, by the earliest record. A refusal gives back the store and the source.
+    ///
+    /// The store must run, and the replay must have taken its records.
+    pub fn open_replayed(
+        store: S,
+        random: R,
+        replay: Replay,
+    ) -> Result<Self, Refused<(S, R), SignFault>>
+        requires running { S.stopped store ≡ false }
+        requires taken { replay ≡ S.list store }
+        ensures { OpensReplayed S.Store store random result }
+    {
+        let alloc = replay.alloc();
+        let taken = take_over(replay);
+        Signer::holding(alloc, store, random, taken)
     }
 
     // The open signer of a store's records in memory; or the refusal, with what was given.

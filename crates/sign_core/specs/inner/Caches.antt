@@ -1,9 +1,9 @@
 -- What a cache keeps of a secret's tree, and which caches a step makes or leaves.
-use Rattle.std.specs.Prelude.{◌≡◌, ℕ, ◌<◌, ◌≤◌, List, Some}
+use Rattle.std.specs.Prelude.{◌≡◌, ◌⊎◌, ℕ, ◌<◌, ◌≤◌, List, Some}
 use Rattle.merkle.specs.Tree.{Joins, Leaves}
 use Rattle.state_file.specs.declared.record.Key.{Key}
 use Rattle.state_file.specs.declared.record.Record.{Record}
-use Rattle.sign_core.specs.Caches.{Cached, HasLevel, cache_at}
+use Rattle.sign_core.specs.Caches.{Cached, HasLevel, HasRenewed, HasXmss, cache_at}
 use Rattle.sign_core.specs.Records.{current}
 use Rattle.sign_core.specs.Textbook.{Trees, secret_at, trees_of}
 
@@ -29,3 +29,9 @@ abbrev pub HasBegunTo : Key → List Record → (level start : ℕ) → Cached �
 HasBegunTo key records level start cached = (trees : Trees) (lower tree : ℕ) → trees_of key.secret ≡ Some trees
     → current lower records ≡ Some tree → start ≤ tree
     → (lower ≤ level) × HasLevel cached lower (secret_at trees records tree)
+
+-- Each level has the cache that it had; or, down to this one, its current tree's.
+pub record RenewsDownTo (key : Key) (records : List Record) (lowest : ℕ) (old new : Cached) : Type 0 where
+  pub levels : (level : ℕ) → (cache_at new.levels level ≡ cache_at old.levels level)
+      ⊎ ((level ≤ lowest) × HasRenewed key records level new)
+  pub xmss : (new.xmss ≡ old.xmss) ⊎ HasXmss key new

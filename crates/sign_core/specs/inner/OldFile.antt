@@ -1,13 +1,12 @@
 -- What private functions alone cite of `OldFile.antt`'s subject.
-use Rattle.std.specs.Prelude.{◌≡◌, ℕ, ◌<◌, ◌≤◌, Bool, false, IsTrue, IfErr, IfOk, OnOk, List, [], ◌∷◌, ◌++◌, length}
-use Rattle.std.specs.Prelude.{true, Option, Some, None, Result, Ok, Err}
+use Rattle.std.specs.Prelude.{◌≡◌, ℕ, false, IsTrue, IfErr, IfOk, List, []}
+use Rattle.std.specs.Prelude.{Some, Result, Ok, Err}
 use Rattle.state_file.specs.Disk.{DiskState, LeavesOnly, MayLeave, settled}
-use Rattle.state_file.specs.DiskCalls.{CountsFailures, OnlyReads}
-use Rattle.state_file.specs.FileStore.{disk_of_result, disk_of, has_stopped, outcome_of, records_of}
+use Rattle.state_file.specs.DiskCalls.{CountsFailures}
+use Rattle.state_file.specs.FileStore.{disk_of_result, has_stopped, outcome_of, records_of}
 use Rattle.state_file.specs.Laws.{IsLegal}
 use Rattle.state_file.specs.MigrateFault.{is_failed_migration}
 use Rattle.state_file.specs.Slot.{file_version}
-use Rattle.state_file.specs.Store.{IsRecordAt}
 use Rattle.state_file.specs.declared.disk.Disk as disk
 use Rattle.state_file.specs.declared.migration.MigrateFault.{MigrateFault}
 use Rattle.state_file.specs.declared.migration.MigrateFault.TheVariants.{NoKey, NotKeyFile, Version as VersionFault}
@@ -16,44 +15,15 @@ use Rattle.state_file.specs.declared.record.Record.{Record}
 use Rattle.state_file.specs.declared.record.Version.TheVariants.{One, Two}
 use Rattle.state_file.specs.declared.refused.Refused.{Refused}
 use Rattle.state_file.specs.declared.store.file_store.FileStore.{FileStore}
-use Rattle.sign_core.specs.inner.Ledger.{LacksRoom}
-use Rattle.sign_core.specs.Ledger.{RunsOutOfMemory, Table}
-use Rattle.sign_core.specs.Records.{can_follow, first_illegal}
+use Rattle.sign_core.specs.Ledger.{RunsOutOfMemory}
+use Rattle.sign_core.specs.Records.{first_illegal}
 use Rattle.sign_core.specs.OldFile.{SpellsMovable, ReportsOld}
 
--- A store is read, and nothing else; its records stay, and it runs unless its device failed.
-pub record ReadsRecords {D A : Type 0} (d : disk.Ghosts D) (old new : FileStore D d) (answer : Result A MigrateFault)
-    : Type 0 where
-  pub records : records_of new ≡ records_of old
-  pub reads : IsTrue (d.honest (disk_of old)) → OnlyReads d.state d.moment d.left_since (disk_of old) (disk_of new)
-  pub counts : CountsFailures d is_failed_migration (disk_of old) (disk_of new) answer
-  pub running : OnOk answer (has_stopped new ≡ false)
-
-abbrev pub FindsRecord : (honest : Bool) → List Record → (k : ℕ) → Result (Option Record) MigrateFault → Type 0
-FindsRecord honest list k (Ok None) = length list ≤ k
-FindsRecord honest list k (Ok (Some entry)) = (k < length list) × IsRecordAt honest list k entry
-FindsRecord honest list k (Err (Damaged slot)) = honest ≡ false
-FindsRecord honest list k (Err DeviceFailed) = Unit {0}
-FindsRecord honest list k (Err _) = ⊥
-
--- Taking up the next record: it follows the others; or it can't, and its place is answered; or it could, and there is
--- no memory for it.
-abbrev pub TakesUpNext : (old new : Table) (entry : Record) → Result (Unit {0}) MigrateFault → Type 0
-TakesUpNext old new entry (Ok done) =
-    (can_follow (Some old.key) old.records entry ≡ true) × (new.key ≡ old.key)
-    × (new.records ≡ old.records ++ entry ∷ [])
-TakesUpNext old new entry (Err (Illegal k)) =
-    (can_follow (Some old.key) old.records entry ≡ false) × (k ≡ length old.records)
-TakesUpNext old new entry (Err OutOfMemory) =
-    (can_follow (Some old.key) old.records entry ≡ true) × LacksRoom entry old
-TakesUpNext old new entry (Err _) = ⊥
-
--- What each refusal says of the records of an honest store. That they are legal comes before their version.
+-- What each refusal says of the records. That they are legal comes before their version.
 abbrev pub RefusesRecords : List Record → MigrateFault → Type 0
 RefusesRecords records NoKey = records ≡ []
 RefusesRecords records VersionFault = IsLegal records × (file_version records ≡ Two)
 RefusesRecords records (Illegal k) = first_illegal records ≡ Some k
-RefusesRecords records DeviceFailed = Unit {0}
 RefusesRecords records OutOfMemory = RunsOutOfMemory records
 RefusesRecords records _ = ⊥
 

@@ -15,7 +15,10 @@ use Rattle.sign_core.specs.declared.key.AnyPublic.{AnyPublic}
 use Rattle.sign_core.specs.declared.fault.SignFault.{SignFault}
 use Rattle.sign_core.specs.declared.fault.SignFault.TheVariants.{DeviceFailed, NoMemoryToOpen, OutOfMemory, KeyThere}
 use Rattle.sign_core.specs.declared.fault.SignFault.TheVariants.{RandomFailed, StoreFailed, Illegal, Moved, Stopped}
-use Rattle.sign_core.specs.declared.fault.SignFault.TheVariants.{Unreadable}
+use Rattle.sign_core.specs.declared.fault.SignFault.TheVariants.{NoKey, Unreadable}
+use Rattle.sign_core.specs.declared.ledger.LedgerFault.{LedgerFault}
+use Rattle.sign_core.specs.declared.ledger.LedgerFault.TheVariants.{Empty, Illegal as IllegalRecord}
+use Rattle.sign_core.specs.declared.ledger.LedgerFault.TheVariants.{OutOfMemory as NoMemory}
 use Rattle.sign_core.specs.declared.source.Source as source
 use Rattle.sign_core.specs.Source.{Provides}
 use Rattle.sign_core.specs.Records.{can_follow, the_key, leaves_of_current, next_at}
@@ -131,6 +134,12 @@ pub record LoadsRecord {S : Type 0} (g : store.Ghosts S) (old new : S) (k : ℕ)
   pub honest : g.honest new ≡ g.honest old
   pub most : g.most new ≡ g.most old
   pub stays : g.stopped old ≡ true → new ≡ old
+
+-- what an opening answers where records aren't taken up
+abbrev pub loading_fault : LedgerFault → SignFault
+loading_fault Empty = NoKey
+loading_fault (IllegalRecord k) = Illegal k
+loading_fault NoMemory = NoMemoryToOpen
 
 -- Taking up the next record, by the answer: it follows the others; or it can't, and its place is answered; or it could,
 -- and there is no memory for it.

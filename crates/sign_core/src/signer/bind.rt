@@ -1,20 +1,26 @@
 //! A new name: room for its records and signature, its new trees, its binding, and its signature.
 
 ghost use Rattle.std.specs.Prelude.{◌≡◌, ◌<◌, ◌-◌, [], None, Some, true, false, length, vec_capacity};
-ghost use Rattle.std.specs.Prelude.{◌+◌, ◌⊎◌, ℕ, IfErr, OnErr, OnOk};
+ghost use Rattle.std.specs.Prelude.{◌+◌, ◌≢◌, ◌^◌, ◌⊎◌, ℕ, IfErr, OnErr, OnOk};
 ghost use Rattle.state_file.specs.Laws.{levels_of, bottom_of};
-ghost use Rattle.sign_core.specs.Records.{binding_at, free_at, has_moved, is_long, the_key};
+ghost use Rattle.sign_core.specs.Records.{binding_at, can_follow, free_at, has_moved, is_long, the_key};
 ghost use Rattle.sign_core.specs.Progress.{types_of_key};
 ghost use Rattle.sign_core.specs.inner.Request.{Prepares};
 ghost use Rattle.sign_core.specs.inner.Signing.{BindsBelow, BindsNext, CanBind, DrawsTree, Extends};
 ghost use Rattle.sign_core.specs.inner.Signing.{IsReady, Stands};
-ghost use Rattle.sign_core.specs.Caches.{HasAll, HasBegun, LosesCache};
-ghost use Rattle.sign_core.specs.inner.Caches.{HasBegunTo, KeepsDownTo};
+ghost use Rattle.state_file.specs.declared.record.Record.TheVariants.{Extend as ExtendRecord};
+ghost use Rattle.state_file.specs.Slot.{FitsVersion, file_version};
+ghost use Rattle.sign_core.specs.Caches.{Cached, HasAll, HasBegun, HasLevel, KeepsOrRenews, LosesCache, cache_at};
+ghost use Rattle.sign_core.specs.Ledger.{TakesMemory};
+ghost use Rattle.sign_core.specs.Textbook.{HasSizes};
+ghost use Rattle.sign_core.specs.inner.Caches.{HasBegunTo, KeepsDownTo, RenewsDownTo};
+ghost use Rattle.sign_core.specs.inner.Signer.{Adds};
 ghost use Rattle.sign_core.specs.Signer.{is_before_caches};
-ghost use Rattle.sign_core.specs.Signing.{IsPrepared, KeepsCapacity, UnderKey, answered_value, is_unprepared};
+ghost use Rattle.sign_core.specs.Signing.{IsPrepared, KeepsCaches, KeepsCapacity, UnderKey, answered_value};
+ghost use Rattle.sign_core.specs.Signing.{is_unprepared};
 
 use super::Signer;
-use crate::caches::TreeRequest;
+use crate::caches::{TreeCache, TreeRequest};
 use crate::fault::SignFault;
 use crate::key_trees::SecretTrees;
 use crate::ledger::{Binding, Ledger};
@@ -69,6 +75,10 @@ impl<S: Store, R: Source> Signer<S, R> {
             ⊎ LosesCache key self.old.records level (length self.old.records) self.old.cached self.new.cached)) }
         ensures prepared { OnOk result (UnderKey self.old.records (λ key. IsPrepared key self.old.records (Some level)
             (length self.old.records) self.new.cached (vec_capacity out.new))) }
+        ensures renews { OnOk result (UnderKey self.old.records (λ key.
+            RenewsDownTo key self.old.records level self.old.cached self.new.cached)) }
+        ensures kept { OnErr result (UnderKey self.old.records (λ key.
+            KeepsCaches key self.old.records self.old.cached self.new.cached result)) }
     {
         let wanted = self.ledger.key().secret.levels() - level;
         if u64::from(self.ledger.len()) + u64::from(wanted) > u64::from(self.store.limit()) {
@@ -106,9 +116,13 @@ impl<S: Store, R: Source> Signer<S, R> {
             HasAll key self.old.records level self.old.cached
             → HasAll key self.new.records (level + 1) self.new.cached)) }
         ensures stays { OnErr result (self.new.records ≡ self.old.records) }
+        ensures stays_cached { OnErr result (self.new.cached ≡ self.old.cached) }
         ensures begun { OnOk result (UnderKey self.old.records (λ key. (start : ℕ)
             → HasBegunTo key self.old.records level start self.old.cached
             → HasBegunTo key self.new.records (level + 1) start self.new.cached)) }
+        ensures renews { OnOk result (UnderKey self.old.records (λ key. (first : Cached)
+            → RenewsDownTo key self.old.records level first self.old.cached
+            → RenewsDownTo key self.new.records (level + 1) first self.new.cached)) }
     {
         let Some(parent) = self.ledger.current(level) else {
             unreachable!()
@@ -119,12 +133,12 @@ impl<S: Store, R: Source> Signer<S, R> {
         let below = level + 1;
         let (secret, randomizer) = draw_tree(chain.pair(below), &mut self.random, &self.ledger)?;
         let asked = TreeRequest::new(below, secret, 0, progress);
-        let root = self.caches.begin(asked)?;
+        let (root, cache) = self.caches.begin(asked)?;
         let public = LmsPublic::of(&secret, root).to_bytes();
         let signer = chain.secret_at(&self.ledger, parent.place);
         let (identifier, leaf) = (signer.identifier, parent.next);
         let digest = LmOts { identifier, leaf }.message_digest(&randomizer, &public);
-        self.add(Record::Extend(Extend {
+        let extend = Extend {
             level: below,
             parent_leaf: leaf,
             identifier: secret.identifier,
@@ -132,7 +146,31 @@ impl<S: Store, R: Source> Signer<S, R> {
             randomizer,
             digest,
             root,
-        }))
+        };
+        self.add_tree(extend, cache)
+    }
+
+    // Appends a new tree's record. Its level has the tree's cache from then on, and else the cache that it had.
+    fn add_tree(&mut self, extend: Extend, cache: TreeCache<LmsSecret>) -> Result<(), SignFault>
+        requires within { extend.level < 8 }
+        requires open { self.old.is_open ≡ true }
+        requires follows { can_follow (the_key self.old.records) self.old.records (ExtendRecord extend) ≡ true }
+        requires fits { FitsVersion (file_version self.old.records) (ExtendRecord extend) }
+        requires sizes { HasSizes (ExtendRecord extend) }
+        requires within_limit { length self.old.records < S.most self.old.store }
+        requires counted { length self.old.records < 2 ^ 32 - 1 }
+        requires room { TakesMemory (ExtendRecord extend) → 0 < self.old.spare }
+        ensures adds { Adds S.Store self.old self.new (ExtendRecord extend) result }
+        ensures there { OnOk result (HasLevel self.new.cached extend.level cache) }
+        ensures stays { OnErr result (self.new.cached ≡ self.old.cached) }
+        ensures others { (k : ℕ) → k ≢ extend.level
+            → cache_at self.new.cached.levels k ≡ cache_at self.old.cached.levels k }
+        ensures xmss { self.new.cached.xmss ≡ self.old.cached.xmss }
+    {
+        let level = extend.level;
+        self.add(Record::Extend(extend))?;
+        self.caches.renew(level, cache);
+        Ok(())
     }
 
     // Binds a name to the next leaf of the bottom tree: draws C, reads the message, and appends the record. Answers
@@ -195,6 +233,9 @@ impl<S: Store, R: Source> Signer<S, R> {
         ensures begun { UnderKey self.old.records (λ key. (start : ℕ)
             → HasBegunTo key self.old.records level start self.old.cached
             → HasBegun key self.new.records start self.new.cached) }
+        ensures renews { UnderKey self.old.records (λ key. (first : Cached)
+            → RenewsDownTo key self.old.records level first self.old.cached
+            → KeepsOrRenews key self.new.records first self.new.cached) }
     {
         let levels = self.ledger.key().secret.levels();
         if level + 1 < levels {

@@ -5,7 +5,8 @@ ghost use Rattle.sign_core.specs.Signer.{KeepsForRepeat, is_before_repeat, is_fa
 ghost use Rattle.sign_core.specs.inner.Signing.{IsBindingOf, IsSomeBinding, RepeatsBinding};
 ghost use Rattle.sign_core.specs.Records.{binding_at, the_key, types_of};
 ghost use Rattle.sign_core.specs.Progress.{types_of_key};
-ghost use Rattle.sign_core.specs.Signing.{KeepsCapacity, LeavesCaches, MakesCaches, UnderKey, answered_value};
+ghost use Rattle.sign_core.specs.Signing.{KeepsCaches, KeepsCapacity, LeavesCaches, MakesCaches, UnderKey};
+ghost use Rattle.sign_core.specs.Signing.{answered_value};
 
 use super::Signer;
 use crate::caches::{Caches, TreeRequest};
@@ -96,8 +97,10 @@ impl<S: Store, R: Source> Signer<S, R> {
             → IsBindingOf self.old.records binding.now key name → MakesCaches key self.old.records
             (binding_at self.old.records name) self.new.cached (vec_capacity out.new) result) }
         ensures refused { UnderKey self.old.records (λ key. (name : List ℕ)
-            → IsBindingOf self.old.records binding.now key name → LeavesCaches key self.old.records
+            → IsBindingOf self.old.records binding.now key name → LeavesCaches key self.old.records self.new.records
             (binding_at self.old.records name) self.old.cached self.new.cached result) }
+        ensures kept { UnderKey self.old.records (λ key.
+            KeepsCaches key self.old.records self.old.cached self.new.cached result) }
     {
         let secret = &self.ledger.key().secret;
         let trees = SecretTrees::of(secret);

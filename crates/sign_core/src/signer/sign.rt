@@ -9,7 +9,7 @@ ghost use Rattle.state_file.specs.Laws.{bottom_of, levels_of};
 ghost use Rattle.sign_core.specs.Records.{binding_at, the_key};
 ghost use Rattle.sign_core.specs.Progress.{types_of_key};
 ghost use Rattle.sign_core.specs.Signer.{KeepsForRepeat, Signs, is_before_repeat, is_fault};
-ghost use Rattle.sign_core.specs.Signing.{IsXmssKey, KeepsCapacity, LeavesCaches};
+ghost use Rattle.sign_core.specs.Signing.{IsXmssKey, KeepsCaches, KeepsCapacity, LeavesCaches};
 ghost use Rattle.sign_core.specs.Signing.{MakesCaches, UnderKey, answered_value};
 ghost use Rattle.typecodes.specs.Message.{Digests};
 ghost use Rattle.sign_core.specs.inner.Signing.{DrawsRandomizer};
@@ -114,7 +114,8 @@ impl<S: Store, R: Source> Signer<S, R> {
     /// but 29, `out` has room for a signature, and the caches are there that the request needed. 29 leaves the caches
     /// as they were; or a level has none, those above it have theirs, and those below are as they were; or a new name
     /// has all that it needs, and a later step was refused. After the Ok of a new name each current tree has its cache.
-    /// A new tree whose record is acknowledged has its cache, whatever is answered.
+    /// A new tree whose record is acknowledged has its cache, whatever is answered. Each other level has the cache that
+    /// it had or its current tree's, but for the 29 that left it none.
     pub fn sign<M: Message>(
         &mut self,
         name: &Name,
@@ -130,12 +131,14 @@ impl<S: Store, R: Source> Signer<S, R> {
             KeepsForRepeat self.old self.new (is_fault is_before_repeat result) }
         ensures caches { UnderKey self.old.records (λ key. MakesCaches key self.old.records
             (binding_at self.old.records name.now) self.new.cached (vec_capacity out.new) result) }
-        ensures refused { UnderKey self.old.records (λ key. LeavesCaches key self.old.records
+        ensures refused { UnderKey self.old.records (λ key. LeavesCaches key self.old.records self.new.records
             (binding_at self.old.records name.now) self.old.cached self.new.cached result) }
         ensures signed { OnOk result (UnderKey self.old.records (λ key. binding_at self.old.records name.now ≡ None
             → HasAll key self.new.records (bottom_of key.secret) self.new.cached)) }
         ensures begun { UnderKey self.old.records (λ key.
             HasBegun key self.new.records (length self.old.records) self.new.cached) }
+        ensures kept { UnderKey self.old.records (λ key.
+            KeepsCaches key self.new.records self.old.cached self.new.cached result) }
     {
         let silent = Silent::new();
         let progress = KeyProgress::of(&self.spec(), &silent);
@@ -160,12 +163,14 @@ impl<S: Store, R: Source> Signer<S, R> {
             KeepsForRepeat self.old self.new (is_fault is_before_repeat result) }
         ensures caches { UnderKey self.old.records (λ key. MakesCaches key self.old.records
             (binding_at self.old.records name.now) self.new.cached (vec_capacity out.new) result) }
-        ensures refused { UnderKey self.old.records (λ key. LeavesCaches key self.old.records
+        ensures refused { UnderKey self.old.records (λ key. LeavesCaches key self.old.records self.new.records
             (binding_at self.old.records name.now) self.old.cached self.new.cached result) }
         ensures signed { OnOk result (UnderKey self.old.records (λ key. binding_at self.old.records name.now ≡ None
             → HasAll key self.new.records (bottom_of key.secret) self.new.cached)) }
         ensures begun { UnderKey self.old.records (λ key.
             HasBegun key self.new.records (length self.old.records) self.new.cached) }
+        ensures kept { UnderKey self.old.records (λ key.
+            KeepsCaches key self.new.records self.old.cached self.new.cached result) }
     {
         let signed = self.sign_into(name, message, out, progress);
         cleared_at_fault(signed, out)
@@ -191,12 +196,14 @@ impl<S: Store, R: Source> Signer<S, R> {
             KeepsForRepeat self.old self.new (is_fault is_before_repeat result) }
         ensures caches { UnderKey self.old.records (λ key. MakesCaches key self.old.records
             (binding_at self.old.records name.now) self.new.cached (vec_capacity out.new) result) }
-        ensures refused { UnderKey self.old.records (λ key. LeavesCaches key self.old.records
+        ensures refused { UnderKey self.old.records (λ key. LeavesCaches key self.old.records self.new.records
             (binding_at self.old.records name.now) self.old.cached self.new.cached result) }
         ensures signed { OnOk result (UnderKey self.old.records (λ key. binding_at self.old.records name.now ≡ None
             → HasAll key self.new.records (bottom_of key.secret) self.new.cached)) }
         ensures begun { UnderKey self.old.records (λ key.
             HasBegun key self.new.records (length self.old.records) self.new.cached) }
+        ensures kept { UnderKey self.old.records (λ key.
+            KeepsCaches key self.new.records self.old.cached self.new.cached result) }
     {
         // 26, 31
         self.check_open()?;

@@ -18,7 +18,7 @@ struct Awaited<'a> {
     made: u64,
 }
 
-// Awaits these trees in order. None once it is told of another tree, or of leaves out of order.
+// Awaits these trees in order. None once it hears of another tree, or of leaves out of order.
 #[derive(Drop)]
 struct Listener<'a> {
     awaited: Cell<Option<Awaited<'a>>>,

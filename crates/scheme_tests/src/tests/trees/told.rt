@@ -28,7 +28,7 @@ impl Numbers {
     }
 }
 
-// Notes what it is told.
+// Notes what it hears.
 #[derive(Drop)]
 struct Heard<'a> {
     last: u64,

@@ -1,6 +1,7 @@
 use Rattle.std.proofs.Common.{◌≡◌, ◌∙◌, ◌-◌, Some, ap, subst, sym, arith}
 use Rattle.sign_core.specs.Caches.{HasCaches, cache_at}
 use Rattle.sign_core.specs.Textbook.{trees_of}
+use Rattle.sign_core.specs.inner.Caches.{RenewsDownTo}
 use Rattle.sign_core.specs.inner.Links.{MakesTrees, chain_trees}
 use Rattle.sign_core.proofs.Heights.{height_of_xmss}
 use Rattle.sign_core.proofs.KeptCaches.{kept_level, lacks_level, on_err, on_ok}
@@ -8,6 +9,7 @@ use Rattle.sign_core.proofs.BegunCaches.{both_err}
 use Rattle.sign_core.proofs.LinkParts.{IsUnder, is_under, top_level}
 use Rattle.sign_core.proofs.Signs.{is_none}
 use Rattle.sign_core.proofs.LostCaches.{loses_level}
+use Rattle.sign_core.proofs.RenewedCaches.{not_xmss, renews_level, renews_same, renews_xmss}
 use Rattle.sign_core.proofs.caches.Caches.+keep_trees.Goals.{In-Some, in-Some+in_ok-keep_trees, in_default}
 use Rattle.sign_core.proofs.caches.Caches.+keep_trees.Goals as goal
 
@@ -87,6 +89,7 @@ returns-clause-loses g t c =
           (λ lacks none. loses_level l.key T l.records a.level a.before a.self.now c.match-made.self c.keep_current.new.self these
           (λ some. subst (HasCaches l.key l.records (Some (a.level - 1)) a.before) (sym w.self-is) w.in_ok-keep_trees.ensures.kept)
           (λ k low. ap (λ x. cache_at x.levels k) w.self-is ∙ w.keep_trees.ensures.others k (omega (arith, below, low)))
+          (ap (λ x. x.xmss) w.self-is ∙ not_xmss l.key T a.self.now w.keep_trees.new.self these w.in_ok-keep_trees.ensures.renews.xmss)
           lacks none others c.keep_current.ensures.xmss)
           c.keep_current.ensures.lacking c.keep_current.ensures.none
       | in_default w ↦
@@ -95,6 +98,38 @@ returns-clause-loses g t c =
           (λ lacks none. loses_level l.key T l.records a.level a.before a.self.now c.match-made.self c.keep_current.new.self these
           (λ some. absurd (omega (arith, some, top)))
           (λ k low. ap (λ x. cache_at x.levels k) w.self-is)
+          (ap (λ x. x.xmss) w.self-is)
           lacks none others c.keep_current.ensures.xmss)
           c.keep_current.ensures.lacking c.keep_current.ensures.none
+    ]
+
+pub returns-in-Xmss-clause-renews : goal.returns-in-Xmss-clause-renews
+returns-in-Xmss-clause-renews g t c =
+    let a = c.args in
+    on_ok c.keep_xmss.result (λ there. renews_xmss a.ledger.now.key a.ledger.now.records a.level _ a.self.now c.keep_xmss.new.self
+    (subst (MakesTrees a.ledger.now.key.secret) c.in-Xmss.is c.requires.trees) c.keep_xmss.ensures.levels
+    (there ∙ ap Some c.new.ensures.secret)) c.keep_xmss.ensures.there
+
+pub returns-clause-renews : goal.returns-clause-renews
+returns-clause-renews g t c =
+    let a = c.args in
+    let l = a.ledger.now in
+    let T = chain_trees c.in-Chain.trees in
+    let these : trees_of l.key.secret ≡ Some T = subst (MakesTrees l.key.secret) c.in-Chain.is c.requires.trees in
+    elim c.match-made.branch [
+      | in-Some+in_ok-keep_trees w ↦
+          let below = (is_under l.key T l.records a.level a.place w.in-Some.made c.requires.legal c.requires.keyed these c.requires.stands
+          (sym c.made.ensures ∙ w.in-Some.is)).some in
+          on_ok c.keep_current.result
+          (renews_level l.key T l.records a.level a.self.now c.match-made.self c.keep_current.new.self these
+          (subst (RenewsDownTo l.key l.records (a.level - 1) a.self.now) (sym w.self-is) w.in_ok-keep_trees.ensures.renews)
+          (ap (λ x. cache_at x.levels a.level) w.self-is ∙ w.keep_trees.ensures.others a.level (omega (arith, below)))
+          c.keep_current.ensures.others c.keep_current.ensures.xmss)
+          c.keep_current.ensures.made
+      | in_default w ↦
+          on_ok c.keep_current.result
+          (renews_level l.key T l.records a.level a.self.now c.match-made.self c.keep_current.new.self these
+          (renews_same l.key l.records (a.level - 1) a.self.now c.match-made.self w.self-is) (ap (λ x. cache_at x.levels a.level) w.self-is)
+          c.keep_current.ensures.others c.keep_current.ensures.xmss)
+          c.keep_current.ensures.made
     ]

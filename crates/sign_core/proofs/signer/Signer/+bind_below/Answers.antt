@@ -5,7 +5,7 @@ use Rattle.state_file.specs.declared.record.Key.{Key}
 use Rattle.state_file.specs.declared.record.Record.TheVariants.{Bound as BoundRecord}
 use Rattle.state_file.specs.declared.record.Record.{Record}
 use Rattle.sign_core.specs.declared.fault.SignFault.{SignFault}
-use Rattle.sign_core.specs.Caches.{Cached, HasAll, HasBegun}
+use Rattle.sign_core.specs.Caches.{Cached, HasAll, HasBegun, KeepsOrRenews}
 use Rattle.sign_core.specs.Signing.{answered_value}
 use Rattle.sign_core.specs.Progress.{types_of_key}
 use Rattle.sign_core.specs.Records.{is_long, the_key, types_of}
@@ -19,6 +19,7 @@ use Rattle.sign_core.proofs.ChainParts.{same_key}
 use Rattle.sign_core.proofs.BindsBelow.{Recorded, at_end, binds_below_after, binds_below_refused, is_recorded, key_after, ready_after, unbound_after}
 use Rattle.sign_core.proofs.Heights.{types_are}
 use Rattle.sign_core.proofs.KeptCaches.{anyway, has_bound, keeps_below, keeps_same, on_ok}
+use Rattle.sign_core.proofs.RenewedCaches.{renews_bound, renews_stay}
 use Rattle.sign_core.proofs.Stays.{key_stays, some_keyed}
 use Rattle.sign_core.proofs.signer.Signer.+bind_below.Goals as goal
 
@@ -277,3 +278,35 @@ returns-clause-begun g t c key keyed start begun =
     let after = begun_bound key a.self.now.records a.level start bound a.self.now.cached keyed begun in
     subst (λ w. HasBegun key w.records start w.cached) (sym view)
     (subst (λ (x : List Record × Cached). HasBegun key x.0 start x.1) (λ i. (sym last.grown i, sym c.in_ok-binding.ensures.cached i)) after)
+
+-- ---- the caches of the other levels
+
+pub returns-in_err-extend-clause-renews : goal.returns-in_err-extend-clause-renews
+returns-in_err-extend-clause-renews g t c key keyed first renews =
+    let a = c.args in
+    renews_stay key a.self.now.records c.extend.new.self.records a.level first a.self.now.cached c.extend.new.self.cached
+    c.in_err-extend.ensures.stays c.in_err-extend.ensures.stays_cached renews
+
+pub returns-then-level-levels-clause-renews : goal.returns-then-level-levels-clause-renews
+returns-then-level-levels-clause-renews g t c key keyed first renews =
+    let a = c.args in
+    let after : Recorded g.S.Store a.self.now c.extend.new.self =
+    is_recorded g.S.Store g.R.Source (a.level + 1) a.self.now c.extend.new.self key (c.in_ok-extend.ensures.step key keyed) in
+    c.bind_below.ensures.renews key (key_after g.S.Store a.self.now c.extend.new.self key after keyed) first
+    (c.in_ok-extend.ensures.renews key keyed first renews)
+
+pub returns-in_err-binding-clause-renews : goal.returns-in_err-binding-clause-renews
+returns-in_err-binding-clause-renews g t c key keyed first renews =
+    let a = c.args in
+    renews_stay key a.self.now.records c.bind.new.self.records a.level first a.self.now.cached c.bind.new.self.cached
+    c.in_err-binding.ensures.stays c.in_err-binding.ensures.cached renews
+
+pub returns-clause-renews : goal.returns-clause-renews
+returns-clause-renews g t c key keyed first renews =
+    let a = c.args in
+    let whole = c.self-2.inside in
+    let (bound, binds_below, last) = c.in_ok-binding.ensures.step key keyed in
+    let view = ap (λ y. view_of whole.store whole.random whole.ledger y whole.is_open) c.write_bound.ensures.caches ∙ c.self-2.view_is in
+    let after = renews_bound key a.self.now.records a.level bound first a.self.now.cached keyed renews in
+    subst (λ w. KeepsOrRenews key w.records first w.cached) (sym view)
+    (subst (λ (x : List Record × Cached). KeepsOrRenews key x.0 first x.1) (λ i. (sym last.grown i, sym c.in_ok-binding.ensures.cached i)) after)

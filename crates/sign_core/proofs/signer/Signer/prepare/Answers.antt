@@ -1,4 +1,4 @@
-use Rattle.std.proofs.Common.{◌≡◌, ◌∙◌, ◌<◌, ℕ, List, Some, length, inl, inr, refl, ap, subst, sym}
+use Rattle.std.proofs.Common.{◌≡◌, ◌∙◌, ◌<◌, ℕ, List, Some, length, inl, inr, refl, ap, subst, sym, true≢false}
 use Rattle.state_file.specs.declared.record.Key.{Key}
 use Rattle.state_file.specs.declared.record.Record.{Record}
 use Rattle.sign_core.specs.Caches.{Cached, LosesCache}
@@ -7,7 +7,9 @@ use Rattle.sign_core.proofs.BegunCaches.{on_any}
 use Rattle.sign_core.proofs.ChainParts.{same_key}
 use Rattle.sign_core.proofs.CurrentChain.{has_free, not_free, tree_stands}
 use Rattle.sign_core.proofs.Heights.{types_are}
-use Rattle.sign_core.proofs.KeptCaches.{on_err}
+use Rattle.sign_core.proofs.KeptCaches.{on_err, on_ok}
+use Rattle.sign_core.proofs.RenewedCaches.{keeps_same_caches, refused_alone}
+use Rattle.sign_core.specs.inner.Caches.{RenewsDownTo}
 use Rattle.sign_core.proofs.signer.Signer.prepare.Goals as goal
 
 pub unreachable-requires : goal.unreachable-requires
@@ -61,3 +63,33 @@ returns-clause-loses g c =
     inr (subst (λ (x : Key × List Record × ℕ × Cached). LosesCache x.0 x.1 c.args.level x.2 x.3 c.keep_trees.new.self)
     (λ j. (own j, records j, count j, ap (λ w. w.cached) c.self.view_is j)) loses))
     c.keep_trees.ensures.loses
+
+-- ---- the caches that it keeps
+
+pub returns-clause-renews : goal.returns-clause-renews
+returns-clause-renews g c =
+    let i = c.self.inside.ledger in
+    let l = c.reserve.new.self in
+    let kept : the_key c.args.self.now.records ≡ Some i.key = ap (λ w. the_key w.records) (sym c.self.view_is) ∙ c.self.invariant.1 in
+    on_ok c.keep_trees.result (λ renews key keyed.
+    let own : l.key ≡ key = c.reserve.ensures.key ∙ same_key c.args.self.now.records i.key key kept keyed in
+    let records : l.records ≡ c.args.self.now.records = c.reserve.ensures.records ∙ ap (λ w. w.records) c.self.view_is in
+    subst (λ (x : Key × List Record × Cached). RenewsDownTo x.0 x.1 c.args.level x.2 c.keep_trees.new.self)
+    (λ j. (own j, records j, ap (λ w. w.cached) c.self.view_is j)) renews)
+    c.keep_trees.ensures.renews
+
+pub returns-then-from-clause-kept : goal.returns-then-from-clause-kept
+returns-then-from-clause-kept g c key keyed other = keeps_same_caches key c.args.self.now.records _ _ refl
+
+pub returns-in_err-make_room-clause-kept : goal.returns-in_err-make_room-clause-kept
+returns-in_err-make_room-clause-kept g c =
+    on_any c.from_residual.result (λ key keyed other. keeps_same_caches key c.args.self.now.records _ _ refl)
+
+pub returns-in_err-map_err-clause-kept : goal.returns-in_err-map_err-clause-kept
+returns-in_err-map_err-clause-kept g c =
+    on_any c.from_residual-in_err-map_err.result
+    (λ key keyed other. keeps_same_caches key c.args.self.now.records _ _ (ap (λ w. w.cached) c.self.view_is))
+
+pub returns-clause-kept : goal.returns-clause-kept
+returns-clause-kept g c =
+    refused_alone c.keep_trees.result c.keep_trees.ensures.fault (λ comes key keyed other. absurd (true≢false (sym comes ∙ other)))

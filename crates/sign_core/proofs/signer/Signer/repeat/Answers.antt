@@ -1,4 +1,4 @@
-use Rattle.std.proofs.Common.{rules, ◌≡◌, ◌∙◌, ◌≤◌, ℕ, ◌-◌, List, Some, Ok, Err, refl, sym, ap, subst, arith}
+use Rattle.std.proofs.Common.{rules, ◌≡◌, ◌∙◌, ◌≤◌, ℕ, ◌-◌, List, Some, Ok, Err, refl, sym, ap, subst, arith, true≢false}
 use Rattle.std.specs.Prelude.{length, vec_capacity}
 use Rattle.std.proofs.lemmas.List.{take_at}
 use Rattle.state_file.specs.Laws.{bottom_of}
@@ -6,7 +6,7 @@ use Rattle.state_file.specs.declared.record.Key.{Key}
 use Rattle.state_file.specs.declared.record.Record.{Record}
 use Rattle.sign_core.specs.declared.fault.SignFault.TheVariants.{Changed}
 use Rattle.sign_core.specs.declared.ledger.Binding.{Binding}
-use Rattle.sign_core.specs.Caches.{Cached, HasCaches, LacksCache, LosesCache}
+use Rattle.sign_core.specs.Caches.{Cached, HasCaches, KeepsOrRenews, LacksCache, LosesCache}
 use Rattle.sign_core.specs.Records.{the_key, types_of}
 use Rattle.sign_core.specs.Signer.{is_before_repeat, is_fault, is_out_of_memory, signature_size, state_of}
 use Rattle.sign_core.specs.inner.Links.{IsTreeAt, MakesTrees}
@@ -20,6 +20,7 @@ use Rattle.sign_core.proofs.KeptCaches.{bound_stands, made_bound, refused_bound}
 use Rattle.sign_core.proofs.LedgerReading.{key_levels}
 use Rattle.sign_core.proofs.Repeats.{changed, damaged, fault_of, found_chain, found_digest, found_kept, found_signature, is_found, lacks_cache, lacks_room, linked_ok, given_back, same_size, signed, unread}
 use Rattle.sign_core.proofs.LostCaches.{leaves_as_they_were, leaves_bound, leaves_other}
+use Rattle.sign_core.proofs.RenewedCaches.{keeps_or_renews, keeps_same_caches}
 use Rattle.sign_core.proofs.signer.Signer.repeat.Goals as goal
 
 pub overflow_sub-bottom : goal.overflow_sub-bottom
@@ -282,17 +283,17 @@ returns-clause-caches g c key keyed name kept =
 pub returns-in_err-digest-clause-refused : goal.returns-in_err-digest-clause-refused
 returns-in_err-digest-clause-refused g c key keyed name kept =
     let v = c.args.self.now in
-    leaves_as_they_were key v.records _ v.cached v.cached c.from_residual.result refl
+    leaves_as_they_were key v.records _ _ v.cached v.cached c.from_residual.result refl
 
 pub returns-then-ne-clause-refused : goal.returns-then-ne-clause-refused
 returns-then-ne-clause-refused g c key keyed name kept =
     let v = c.args.self.now in
-    leaves_as_they_were {A = Unit {0}} key v.records _ v.cached v.cached (Err Changed) refl
+    leaves_as_they_were {A = Unit {0}} key v.records _ _ v.cached v.cached (Err Changed) refl
 
 pub returns-in_err-make_room-clause-refused : goal.returns-in_err-make_room-clause-refused
 returns-in_err-make_room-clause-refused g c key keyed name kept =
     let v = c.args.self.now in
-    leaves_as_they_were key v.records _ v.cached v.cached c.from_residual-in_err-make_room.result refl
+    leaves_as_they_were key v.records _ _ v.cached v.cached c.from_residual-in_err-make_room.result refl
 
 pub returns-in_err-keep_trees-clause-refused : goal.returns-in_err-keep_trees-clause-refused
 returns-in_err-keep_trees-clause-refused g c key keyed name kept =
@@ -307,7 +308,7 @@ returns-in_err-keep_trees-clause-refused g c key keyed name kept =
     subst (λ (x : Key × List Record × ℕ × Cached). LosesCache x.0 x.1 x.2 b.place x.3 c.keep_trees.new.self)
     (λ i. (own i, records i, bottom i, ap (λ w. w.cached) c.self.view_is i))
     c.in_err-keep_trees.ensures.loses in
-    leaves_bound key v.records name b v.cached c.keep_trees.new.self c.from_residual-in_err-keep_trees.result
+    leaves_bound key v.records _ name b v.cached c.keep_trees.new.self c.from_residual-in_err-keep_trees.result
     (is_found key v.records name b kept) loses
 
 pub returns-in_err-map_err-clause-refused : goal.returns-in_err-map_err-clause-refused
@@ -316,8 +317,43 @@ returns-in_err-map_err-clause-refused g c key keyed name kept =
     let answer : c.from_residual-in_err-map_err.result ≡ Err c.in_err-map_err.field-0.0 = search rules in
     let (slot, of_place, chain) = fault_of c.write_bound.result c.map_err.result c.in_err-map_err.field-0.0
     (λ k. damaged_at L.key (bottom_of L.key.secret) L.records c.args.binding.now.tree ≡ Some k) c.map_err.ensures.cases c.in_err-map_err.was c.write_bound.ensures.damaged in
-    leaves_other key c.args.self.now.records _ _ c.write_bound.new.caches c.from_residual-in_err-map_err.result
+    leaves_other key c.args.self.now.records _ _ _ c.write_bound.new.caches c.from_residual-in_err-map_err.result
     (ap (is_fault is_out_of_memory) (answer ∙ ap Err of_place))
 
 pub returns-clause-refused : goal.returns-clause-refused
-returns-clause-refused g c key keyed name kept = leaves_other key c.args.self.now.records _ c.args.self.now.cached c.write_bound.new.caches (Ok tt) refl
+returns-clause-refused g c key keyed name kept = leaves_other key c.args.self.now.records _ _ c.args.self.now.cached c.write_bound.new.caches (Ok tt) refl
+
+-- ---- the caches that it keeps
+
+pub returns-in_err-digest-clause-kept : goal.returns-in_err-digest-clause-kept
+returns-in_err-digest-clause-kept g c key keyed other = keeps_same_caches key c.args.self.now.records _ _ refl
+
+pub returns-then-ne-clause-kept : goal.returns-then-ne-clause-kept
+returns-then-ne-clause-kept g c key keyed other = keeps_same_caches key c.args.self.now.records _ _ refl
+
+pub returns-in_err-make_room-clause-kept : goal.returns-in_err-make_room-clause-kept
+returns-in_err-make_room-clause-kept g c key keyed other = keeps_same_caches key c.args.self.now.records _ _ refl
+
+pub returns-in_err-keep_trees-clause-kept : goal.returns-in_err-keep_trees-clause-kept
+returns-in_err-keep_trees-clause-kept g c key keyed other =
+    let answer : c.from_residual-in_err-keep_trees.result ≡ Err c.in_err-keep_trees.field-0.0 = search rules in
+    let comes = ap (is_fault is_out_of_memory) (answer ∙ ap Err c.in_err-keep_trees.ensures.fault) in
+    absurd (true≢false (sym comes ∙ other))
+
+pub returns-in_err-map_err-clause-kept : goal.returns-in_err-map_err-clause-kept
+returns-in_err-map_err-clause-kept g c key keyed other =
+    let v = c.args.self.now in
+    let own_is = same_key v.records c.key.result.now key (ap (λ w. the_key w.records) (sym c.self.view_is) ∙ c.key.ensures.first) keyed in
+    let own = sym c.key.ensures.key ∙ own_is in
+    subst (λ (x : Key × List Record × Cached × Cached). KeepsOrRenews x.0 x.1 x.2 x.3)
+    (λ i. (own i, ap (λ w. w.records) c.self.view_is i, ap (λ w. w.cached) c.self.view_is i, sym c.write_bound.ensures.caches i))
+    (keeps_or_renews _ _ _ _ _ c.in_ok-keep_trees.ensures.renews)
+
+pub returns-clause-kept : goal.returns-clause-kept
+returns-clause-kept g c key keyed other =
+    let v = c.args.self.now in
+    let own_is = same_key v.records c.key.result.now key (ap (λ w. the_key w.records) (sym c.self.view_is) ∙ c.key.ensures.first) keyed in
+    let own = sym c.key.ensures.key ∙ own_is in
+    subst (λ (x : Key × List Record × Cached × Cached). KeepsOrRenews x.0 x.1 x.2 x.3)
+    (λ i. (own i, ap (λ w. w.records) c.self.view_is i, ap (λ w. w.cached) c.self.view_is i, sym c.write_bound.ensures.caches i))
+    (keeps_or_renews _ _ _ _ _ c.in_ok-keep_trees.ensures.renews)

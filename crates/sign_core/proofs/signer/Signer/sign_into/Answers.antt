@@ -1,18 +1,19 @@
-use Rattle.std.proofs.Common.{List, ℕ, inr, rules, ◌≡◌, ◌∙◌, Err, true, false, ap, refl, sym, subst, ◌<◌, ◌-◌, None, Some, length, arith}
+use Rattle.std.proofs.Common.{List, ℕ, rules, ◌≡◌, ◌∙◌, Result, Err, true, false, ap, refl, sym, subst, ◌<◌, ◌-◌, None, Some, length, arith}
 use Rattle.std.specs.Prelude.{vec_capacity}
 use Rattle.std.proofs.lemmas.List.{take_at}
 use Rattle.state_file.specs.Laws.{bottom_of, levels_of}
 use Rattle.state_file.specs.declared.record.Key.{Key}
 use Rattle.state_file.specs.declared.record.Record.{Record}
-use Rattle.sign_core.specs.Caches.{HasAll, HasBegun}
+use Rattle.sign_core.specs.Caches.{Cached, HasAll, HasBegun, KeepsOrRenews}
 use Rattle.sign_core.specs.Ledger.{binding_kept, kept_of}
 use Rattle.sign_core.specs.Progress.{types_of_key}
 use Rattle.sign_core.specs.Records.{binding_at, deepest, is_long, the_key}
 use Rattle.sign_core.specs.Signer.{IsSigner, KeepsForRepeat, Signs, is_before_caches, is_before_repeat, view_of}
-use Rattle.sign_core.specs.Signing.{IsPrepared, LeavesCaches, UnderKey, answered_value, is_unprepared}
+use Rattle.sign_core.specs.Signing.{IsPrepared, KeepsCaches, LeavesCaches, UnderKey, answered_value, is_unprepared}
 use Rattle.sign_core.specs.Textbook.{damaged_at, current_at}
+use Rattle.sign_core.specs.declared.fault.SignFault.{SignFault}
 use Rattle.sign_core.specs.declared.fault.SignFault.TheVariants.{Damaged, LongName}
-use Rattle.sign_core.specs.inner.Caches.{HasBegunTo, KeepsDownTo}
+use Rattle.sign_core.specs.inner.Caches.{HasBegunTo, KeepsDownTo, RenewsDownTo}
 use Rattle.sign_core.specs.inner.Links.{MakesTrees}
 use Rattle.sign_core.specs.inner.Signing.{CanBind, BindsBelow, IsBindingOf, Stands}
 use Rattle.sign_core.proofs.BegunCaches.{none_begun, none_begun_to}
@@ -25,6 +26,7 @@ use Rattle.sign_core.proofs.Refusals.{same_kind}
 use Rattle.sign_core.proofs.Repeats.{fault_of, linked_ok}
 use Rattle.sign_core.proofs.Signs.{binds_signs, can_bind, damaged_binds, deepest_after, exhausted_signs, binds_below_binds, none_fault, some_level, hindered_signs, long_signs, none_mapped, repeats_signs, unprepared_signs, is_none}
 use Rattle.sign_core.proofs.LostCaches.{leaves_as_they_were, leaves_new, loses_new}
+use Rattle.sign_core.proofs.RenewedCaches.{keeps_same_caches, renews_stay}
 use Rattle.sign_core.proofs.signer.Signer.sign_into.Goals as goal
 
 pub returns-in_err-check_open-clause-step : goal.returns-in_err-check_open-clause-step
@@ -423,7 +425,7 @@ returns-clause-begun g c key keyed =
 pub returns-in_err-check_open-clause-refused : goal.returns-in_err-check_open-clause-refused
 returns-in_err-check_open-clause-refused g c key keyed =
     let v = c.args.self.now in
-    leaves_as_they_were key v.records (binding_at v.records c.args.name.now) v.cached v.cached c.from_residual.result refl
+    leaves_as_they_were key v.records _ (binding_at v.records c.args.name.now) v.cached v.cached c.from_residual.result refl
 
 pub returns-in-Some-clause-refused : goal.returns-in-Some-clause-refused
 returns-in-Some-clause-refused g c other others =
@@ -438,12 +440,12 @@ returns-in-Some-clause-refused g c other others =
 pub returns-then-as_bytes-from-clause-refused : goal.returns-then-as_bytes-from-clause-refused
 returns-then-as_bytes-from-clause-refused g c key keyed =
     let v = c.args.self.now in
-    leaves_as_they_were key v.records (binding_at v.records c.args.name.now) v.cached v.cached (Err LongName) refl
+    leaves_as_they_were key v.records _ (binding_at v.records c.args.name.now) v.cached v.cached (Err LongName) refl
 
 pub returns-in_err-level-clause-refused : goal.returns-in_err-level-clause-refused
 returns-in_err-level-clause-refused g c key keyed =
     let v = c.args.self.now in
-    leaves_as_they_were key v.records (binding_at v.records c.args.name.now) v.cached v.cached c.from_residual-in_err-level.result refl
+    leaves_as_they_were key v.records _ (binding_at v.records c.args.name.now) v.cached v.cached c.from_residual-in_err-level.result refl
 
 pub returns-in_err-prepare-clause-refused : goal.returns-in_err-prepare-clause-refused
 returns-in_err-prepare-clause-refused g c key keyed =
@@ -454,13 +456,13 @@ returns-in_err-prepare-clause-refused g c key keyed =
     let own = same_key v.records c.self.inside.ledger.key key (ap (λ w. the_key w.records) (sym c.self.view_is) ∙ c.self.invariant.1) keyed in
     let at : deepest key.secret v.records ≡ Some c.in_ok-level.level = subst (λ (k : Key). deepest k.secret v.records ≡ Some c.in_ok-level.level) own
     (ap (λ w. deepest c.self.inside.ledger.key.secret w.records) (sym c.self.view_is) ∙ sym c.deepest.ensures ∙ some) in
-    leaves_new key v.records (binding_at v.records c.args.name.now) c.in_ok-level.level v.cached c.prepare.new.self.cached
-    c.from_residual-in_err-prepare.result unbound at
-    (loses_new key v.records c.in_ok-level.level v.cached c.prepare.new.self.cached (c.in_err-prepare.ensures.loses key keyed))
+    loses_new key v.records c.prepare.new.self.records (binding_at v.records c.args.name.now) c.in_ok-level.level v.cached c.prepare.new.self.cached
+    c.from_residual-in_err-prepare.result unbound at (c.in_err-prepare.ensures.loses key keyed)
 
 pub returns-in_err-map_err-clause-refused : goal.returns-in_err-map_err-clause-refused
 returns-in_err-map_err-clause-refused g c key keyed =
     let v = c.args.self.now in
+    let mid = c.prepare.new.self in
     let unbound = none_mapped (kept_of c.self.inside.ledger.key.secret v.records) (binding_at v.records c.args.name.now)
     (ap (λ w. binding_kept c.self.inside.ledger.key.secret w.records c.args.name.now) (sym c.self.view_is) ∙ sym c.find.ensures ∙ is_none c.find.result c.in_default.not-Some) in
     let some = some_level c.deepest.result c.in_ok-level.level (sym c.ok_or.ensures.value ∙ c.in_ok-level.was) in
@@ -469,13 +471,17 @@ returns-in_err-map_err-clause-refused g c key keyed =
     (ap (λ w. deepest c.self.inside.ledger.key.secret w.records) (sym c.self.view_is) ∙ sym c.deepest.ensures ∙ some) in
     let whole = c.self-2.inside in
     let same = ap (λ x. view_of whole.store whole.random whole.ledger x whole.is_open) c.check_current.ensures.caches ∙ c.self-2.view_is in
-    subst (λ w. LeavesCaches key v.records (binding_at v.records c.args.name.now) v.cached w.cached c.from_residual-in_err-map_err.result) (sym same)
-    (leaves_new key v.records (binding_at v.records c.args.name.now) c.in_ok-level.level v.cached c.prepare.new.self.cached
-    c.from_residual-in_err-map_err.result unbound at (inr (inr (c.in_ok-prepare.ensures.prepared key keyed).caches)))
+    subst (λ w. LeavesCaches key v.records w.records (binding_at v.records c.args.name.now) v.cached w.cached c.from_residual-in_err-map_err.result) (sym same)
+    (leaves_new key v.records mid.records (binding_at v.records c.args.name.now) c.in_ok-level.level v.cached mid.cached
+    c.from_residual-in_err-map_err.result unbound at (c.in_ok-prepare.ensures.prepared key keyed).caches
+    (renews_stay key v.records mid.records c.in_ok-level.level v.cached mid.cached mid.cached (c.in_ok-prepare.ensures.room key keyed).keeps.records refl
+    (c.in_ok-prepare.ensures.renews key keyed)))
 
 pub returns-clause-refused : goal.returns-clause-refused
 returns-clause-refused g c key keyed =
     let v = c.args.self.now in
+    let mid = c.prepare.new.self in
+    let made = c.in_ok-prepare.ensures.room key keyed in
     let unbound = none_mapped (kept_of c.self.inside.ledger.key.secret v.records) (binding_at v.records c.args.name.now)
     (ap (λ w. binding_kept c.self.inside.ledger.key.secret w.records c.args.name.now) (sym c.self.view_is) ∙ sym c.find.ensures ∙ is_none c.find.result c.in_default.not-Some) in
     let some = some_level c.deepest.result c.in_ok-level.level (sym c.ok_or.ensures.value ∙ c.in_ok-level.was) in
@@ -487,5 +493,59 @@ returns-clause-refused g c key keyed =
     let later = stays_has key v.records c.in_ok-level.level (length v.records) c.prepare.new.self.cached c.bind_below.new.self.cached
     (subst (λ w. KeepsDownTo c.in_ok-level.level w.cached c.bind_below.new.self.cached) same c.bind_below.ensures.keeps)
     (c.in_ok-prepare.ensures.prepared key keyed).caches in
-    leaves_new key v.records (binding_at v.records c.args.name.now) c.in_ok-level.level v.cached c.bind_below.new.self.cached
-    c.bind_below.result unbound at (inr (inr later))
+    let renews : RenewsDownTo key mid.records c.in_ok-level.level v.cached mid.cached =
+    subst (λ (l : List Record). RenewsDownTo key l c.in_ok-level.level v.cached mid.cached) (sym made.keeps.records) (c.in_ok-prepare.ensures.renews key keyed) in
+    let keeps = subst (λ w. UnderKey w.records (λ k. (first : Cached) → RenewsDownTo k w.records c.in_ok-level.level first w.cached
+    → KeepsOrRenews k c.bind_below.new.self.records first c.bind_below.new.self.cached)) same c.bind_below.ensures.renews key
+    (ap the_key made.keeps.records ∙ keyed) v.cached renews in
+    leaves_new key v.records c.bind_below.new.self.records (binding_at v.records c.args.name.now) c.in_ok-level.level v.cached c.bind_below.new.self.cached
+    c.bind_below.result unbound at later keeps
+
+-- ---- the caches that it keeps
+
+pub returns-in_err-check_open-clause-kept : goal.returns-in_err-check_open-clause-kept
+returns-in_err-check_open-clause-kept g c key keyed other = keeps_same_caches key c.args.self.now.records _ _ refl
+
+pub returns-in-Some-clause-kept : goal.returns-in-Some-clause-kept
+returns-in-Some-clause-kept g c key keyed =
+    let v = c.args.self.now in
+    subst (λ (l : List Record). KeepsCaches key l v.cached c.repeat.new.self.cached c.repeat.result)
+    (ap (λ w. w.records) (sym c.repeat.ensures.keeps.but_caches)) (c.repeat.ensures.kept key keyed)
+
+pub returns-then-as_bytes-from-clause-kept : goal.returns-then-as_bytes-from-clause-kept
+returns-then-as_bytes-from-clause-kept g c key keyed other = keeps_same_caches key c.args.self.now.records _ _ refl
+
+pub returns-in_err-level-clause-kept : goal.returns-in_err-level-clause-kept
+returns-in_err-level-clause-kept g c key keyed other = keeps_same_caches key c.args.self.now.records _ _ refl
+
+pub returns-in_err-prepare-clause-kept : goal.returns-in_err-prepare-clause-kept
+returns-in_err-prepare-clause-kept g c key keyed =
+    let v = c.args.self.now in
+    let answer : c.from_residual-in_err-prepare.result ≡ Err c.in_err-prepare.field-0.0 = search rules in
+    subst (λ (r : Result (Unit {0}) SignFault). KeepsCaches key c.prepare.new.self.records v.cached c.prepare.new.self.cached r) (sym answer)
+    (subst (λ (l : List Record). KeepsCaches {A = Unit {0}} key l v.cached c.prepare.new.self.cached (Err c.in_err-prepare.field-0.0))
+    (sym (c.in_err-prepare.ensures.room key keyed).keeps.records) (c.in_err-prepare.ensures.kept key keyed))
+
+pub returns-in_err-map_err-clause-kept : goal.returns-in_err-map_err-clause-kept
+returns-in_err-map_err-clause-kept g c key keyed =
+    let v = c.args.self.now in
+    let mid = c.prepare.new.self in
+    let whole = c.self-2.inside in
+    let same = ap (λ x. view_of whole.store whole.random whole.ledger x whole.is_open) c.check_current.ensures.caches ∙ c.self-2.view_is in
+    subst (λ w. KeepsCaches key w.records v.cached w.cached c.from_residual-in_err-map_err.result) (sym same)
+    (λ other. renews_stay key v.records mid.records c.in_ok-level.level v.cached mid.cached mid.cached (c.in_ok-prepare.ensures.room key keyed).keeps.records refl
+    (c.in_ok-prepare.ensures.renews key keyed))
+
+pub returns-clause-kept : goal.returns-clause-kept
+returns-clause-kept g c key keyed other =
+    let v = c.args.self.now in
+    let mid = c.prepare.new.self in
+    let level = c.in_ok-level.level in
+    let made = c.in_ok-prepare.ensures.room key keyed in
+    let whole = c.self-2.inside in
+    let same = ap (λ x. view_of whole.store whole.random whole.ledger x whole.is_open) c.check_current.ensures.caches ∙ c.self-2.view_is in
+    let renews : RenewsDownTo key mid.records level v.cached mid.cached = subst (λ (l : List Record). RenewsDownTo key l level v.cached mid.cached)
+    (sym made.keeps.records) (c.in_ok-prepare.ensures.renews key keyed) in
+    subst (λ w. UnderKey w.records (λ k. (first : Cached) → RenewsDownTo k w.records level first w.cached
+    → KeepsOrRenews k c.bind_below.new.self.records first c.bind_below.new.self.cached)) same c.bind_below.ensures.renews key
+    (ap the_key made.keeps.records ∙ keyed) v.cached renews
