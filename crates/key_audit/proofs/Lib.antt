@@ -7,5 +7,7 @@ pub mod Levels
 pub mod Listed
 pub mod Lists
 pub mod Loads
+pub mod NamesLeft
+pub mod Runs
 pub mod Tags
 pub mod Twice

@@ -1,15 +1,8 @@
--- Records listed, and names counted, one after the other.
-use Rattle.std.proofs.Common.{◌≡◌, ◌∙◌, ◌+◌, ◌<◌, ℕ, List, [], ◌∷◌, ◌++◌, length, map, take, get_or, ap, sym, arith}
-use Rattle.std.proofs.lemmas.List.{map_more, take_more}
-use Rattle.state_file.specs.declared.record.Record.{Record}
+-- Names counted, one after the other.
+use Rattle.std.proofs.Common.{◌≡◌, ◌∙◌, ◌+◌, ◌<◌, ℕ, List, [], ◌∷◌, ◌++◌, length, take, get_or, ap, sym, arith}
+use Rattle.std.proofs.lemmas.List.{take_more}
 use Rattle.key_audit.specs.declared.listing.Entry.{Entry}
-use Rattle.key_audit.specs.Listing.{entry_of, name_count, names_among}
-
-pub entries_more : (records : List Record) (i : ℕ) (r : Record) (entries new : List Entry) → i < length records → r ≡ get_or records i r
-    → entries ≡ map entry_of (take i records) → new ≡ entries ++ entry_of r ∷ [] → new ≡ map entry_of (take (i + 1) records)
-entries_more records i r entries new inside is so_far grown =
-    grown ∙ ap (λ l. l ++ entry_of r ∷ []) so_far ∙ ap (λ x. map entry_of (take i records) ++ entry_of x ∷ []) is
-    ∙ sym (map_more entry_of records i r inside)
+use Rattle.key_audit.specs.Listing.{name_count, names_among}
 
 names_push : (entries : List Entry) (e : Entry) → names_among (entries ++ e ∷ []) ≡ names_among entries + name_count e
 names_push [] e = omega arith

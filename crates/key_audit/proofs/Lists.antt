@@ -1,5 +1,5 @@
 -- What a listing answers at each of its ends.
-use Rattle.std.proofs.Common.{◌≡◌, ℕ, Bool, false, List, [], ◌∷◌, Some, None, Ok, Err, Result, refl, ap, ◌∙◌, map}
+use Rattle.std.proofs.Common.{◌≡◌, ℕ, Bool, false, List, [], ◌∷◌, Some, None, Ok, Err, Result, refl, ap, ◌∙◌, subst, map}
 use Rattle.std.specs.Prelude.{IfOk, option_map}
 use Rattle.state_file.specs.declared.disk.Disk as disk
 use Rattle.state_file.specs.declared.record.Key.{Key}
@@ -7,7 +7,7 @@ use Rattle.state_file.specs.declared.record.Record.{Record}
 use Rattle.state_file.specs.declared.record.Record.TheVariants as entry
 use Rattle.state_file.specs.declared.store.file_store.FileStore.{FileStore}
 use Rattle.state_file.specs.Disk.{Counts}
-use Rattle.state_file.specs.FileStore.{disk_of, records_of}
+use Rattle.state_file.specs.FileStore.{disk_of, has_stopped, records_of}
 use Rattle.state_file.specs.Laws.{IsLegal}
 use Rattle.state_file.specs.Store.{Collects}
 use Rattle.sign_core.specs.Alarm.{slot_behind}
@@ -15,12 +15,12 @@ use Rattle.sign_core.specs.Records.{free_counts, the_key, types_of}
 use Rattle.key_audit.specs.declared.listing.Listing.{Listing}
 use Rattle.key_audit.specs.declared.report.AuditFault.{AuditFault}
 use Rattle.key_audit.specs.declared.report.AuditFault.TheVariants.{Stopped, NoKey, Damaged, Illegal, DeviceFailed, OutOfMemory, AnchorCount, AnchorTag}
-use Rattle.key_audit.specs.Audit.{Judges, ReadsStore, is_device_failed, is_fault, is_stopped, unreadable_slot}
+use Rattle.key_audit.specs.Audit.{ReadsStore, is_device_failed, is_fault, is_stopped, unreadable_slot}
 use Rattle.key_audit.specs.inner.Listing.{ListsRecords}
-use Rattle.key_audit.specs.Listing.{AnswersListing, Lists, entry_of, shown_of_listing, shown_of_records, shown_of}
+use Rattle.key_audit.specs.Listing.{AnswersListing, Lists, ListsReplayed, entry_of, shown_of_listing, shown_of_records, shown_of}
 use Rattle.key_audit.specs.inner.Loading.{AreLoaded, StopsLoading}
-use Rattle.key_audit.proofs.Audits.{refused_alike}
-use Rattle.key_audit.proofs.Loads.{answered, kept_by}
+use Rattle.key_audit.proofs.Audits.{refused_alike, stops_judged}
+use Rattle.key_audit.proofs.Loads.{OnlyNow, answered, kept_by, kept_first}
 
 pub key_first : (records : List Record) → (legal : IsLegal records) → the_key records ≡ Some legal.key
 key_first [] legal = let first = legal.first in absurd cc
@@ -30,25 +30,11 @@ key_first (entry.Bound bound ∷ rest) legal = let first = legal.first in absurd
 key_first (entry.Retire upto ∷ rest) legal = let first = legal.first in absurd cc
 key_first (entry.Moved ∷ rest) legal = let first = legal.first in absurd cc
 
-pub has_key : (records : List Record) → IsLegal records → the_key records ≡ None → ⊥
-has_key records legal none = let some = key_first records legal in cc
-
 pub shown_so : (records : List Record) (key : Key) (listing : Listing) → the_key records ≡ Some key → listing.spec ≡ types_of key.secret
     → listing.version ≡ key.version → listing.left.items ≡ free_counts key.secret records → listing.entries.items ≡ map entry_of records
     → shown_of_records records ≡ Some (shown_of_listing listing)
 shown_so records key listing is spec version left entries =
     ap (option_map (shown_of records)) is ∙ rw (spec, version, left, entries) refl
-
--- records that weren't loaded are refused for the same reason
-stops_judged : (honest : Bool) (list : List Record) (fault : AuditFault) → StopsLoading honest list fault → Judges honest list None (Err fault)
-stops_judged honest list Stopped stops = tt
-stops_judged honest list (Damaged k) stops = stops
-stops_judged honest list DeviceFailed stops = tt
-stops_judged honest list OutOfMemory stops = stops
-stops_judged honest list NoKey stops = absurd stops
-stops_judged honest list (Illegal k) stops = absurd stops
-stops_judged honest list AnchorCount stops = absurd stops
-stops_judged honest list AnchorTag stops = absurd stops
 
 -- The answer to loaded records is no failure of the disk.
 record IsNoFailure (answer : Result Listing AuditFault) : Type 0 where
@@ -89,7 +75,7 @@ module _ {D : Type 0} (d : disk.Ghosts D) where
     loaded = records_of old;
     same_count = refl;
     same = λ honest. refl;
-    answers = stops_judged (d.honest (disk_of old)) (records_of old) fault stops;
+    answers = (stops_judged (d.honest (disk_of old)) (records_of old) None fault stops).0;
     behind = tt;
   }
 
@@ -105,4 +91,22 @@ module _ {D : Type 0} (d : disk.Ghosts D) where
         same = are.same;
         answers = lists_answered (d.honest (disk_of old)) records answer lists;
         behind = behind;
+      }
+
+  -- a replay took them, and this is answered
+  pub listed_replayed : (store : FileStore D d) → OnlyNow d store → (records : List Record) (answer : Result Listing AuditFault) → has_stopped store ≡ false
+      → records ≡ records_of store → ListsRecords records answer → IfOk answer (λ listing. listing.behind ≡ slot_behind store)
+      → ListsReplayed d store answer
+  listed_replayed store only records answer running same lists behind =
+      let own = subst (λ l. ListsRecords l answer) same lists in
+      let fine = no_failure (records_of store) answer own in record {
+        lists = record {
+          store = answered d store store answer (kept_first d store only) running fine.not_stopped fine.not_failed fine.none fine.no_slot;
+          loaded = records_of store;
+          same_count = refl;
+          same = λ honest. refl;
+          answers = lists_answered (d.honest (disk_of store)) (records_of store) answer own;
+          behind = behind;
+        };
+        own = refl;
       }

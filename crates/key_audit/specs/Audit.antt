@@ -7,7 +7,8 @@ use Rattle.state_file.specs.declared.record.Record.{Record}
 use Rattle.state_file.specs.declared.store.file_store.FileStore.{FileStore}
 use Rattle.state_file.specs.DiskCalls.{CountsFailures, OnlyReads}
 use Rattle.state_file.specs.File.{tag_at}
-use Rattle.state_file.specs.FileStore.{WhileStoreRuns, disk_of, has_stopped, records_of, unreadable_of}
+use Rattle.state_file.specs.FileStore.{WhileStoreRuns, disk_of, given_of, has_stopped, loads_of, records_of}
+use Rattle.state_file.specs.FileStore.{unreadable_of}
 use Rattle.state_file.specs.Laws.{IsLegal}
 use Rattle.state_file.specs.Store.{Collects}
 pub use Rattle.state_file.specs.Store.{is_fault}
@@ -135,6 +136,14 @@ pub record Audits {D : Type 0} (d : disk.Ghosts D) (old new : FileStore D d) (an
   pub judges : Judges (d.honest (disk_of old)) loaded anchor answer
   pub tags : IsTrue (d.honest (disk_of old)) → AreTags (IsSlotTag d (disk_of old)) anchor answer
   pub by_records : IsTrue (d.honest (disk_of old)) → AreTags (IsTag (records_of old)) anchor answer
+
+-- An audit by records that a replay took: they are the store's, and none is loaded.
+pub record AuditsReplayed {D : Type 0} (d : disk.Ghosts D) (old new : FileStore D d) (anchor : Option Anchor)
+    (answer : Result Report AuditFault) : Type 0 where
+  pub audits : Audits d old new anchor answer
+  pub own : audits.loaded ≡ records_of old
+  pub loads : loads_of new ≡ loads_of old
+  pub given : given_of new ≡ given_of old
 
 -- ---- what holds of audits
 

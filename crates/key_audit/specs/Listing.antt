@@ -88,6 +88,12 @@ pub record Lists {D : Type 0} (d : disk.Ghosts D) (old new : FileStore D d) (ans
   pub answers : AnswersListing (d.honest (disk_of old)) loaded answer
   pub behind : IfOk answer (λ listing. listing.behind ≡ slot_behind old)
 
+-- A listing by records that a replay took: they are the store's, which is only looked at.
+pub record ListsReplayed {D : Type 0} (d : disk.Ghosts D) (store : FileStore D d) (answer : Result Listing AuditFault)
+    : Type 0 where
+  pub lists : Lists d store store answer
+  pub own : lists.loaded ≡ records_of store
+
 -- ---- secrets
 
 abbrev pub without_seeds : Secret → Secret

@@ -1,9 +1,14 @@
-//! Laws of tags, of audits and of listings. The functions do nothing: their contracts are theorems about every list of
-//! records.
+//! Laws of tags, of audits, of listings and of given signatures. The functions do nothing: their contracts are theorems
+//! about every list of records, or about all calls of a signer.
 
 ghost use Rattle.key_audit.specs.Audit.{AuditLaw};
 ghost use Rattle.key_audit.specs.Listing.{ListingLaw};
+ghost use Rattle.key_audit.specs.Runs.{MovedRunsLaw, RunsLaw};
 ghost use Rattle.key_audit.specs.Tags.{TagLaw};
+
+use sign_core::{Source, headline_law};
+use state_file::{Disk, FileStore, Store};
+use typecodes::Message;
 
 /// Laws of tags. Whoever keeps the number of records and the last tag can tell later whether a file still has them:
 ///
@@ -25,6 +30,19 @@ pub fn audit_laws()
 {}
 
 /// Lists of records that differ only in seeds, of a key or of its trees, show the same.
+// Requirement: RFC 8554 6, private
 pub fn listing_law()
     ensures { ListingLaw }
 {}
+
+/// What one signer handed out passes every check: `check_given` refuses it for want of memory alone (46).
+///
+/// The signer's calls are those of `headline_law`, in the lives of one disk, and of another to which the key was moved.
+/// Whichever of their signatures are given, with the texts that were read, each is valid and no two use one leaf for
+/// different digests. So 61 means that a second signer or an old copy signed, or that the disk lost what it had synced.
+pub fn runs_law<D: Disk + Drop, E: Disk + Drop, R: Source, M: Message>()
+    ensures calls { RunsLaw D.Disk E.Disk ⟦<FileStore<D> as Store>⟧ R.Source }
+    ensures moved { MovedRunsLaw D.Disk E.Disk ⟦<FileStore<D> as Store>⟧ ⟦<FileStore<E> as Store>⟧ R.Source }
+{
+    headline_law::<D, E, R, M>();
+}

@@ -6,7 +6,9 @@
 //! file (`audit_laws`). The model is `specs/Audit.antt` and `specs/Tags.antt`.
 //!
 //! `list` reads a state file as `audit` does, and shows what each record is, without anything secret (`listing_law`,
-//! `specs/Listing.antt`).
+//! `specs/Listing.antt`). `count_signatures` says how many new names the listed key can still sign
+//! (`specs/Signatures.antt`). `audit_replayed` and `list_replayed` do the same by records that an opening handed over,
+//! so the file is read once.
 //!
 //! `check_given` takes signatures with their messages. Are all valid, and did no leaf sign two digests? The model is
 //! `specs/Given.antt`, over the leaf uses of `sign_core`. It needs no secret and no records. It finds two copies of a
@@ -38,11 +40,13 @@ mod leaf;
 mod leaf_index;
 mod listing;
 mod report;
+mod signatures;
 mod uses;
 
-pub use crate::file::audit::audit;
-pub use crate::file::list::list;
+pub use crate::file::audit::{audit, audit_replayed};
+pub use crate::file::list::{ListReplay, list, list_replayed};
 pub use crate::given::{Given, GivenFault, check_given};
-pub use crate::laws::{audit_laws, listing_law, tag_laws};
+pub use crate::laws::{audit_laws, listing_law, runs_law, tag_laws};
 pub use crate::listing::{Entry, Listing, count_names};
 pub use crate::report::{Anchor, AuditFault, Report};
+pub use crate::signatures::count_signatures;

@@ -4,13 +4,13 @@ use Rattle.std.specs.Prelude.{Option, Some, None, Result, Ok, Err}
 use Rattle.state_file.specs.declared.disk.Disk as disk
 use Rattle.state_file.specs.declared.record.Record.{Record}
 use Rattle.state_file.specs.declared.store.file_store.FileStore.{FileStore}
-use Rattle.state_file.specs.FileStore.{disk_of, records_of}
+use Rattle.state_file.specs.FileStore.{disk_of, given_of, loads_of, records_of}
 use Rattle.state_file.specs.Store.{IsRecordAt}
 use Rattle.sign_core.specs.Records.{first_illegal}
 use Rattle.key_audit.specs.declared.report.AuditFault.{AuditFault}
 use Rattle.key_audit.specs.declared.report.AuditFault.TheVariants.{Stopped, NoKey, Damaged, Illegal, DeviceFailed}
 use Rattle.key_audit.specs.declared.report.AuditFault.TheVariants.{OutOfMemory}
-use Rattle.key_audit.specs.Audit.{IsSlotTag, Judges, ReadsStore}
+use Rattle.key_audit.specs.Audit.{IsSlotTag, ReadsStore}
 
 abbrev pub FindsRecord : (honest : Bool) → List Record → (k : ℕ) → Result (Option Record) AuditFault → Type 0
 FindsRecord honest list k (Ok None) = length list ≤ k
@@ -35,7 +35,6 @@ abbrev pub StopsLoading : (honest : Bool) → List Record → AuditFault → Typ
 StopsLoading honest list Stopped = Unit {0}
 StopsLoading honest list (Damaged k) = (honest ≡ false) × (k < length list)
 StopsLoading honest list DeviceFailed = Unit {0}
-StopsLoading honest list OutOfMemory = 0 < length list
 StopsLoading honest list _ = ⊥
 
 -- why loaded records aren't a key's
@@ -45,10 +44,10 @@ IsRefusedLedger records (Illegal k) = first_illegal records ≡ Some k
 IsRefusedLedger records OutOfMemory = 0 < length records
 IsRefusedLedger records _ = ⊥
 
--- either of the two, as an audit without an anchor judges it
-abbrev pub IsNoLedger : (honest : Bool) → List Record → AuditFault → Type 0
-IsNoLedger honest list fault =
-    (loaded : List Record) × AreLoaded honest list loaded × Judges honest loaded None (Err fault)
+-- No record is loaded.
+pub record KeepsLoads {D : Type 0} {bound : _} (old new : FileStore D bound) : Type 0 where
+  pub loads : loads_of new ≡ loads_of old
+  pub given : given_of new ≡ given_of old
 
 -- ---- tags
 
@@ -61,4 +60,5 @@ GivesTag IsTagOf honest k (Err _) = ⊥
 pub record ReadsSlotTag {D : Type 0} (d : disk.Ghosts D) (old new : FileStore D d) (k : ℕ)
     (answer : Result (List ℕ) AuditFault) : Type 0 where
   pub store : ReadsStore d old new answer
+  pub loads : KeepsLoads old new
   pub gives : GivesTag (IsSlotTag d (disk_of old)) (d.honest (disk_of old)) k answer

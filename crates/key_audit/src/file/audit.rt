@@ -1,13 +1,14 @@
 //! The audit of a state file: what its records say, and whether an older copy replaced it since an anchor was taken.
 
 ghost use Rattle.std.specs.Prelude.{◌≡◌, false};
-ghost use Rattle.state_file.specs.FileStore.{has_stopped};
-ghost use Rattle.key_audit.specs.Audit.{Audits, Reports};
-ghost use Rattle.key_audit.specs.inner.Audit.{ChecksAnchor};
+ghost use Rattle.state_file.specs.FileStore.{disk_of, has_stopped, records_of};
+ghost use Rattle.key_audit.specs.Audit.{Audits, AuditsReplayed, Reports};
+ghost use Rattle.key_audit.specs.inner.Audit.{ChecksAnchor, JudgesReplay};
+ghost use Rattle.key_audit.specs.inner.Loading.{AreLoaded};
 
-use crate::file::loading::{load_ledger, read_tag};
+use crate::file::loading::{finish, load_into, read_tag};
 use crate::report::{Anchor, AuditFault, Report};
-use sign_core::Ledger;
+use sign_core::{Ledger, Replay};
 use state_file::{Disk, FileStore};
 use std::alloc::Global;
 
@@ -45,6 +46,23 @@ fn report_of(ledger: &Ledger, tag: [u8; 32]) -> Report
     }
 }
 
+// Judges a running store by the records that a replay took from it.
+fn judge<D: Disk + Drop>(
+    store: &mut FileStore<D>,
+    replay: Replay,
+    anchor: Option<Anchor>,
+) -> Result<Report, AuditFault>
+    requires running { has_stopped store.old ≡ false }
+    requires taken { AreLoaded (D.honest (disk_of store.old)) (records_of store.old) replay }
+    ensures { JudgesReplay D.Disk store.old store.new replay anchor result }
+{
+    let ledger = finish(replay)?;
+    check_anchor(store, anchor)?;
+    let last = store.count() - 1;
+    let tag = read_tag(store, last)?;
+    Ok(report_of(&ledger, tag))
+}
+
 /// Audits a state file without changing it: what its records say of the key, and whether they fit an anchor that was
 /// kept elsewhere. Records fit an anchor if there are at least as many, and the last that it counts has its tag. The
 /// faults:
@@ -69,9 +87,24 @@ pub fn audit<D: Disk + Drop>(
 ) -> Result<Report, AuditFault>
     ensures { Audits D.Disk store.old store.new anchor result }
 {
-    let ledger = load_ledger(alloc, store)?;
-    check_anchor(store, anchor)?;
-    let last = store.count() - 1;
-    let tag = read_tag(store, last)?;
-    Ok(report_of(&ledger, tag))
+    let mut loaded = Replay::new(alloc);
+    load_into(store, &mut loaded)?;
+    judge(store, loaded, anchor)
+}
+
+/// Audits a store, as `audit` does, by the records that a replay took when it was opened (`FileStore::open_into`). It
+/// loads no record, and reads the tags alone: the anchor's, and the last one. Of the faults of `audit` 26 and 43 don't
+/// come.
+///
+/// The store must run, and the replay must have taken its records.
+pub fn audit_replayed<D: Disk + Drop>(
+    store: &mut FileStore<D>,
+    replay: Replay,
+    anchor: Option<Anchor>,
+) -> Result<Report, AuditFault>
+    requires running { has_stopped store.old ≡ false }
+    requires taken { replay ≡ records_of store.old }
+    ensures { AuditsReplayed D.Disk store.old store.new anchor result }
+{
+    judge(store, replay, anchor)
 }

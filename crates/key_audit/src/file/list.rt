@@ -1,58 +1,77 @@
 //! The listing of a state file: its types, and what its key has signed.
 
-ghost use Rattle.std.specs.Prelude.{◌≡◌, ◌<◌, IfErr, IfOk, length, map, option_map};
-ghost use Rattle.sign_core.specs.Records.{the_key};
-ghost use Rattle.key_audit.specs.Listing.{Lists, entry_of};
-ghost use Rattle.key_audit.specs.inner.Listing.{ListsRecords};
+ghost use Rattle.std.specs.Prelude.{◌≡◌, [], false, IfOk, List};
+ghost use Rattle.state_file.specs.FileStore.{has_stopped, records_of};
+ghost use Rattle.state_file.specs.declared.record.Record.{Record as R};
+ghost use Rattle.key_audit.specs.Listing.{Lists, ListsReplayed};
+ghost use Rattle.key_audit.specs.inner.Listing.{IsListed, ListsRecords};
 
-use crate::file::loading::{load_records, replay};
+use crate::file::loading::{finish, load_into};
 use crate::listing::{Entry, Listing};
 use crate::report::AuditFault;
-use sign_core::{slot_behind, types_of};
-use state_file::{Disk, FileStore, Key, Record};
-use std::alloc::{AllocError, Global};
+use sign_core::{Replay, slot_behind, types_of};
+use state_file::{Disk, FileStore, Record, Taker};
+use std::alloc::Global;
+use std::marker::Model;
 
-// The key, with which legal records begin.
-fn key_of(records: &[Record]) -> Option<&Key>
-    ensures { option_map (λ key. key.now) result ≡ the_key records.now }
-{
-    match records {
-        [Record::Key(key), ..] => Some(key),
-        _ => None,
-    }
+/// Makes a listing of records, one after the other: `FileStore::open_into` hands it each record as it reads the file.
+/// Contracts see the list of records that it took.
+#[derive(Drop)]
+pub struct ListReplay {
+    replay: Replay,
+    entries: Vec<Entry>,
+    // whether memory was refused for an entry
+    lacking: bool,
 }
 
-fn entries_of(alloc: Global, records: &[Record]) -> Result<Vec<Entry>, AllocError>
-    ensures listed { IfOk result (λ entries. entries.items ≡ map entry_of records.now) }
-    ensures refused { IfErr result (λ _. 0 < length records.now) }
-{
-    let mut entries = Vec::new(alloc);
-    for record in records {
-        entries.push(Entry::of(record))?;
-    }
-    Ok(entries)
+impl Model for ListReplay {
+    ghost Value = { List R };
+
+    ghost view = { λ s. s.replay };
+
+    ghost invariant = { λ s. IsListed s.replay s.entries.items s.lacking };
 }
 
-fn list_records(
-    alloc: Global,
-    records: &[Record],
-    behind: Option<u32>,
-) -> Result<Listing, AuditFault>
-    ensures lists { ListsRecords records.now result }
-    ensures behind { IfOk result (λ listing. listing.behind ≡ behind) }
-{
-    let ledger = replay(alloc, records)?;
-    let entries = entries_of(alloc, records).map_err(|_| AuditFault::OutOfMemory)?;
-    match key_of(records) {
-        Some(key) => Ok(Listing {
+impl ListReplay {
+    /// A listing of no record.
+    pub fn new(alloc: Global) -> Self
+        ensures { result ≡ [] }
+    {
+        ListReplay {
+            replay: Replay::new(alloc),
+            entries: Vec::new(alloc),
+            lacking: false,
+        }
+    }
+
+    // The listing of the records that were taken.
+    fn finish(self, behind: Option<u32>) -> Result<Listing, AuditFault>
+        ensures lists { ListsRecords self result }
+        ensures behind { IfOk result (λ listing. listing.behind ≡ behind) }
+    {
+        let ledger = finish(self.replay)?;
+        if self.lacking {
+            return Err(AuditFault::OutOfMemory);
+        }
+        let key = ledger.key();
+        Ok(Listing {
             spec: types_of(&key.secret),
             version: key.version,
             left: ledger.left(),
-            entries,
+            entries: self.entries,
             behind,
-        }),
-        // Legal records begin with a Key.
-        None => unreachable!(),
+        })
+    }
+}
+
+impl Taker for ListReplay {
+    ghost taken = { λ records. records };
+
+    fn take(&mut self, entry: &Record) {
+        self.replay.take(entry);
+        if !self.lacking {
+            self.lacking = self.entries.push(Entry::of(entry)).is_err();
+        }
     }
 }
 
@@ -69,6 +88,22 @@ pub fn list<D: Disk + Drop>(alloc: Global, store: &mut FileStore<D>) -> Result<L
     ensures { Lists D.Disk store.old store.new result }
 {
     let behind = slot_behind(store);
-    let records = load_records(alloc, store)?;
-    list_records(alloc, &records, behind)
+    let mut loaded = ListReplay::new(alloc);
+    load_into(store, &mut loaded)?;
+    loaded.finish(behind)
+}
+
+/// Lists a store, as `list` does, by the records that a replay took when it was opened (`FileStore::open_into`). It
+/// reads nothing. Of the faults of `list` 40, 44 and 46 can come.
+///
+/// The store must run, and the replay must have taken its records.
+pub fn list_replayed<D: Disk + Drop>(
+    store: &FileStore<D>,
+    replay: ListReplay,
+) -> Result<Listing, AuditFault>
+    requires running { has_stopped store.now ≡ false }
+    requires taken { replay ≡ records_of store.now }
+    ensures { ListsReplayed D.Disk store.now result }
+{
+    replay.finish(slot_behind(store))
 }

@@ -1,25 +1,23 @@
-use Rattle.std.proofs.Common.{rules, ◌≡◌, ◌-◌, Err, sym, ap, subst}
+use Rattle.std.proofs.Common.{rules, ◌≡◌, ◌∙◌, Err, sym, subst}
 use Rattle.key_audit.specs.Audit.{Audits}
-use Rattle.key_audit.proofs.Audits.{accepted, no_anchor, no_tag}
+use Rattle.key_audit.proofs.Audits.{audited_after, loaded_there, not_loaded}
 use Rattle.key_audit.proofs.file.audit.audit.Goals as goal
 
-pub returns-in_err-check_anchor : goal.returns-in_err-check_anchor
-returns-in_err-check_anchor g c =
-    let answer : c.from_residual-in_err-check_anchor.result ≡ Err c.in_err-check_anchor.field-0.0 = search rules in
-    subst (Audits g.D.Disk c.args.store.now c.check_anchor.new.store c.args.anchor) (sym answer)
-    (no_anchor g.D.Disk (λ on honest. g.met.D.Disk.gives_bytes on honest) c.args.store.now c.load_ledger.new.store c.check_anchor.new.store c.args.anchor _ _ c.in_ok-ledger.ledger.records
-    c.in_ok-ledger.ensures.reads c.in_ok-ledger.ensures.records c.in_ok-ledger.ensures.legal c.in_err-check_anchor.ensures)
+pub returns-in_err-load_into : goal.returns-in_err-load_into
+returns-in_err-load_into g c =
+    let answer : c.from_residual.result ≡ Err c.in_err-load_into.field-0.0 = search rules in
+    subst (Audits g.D.Disk c.args.store.now c.load_into.new.store c.args.anchor) (sym answer)
+    (not_loaded g.D.Disk (λ on honest. g.met.D.Disk.gives_bytes on honest) c.args.store.now c.load_into.new.store c.args.anchor _
+    c.in_err-load_into.ensures.reads c.in_err-load_into.ensures.refused)
 
-pub returns-in_err-tag : goal.returns-in_err-tag
-returns-in_err-tag g c =
-    let answer : c.from_residual-in_err-tag.result ≡ Err c.in_err-tag.field-0.0 = search rules in
-    subst (Audits g.D.Disk c.args.store.now c.read_tag.new.store c.args.anchor) (sym answer)
-    (no_tag g.D.Disk (λ on honest. g.met.D.Disk.gives_bytes on honest) c.args.store.now c.load_ledger.new.store c.check_anchor.new.store c.read_tag.new.store c.args.anchor _ _ _
-    c.in_ok-ledger.ledger.records _ c.in_ok-ledger.ensures.reads c.in_ok-ledger.ensures.records c.in_ok-check_anchor.ensures c.in_err-tag.ensures)
+pub judge-requires-clause-running : goal.judge-requires-clause-running
+judge-requires-clause-running g c = c.in_ok-load_into.ensures.reads.stopped ∙ c.in_ok-load_into.ensures.reads.was_stopped
+
+pub judge-requires-clause-taken : goal.judge-requires-clause-taken
+judge-requires-clause-taken g c =
+    loaded_there g.D.Disk c.args.store.now c.load_into.new.store _ c.load_into.new.taker c.in_ok-load_into.ensures.reads c.in_ok-load_into.ensures.records
 
 pub returns : goal.returns
 returns g c =
-    accepted g.D.Disk (λ on honest. g.met.D.Disk.gives_bytes on honest) c.args.store.now c.load_ledger.new.store c.check_anchor.new.store c.read_tag.new.store c.args.anchor _ _
-    c.in_ok-ledger.ledger.records _ c.in_ok-tag.tag c.report_of.result c.in_ok-ledger.ensures.reads c.in_ok-ledger.ensures.records
-    c.in_ok-ledger.ensures.legal c.in_ok-check_anchor.ensures c.in_ok-tag.ensures (ap (λ n. n - 1) c.count-last.ensures)
-    c.report_of.ensures.reports c.report_of.ensures.tag
+    audited_after g.D.Disk (λ on honest. g.met.D.Disk.gives_bytes on honest) c.args.store.now c.load_into.new.store c.judge.new.store c.args.anchor c.judge.result _
+    c.load_into.new.taker c.in_ok-load_into.ensures.reads c.in_ok-load_into.ensures.records c.judge.ensures

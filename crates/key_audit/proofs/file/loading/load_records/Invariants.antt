@@ -1,5 +1,0 @@
-use Rattle.key_audit.proofs.Loads.{HasLoaded}
-use Rattle.key_audit.proofs.file.loading.load_records.Given as goal
-
-abbrev pub invariant-loop-slot : goal.invariant-loop-slot
-invariant-loop-slot g l = HasLoaded g.D.Disk l.fn.store l.store l.records.items l.slot
