@@ -21,7 +21,9 @@ use Rattle.command.specs.Refusal.{refusal_line}
 use Rattle.state_file.specs.Slot.{version_code}
 use Rattle.typecodes.specs.Spec.{spec_text}
 use Rattle.key_audit.specs.Listing.{Shown, names_among, shown_of_listing}
+use Rattle.key_audit.specs.Signatures.{below_2_64, signatures_of}
 use Rattle.command.specs.Output.{Taken, WritesText, Fails, behind_line, entry_lines, level_lines, moved_line}
+use Rattle.command.specs.Output.{signatures_line}
 
 -- the lines of a report, after the bytes of the public key
 abbrev pub report_lines : (public : List ℕ) → Report → List ℕ
@@ -30,13 +32,14 @@ report_lines public report =
     ++ codes "\ntag ") ++ encode_lower report.tag) ++ codes "\n") ++ level_lines 0 report.left.items
     ++ moved_line report.moved
 
--- the key's spec, the version of the file, the free leaves of each level, the number of names, each record, and the
--- last one's slot if bytes stand behind it
+-- the key's spec, the version of the file, the free leaves of each level, the number of names, each record, the number
+-- of new names that can still be signed, and the last record's slot if bytes stand behind it
 abbrev pub listing_lines : Shown → (behind : Option ℕ) → List ℕ
 listing_lines shown behind =
-    (((((((((codes "spec " ++ spec_text shown.spec) ++ codes "\nformat ") ++ decimal (version_code shown.version))
+    ((((((((((codes "spec " ++ spec_text shown.spec) ++ codes "\nformat ") ++ decimal (version_code shown.version))
     ++ codes "\n") ++ level_lines 0 shown.left) ++ codes "names ") ++ decimal (names_among shown.entries))
-    ++ codes "\n") ++ entry_lines 0 shown.entries) ++ behind_line behind
+    ++ codes "\n") ++ entry_lines 0 shown.entries) ++ signatures_line (below_2_64 (signatures_of shown)))
+    ++ behind_line behind
 
 abbrev pub done_lines : Done → List ℕ
 done_lines Verified = codes "verified\n"

@@ -4,8 +4,8 @@ use Rattle.key_audit.specs.declared.listing.Listing.{Listing}
 use Rattle.key_audit.specs.declared.report.Anchor.{Anchor}
 use Rattle.key_audit.specs.declared.report.AuditFault.{AuditFault}
 use Rattle.key_audit.specs.declared.report.Report.{Report}
-use Rattle.key_audit.specs.Audit.{Audits}
-use Rattle.key_audit.specs.Listing.{Lists}
+use Rattle.key_audit.specs.Audit.{AuditsReplayed}
+use Rattle.key_audit.specs.Listing.{ListsReplayed}
 use Rattle.typecodes.specs.declared.message.Message as message
 use Rattle.typecodes.specs.declared.spec.Spec.{Spec}
 use Rattle.state_file.specs.declared.disk.Disk as disk
@@ -23,7 +23,7 @@ use Rattle.sign_core.specs.declared.source.Source as source
 use Rattle.sign_core.specs.declared.source.TapeSource.{TapeSource}
 use Rattle.sign_core.specs.Migration.{Migrates}
 use Rattle.sign_core.specs.Serving.{Serves}
-use Rattle.sign_core.specs.Signer.{Creates, Opens, Signs, View}
+use Rattle.sign_core.specs.Signer.{Creates, OpensReplayed, Signs, View}
 use Rattle.command.specs.declared.refusal.Refusal.{Refusal}
 use Rattle.command.specs.declared.refusal.Refusal.TheVariants.{Audit, Migration, Opening, Preparing, Serving, Signer}
 use Rattle.command.specs.Signing.{RetiresBelow}
@@ -31,17 +31,17 @@ use Rattle.command.specs.Signing.{RetiresBelow}
 abbrev pub given_back : {T F : Type 0} → F → T → Refused T F
 given_back fault given = record { fault = fault; given = given }
 
--- The disk's records were found, and a signer opened on them. Or one of the two was refused, and the disk is handed
--- back.
+-- The disk's records were found, and a signer opened on them, without a second reading. Or one of the two was refused,
+-- and the disk is handed back.
 abbrev pub OpensOn : {K R : Type 0} {bound : _} → disk.Ghosts K → store.Ghosts (FileStore K bound) → (given : K)
     → (random : R) → Result (View (FileStore K bound) R) (Refused K Refusal) → Type 0
 OpensOn {K} {R} {bound} d g given random (Ok signer) =
-    (found : FileStore K bound) × FindsRecords d given (Ok found) × Opens g found random (Ok signer)
+    (found : FileStore K bound) × FindsRecords d given (Ok found) × OpensReplayed g found random (Ok signer)
 OpensOn {K} {R} {bound} d g given random (Err refused) =
     ((fault : OpenFault) × FindsRecords {bound = bound} d given (Err (given_back fault refused.given))
     × (refused.fault ≡ Opening fault))
     ⊎ ((found : FileStore K bound) × (fault : SignFault) × (after : FileStore K bound) × (unused : R)
-    × FindsRecords d given (Ok found) × Opens g found random (Err (given_back fault (after, unused)))
+    × FindsRecords d given (Ok found) × OpensReplayed g found random (Err (given_back fault (after, unused)))
     × (refused.fault ≡ Signer fault) × (refused.given ≡ disk_of after))
 
 -- A signer was opened on the disk, retired the leaves, and gave the disk back; or it couldn't be opened. A retire draws
@@ -120,15 +120,15 @@ AuditsOn {K} d old new anchor answer =
     ((fault : OpenFault) × FindsRecords {bound = d} d old (Err (given_back fault new))
     × (answer ≡ Err (Opening fault)))
     ⊎ ((found after : FileStore K d) × (audited : Result Report AuditFault) × FindsRecords d old (Ok found)
-    × Audits d found after anchor audited × (answer ≡ audit_reported audited) × (new ≡ disk_of after))
+    × AuditsReplayed d found after anchor audited × (answer ≡ audit_reported audited) × (new ≡ disk_of after))
 
 -- The disk's records were found and listed, and the disk given back; or they couldn't be found.
 abbrev pub ListsOn : {K : Type 0} → (d : disk.Ghosts K) → (old new : K) → Result Listing Refusal → Type 0
 ListsOn {K} d old new answer =
     ((fault : OpenFault) × FindsRecords {bound = d} d old (Err (given_back fault new))
     × (answer ≡ Err (Opening fault)))
-    ⊎ ((found after : FileStore K d) × (listed : Result Listing AuditFault) × FindsRecords d old (Ok found)
-    × Lists d found after listed × (answer ≡ audit_reported listed) × (new ≡ disk_of after))
+    ⊎ ((found : FileStore K d) × (listed : Result Listing AuditFault) × FindsRecords d old (Ok found)
+    × ListsReplayed d found listed × (answer ≡ audit_reported listed) × (new ≡ disk_of found))
 
 abbrev pub migrate_reported : Result ℕ MigrateFault → Result ℕ Refusal
 migrate_reported (Ok count) = Ok count

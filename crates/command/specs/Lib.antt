@@ -13,6 +13,7 @@ pub mod LineFault
 pub mod ListState
 pub mod Make
 pub mod Migrate
+pub mod Notes
 pub mod Number
 pub mod Output
 pub mod Program

@@ -4,7 +4,7 @@ use Rattle.std.specs.List.{fold}
 use Rattle.std.specs.Io.KnownBytes.{Appends}
 use Rattle.command.specs.declared.output.Part.{Part}
 use Rattle.command.specs.declared.output.Part.TheVariants.{Text, Number, Bytes, Hex, Levels, Moved as MovedPart}
-use Rattle.command.specs.declared.output.Part.TheVariants.{Spec, Entries, Behind}
+use Rattle.command.specs.declared.output.Part.TheVariants.{Spec, Entries, Signatures, Behind}
 use Rattle.hex.specs.Hex.{encode_lower}
 use Rattle.key_audit.specs.declared.listing.Entry.{Entry}
 use Rattle.key_audit.specs.declared.listing.Entry.TheVariants.{Key, Tree, Name, Retired, Moved}
@@ -22,6 +22,11 @@ level_lines first (left ∷ below) = level_line first left ++ level_lines (first
 abbrev pub moved_line : Option ℕ → List ℕ
 moved_line None = []
 moved_line (Some version) = codes "moved " ++ decimal version ++ codes "\n"
+
+-- how many new names a key can still sign; None is 2^64 or more
+abbrev pub signatures_line : Option ℕ → List ℕ
+signatures_line None = codes "signatures at least 2^64\n"
+signatures_line (Some number) = codes "signatures " ++ decimal number ++ codes "\n"
 
 -- the last record's slot, if bytes stand behind it
 abbrev pub behind_line : Option ℕ → List ℕ
@@ -53,6 +58,7 @@ part_text (Levels left) = level_lines 0 left.now
 part_text (MovedPart version) = moved_line version
 part_text (Spec spec) = spec_text spec.now
 part_text (Entries entries) = entry_lines 0 entries.now
+part_text (Signatures number) = signatures_line number
 part_text (Behind slot) = behind_line slot
 
 abbrev pub text_of : List Part → List ℕ

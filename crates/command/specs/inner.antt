@@ -3,7 +3,9 @@ pub mod FileDisk
 pub mod Files
 pub mod Line
 pub mod ListingText
+pub mod Notes
 pub mod RandomFile
+pub mod Sentence
 pub mod Sign
 pub mod StateFile
 pub mod SystemFile

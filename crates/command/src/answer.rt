@@ -5,13 +5,18 @@ ghost use Rattle.command.specs.Answer.{IsOfWord, ReportsRequest, ReportsServing,
 ghost use Rattle.command.specs.Answer.{listing_lines, report_lines, status_of};
 ghost use Rattle.command.specs.AnswerLaws.{AnswerLaws};
 ghost use Rattle.key_audit.specs.Listing.{shown_of_listing};
+ghost use Rattle.command.specs.Notes.{NotesEnd, NotesOutput};
+ghost use Rattle.command.specs.inner.Notes.{with_note};
 ghost use Rattle.command.specs.Output.{Prints, WritesText};
 ghost use Rattle.command.specs.Streams.{taken};
 
+use crate::notes::Notes;
 use crate::output::{Output, Part};
 use crate::refusal::Refusal;
 use arrayvec::ArrayVec;
-use key_audit::{AuditFault, GivenFault, Listing, Report, count_names, listing_law};
+use key_audit::{
+    AuditFault, GivenFault, Listing, Report, count_names, count_signatures, listing_law,
+};
 use sign_core::{ServeFault, SignFault};
 use state_file::{FormatFault, MigrateFault, OpenFault};
 use std::io;
@@ -124,6 +129,7 @@ fn print_listing<O: Output>(listing: &Listing, output: &mut O) -> io::Result<()>
         Part::Number(names as u64),
         Part::Text("\n"),
         Part::Entries(listing.entries.as_slice()),
+        Part::Signatures(count_signatures(listing)),
         Part::Behind(listing.behind),
     ])
 }
@@ -137,32 +143,57 @@ pub const OUTPUT_FAILED: u8 = 3;
 // The exit status for a bad name or spec.
 const WORD_REFUSED: u8 = 2;
 
-/// Prints the answer's lines, and gives the exit status.
-pub fn report<O: Output>(answer: &Answer, output: &mut O) -> u8
+/// Prints the answer's lines, and gives the exit status. `notes` hears of a refusal, with `word`, the name or the spec
+/// of the line, and of an output that failed.
+pub fn report<O: Output, N: Notes>(answer: &Answer, word: &str, output: &mut O, notes: &mut N) -> u8
     ensures reports { ReportsRequest answer.now (taken O.contents O.failures output.old)
         (taken O.contents O.failures output.new) result }
     ensures refuses { result ≡ 2 → IsOfWord answer.now × WritesText (answer_line answer.now)
         (taken O.contents O.failures output.old) (taken O.contents O.failures output.new) }
+    ensures notes { NotesOutput (taken O.contents O.failures output.old) (taken O.contents O.failures output.new)
+        (N.told notes.old) (N.told notes.new) result }
 {
     let printed = match answer {
         Ok(done) => done.print(output),
         Err(refusal) => output.print(&refusal.line()),
     };
     match printed {
-        Ok(()) => status(answer),
-        Err(_) => OUTPUT_FAILED,
+        Ok(()) => {
+            note(answer, word, notes);
+            status(answer)
+        }
+        Err(_) => {
+            notes.unwritten();
+            OUTPUT_FAILED
+        }
+    }
+}
+
+fn note<N: Notes>(answer: &Answer, word: &str, notes: &mut N)
+    ensures { N.told notes.new ≡ with_note answer.now (N.told notes.old) }
+{
+    if let Err(refusal) = answer {
+        notes.refused(refusal, word);
     }
 }
 
 /// Prints why serving ended before its input did, if it did. Gives the exit status, even where this can't be printed.
-pub fn report_serving<E: Output>(served: &Result<u64, Refusal>, errors: &mut E) -> u8
-    ensures { ReportsServing served.now (taken E.contents E.failures errors.old)
+/// `notes` hears of the refusal.
+pub fn report_serving<E: Output, N: Notes>(
+    served: &Result<u64, Refusal>,
+    errors: &mut E,
+    notes: &mut N,
+) -> u8
+    ensures reports { ReportsServing served.now (taken E.contents E.failures errors.old)
         (taken E.contents E.failures errors.new) result }
+    ensures notes { NotesEnd (taken E.contents E.failures errors.old) (taken E.contents E.failures errors.new)
+        (N.told notes.old) (N.told notes.new) result }
 {
     let Err(refusal) = served else {
         return 0;
     };
     let _ = errors.print(&refusal.line());
+    notes.refused(refusal, "");
     status(&Err(*refusal))
 }
 

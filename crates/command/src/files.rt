@@ -140,6 +140,9 @@ pub trait SignerFolder<'a>: LineFiles<'a> + Outlet {
     fn alarm(&self, path: &'a str) -> Self::Alarm
         ensures { Self.Alarm.slots result ≡ [] };
 
+    /// Warns the user that the records of the file at `old` were moved before: if that wasn't to `new`, two can sign.
+    fn warn_moved(&self, old: &str, new: &str);
+
     /// Closes a state file, which frees its lock, if it has one. `is_closed` says nothing of the files of a `Machine`.
     /// Nothing says that the files of `audit-given` are closed.
     fn close_state(&mut self, disk: Self::Disk)

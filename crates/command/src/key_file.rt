@@ -1,5 +1,5 @@
-//! What the commands do with a key on the disk of its state file. Each but `make` tells an alarm, as soon as the file
-//! is open, if bytes stand behind its last record.
+//! What the commands do with a key on the disk of its state file. Each but `migrate` reads its records once, as it
+//! opens the file. Each but `make` tells an alarm, as soon as the file is open, if bytes follow its last record.
 
 ghost use Rattle.std.specs.Prelude.{◌≡◌, vec_capacity};
 ghost use Rattle.state_file.specs.FileStore.{disk_of, outcome_of};
@@ -11,9 +11,9 @@ ghost use Rattle.sign_core.specs.OldFile.{opening_fault};
 
 use crate::refusal::Refusal;
 use crate::signing;
-use key_audit::{Anchor, AuditFault, Listing, Report};
+use key_audit::{Anchor, AuditFault, ListReplay, Listing, Report};
 use sign_core::{
-    Alarm, KeyProgress, ServeFault, SignFault, Signer, Source, TapeSource, TreeProgress,
+    Alarm, KeyProgress, Replay, ServeFault, SignFault, Signer, Source, TapeSource, TreeProgress,
     serve_telling, tell_behind,
 };
 use state_file::{Disk, FileStore, MigrateFault, Refused, Store, Version};
@@ -47,10 +47,11 @@ pub fn open_signer<D: Disk + Drop, R: Source + Drop, A: Alarm>(
     ensures tells { TellsBehind D.Disk disk Refusal.Opening (outcome_of result) (A.slots alarm.old)
         (A.slots alarm.new) }
 {
-    match FileStore::open(disk) {
+    let mut replay = Replay::new(alloc);
+    match FileStore::open_into(disk, &mut replay) {
         Ok(store) => {
             tell_behind(&store, alarm);
-            match Signer::open(alloc, store, random) {
+            match Signer::open_replayed(store, random, replay) {
                 Ok(signer) => Ok(signer),
                 Err(refused) => Err(handed_back(refused)),
             }
@@ -82,7 +83,7 @@ pub fn retire<D: Disk + Drop, A: Alarm>(
     }
 }
 
-/// Makes a key on a disk that has none, and gives its signer. A refusal hands the disk back. `progress` is told of the
+/// Makes a key on a disk that has none, and gives its signer. A refusal hands the disk back. `progress` hears of the
 /// tree that is made.
 pub fn make<D: Disk + Drop, R: Source + Drop, P: TreeProgress>(
     alloc: Global,
@@ -126,7 +127,7 @@ fn sign_with<S: Store, R: Source, M: Message, P: TreeProgress>(
 }
 
 /// Signs a message under a name with the key on a disk, and gives the disk back. On Ok `signature` has the signature.
-/// `progress` is told of the trees that are made.
+/// `progress` hears of the trees that are made.
 pub fn sign<D: Disk + Drop, R: Source + Drop, M: Message, A: Alarm, P: TreeProgress>(
     alloc: Global,
     disk: D,
@@ -152,7 +153,7 @@ pub fn sign<D: Disk + Drop, R: Source + Drop, M: Message, A: Alarm, P: TreeProgr
 }
 
 /// Answers each request of the input by a reply on the output, with the key on a disk, up to the input's end. Gives the
-/// disk back, and the number of replies. `progress` is told of the trees that are made.
+/// disk back, and the number of replies. `progress` hears of the trees that are made.
 pub fn serve<D: Disk + Drop, R: Source + Drop, I: Message, W: Write, A: Alarm, P: TreeProgress>(
     alloc: Global,
     disk: D,
@@ -196,11 +197,12 @@ pub fn audit<D: Disk + Drop, A: Alarm>(
     ensures audits { AuditsOn D.Disk disk result.0 anchor result.1 }
     ensures tells { TellsBehind D.Disk disk Refusal.Opening result.1 (A.slots alarm.old) (A.slots alarm.new) }
 {
-    match FileStore::open(disk) {
+    let mut replay = Replay::new(alloc);
+    match FileStore::open_into(disk, &mut replay) {
         Ok(store) => {
             let mut store = store;
             tell_behind(&store, alarm);
-            let audited = reported(key_audit::audit(alloc, &mut store, anchor));
+            let audited = reported(key_audit::audit_replayed(&mut store, replay, anchor));
             (store.into_disk(), audited)
         }
         Err(refused) => (refused.given, Err(Refusal::Opening(refused.fault))),
@@ -216,11 +218,11 @@ pub fn list<D: Disk + Drop, A: Alarm>(
     ensures lists { ListsOn D.Disk disk result.0 result.1 }
     ensures tells { TellsBehind D.Disk disk Refusal.Opening result.1 (A.slots alarm.old) (A.slots alarm.new) }
 {
-    match FileStore::open(disk) {
+    let mut replay = ListReplay::new(alloc);
+    match FileStore::open_into(disk, &mut replay) {
         Ok(store) => {
-            let mut store = store;
             tell_behind(&store, alarm);
-            let listed = reported(key_audit::list(alloc, &mut store));
+            let listed = reported(key_audit::list_replayed(&store, replay));
             (store.into_disk(), listed)
         }
         Err(refused) => (refused.given, Err(Refusal::Opening(refused.fault))),

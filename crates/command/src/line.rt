@@ -17,6 +17,7 @@ use crate::line_fault::LineFault;
 use crate::list::ListState;
 use crate::make::Make;
 use crate::migrate::Migrate;
+use crate::notes::Notes;
 use crate::output::Output;
 use crate::public::Public;
 use crate::retire::Retire;
@@ -61,14 +62,15 @@ pub enum Request<'a> {
 impl<'a> Request<'a> {
     ghost use Rattle.command.specs.Files.{files_seen};
     ghost use Rattle.command.specs.Line.{task_of};
+    ghost use Rattle.command.specs.Notes.{NotesAnswer};
     ghost use Rattle.command.specs.Program.{RefusesWord, ReportsTask};
     ghost use Rattle.command.specs.Streams.{output_seen, streams, taken};
 
-    /// Does what is requested, reports the answer, and gives the exit status. `progress` is told of the trees that are
-    /// made.
+    /// Does what is requested, reports the answer, and gives the exit status. `progress` hears of the trees that are
+    /// made, `notes` of a refusal.
     ///
     /// No command is inlined: each stack frame would otherwise hold the buffers of all.
-    pub fn fulfil<D: SignerFolder<'a>, I: Message, O: Output, E: Output, P: TreeProgress>(
+    pub fn fulfil<D: SignerFolder<'a>, I: Message, O: Output, E: Output, P: TreeProgress, N: Notes>(
         &self,
         alloc: Global,
         folder: &mut D,
@@ -76,6 +78,7 @@ impl<'a> Request<'a> {
         output: &mut O,
         errors: &mut E,
         progress: &P,
+        notes: &mut N,
     ) -> u8
         ensures reports { ReportsTask D.Disk.Disk ⟦<FileStore<D::Disk> as Store>⟧ D.Random.Source I.Message
             (output_seen O.contents O.failures)
@@ -86,23 +89,30 @@ impl<'a> Request<'a> {
         ensures refuses { result ≡ 2 → RefusesWord (taken O.contents O.failures output.old)
             (taken O.contents O.failures output.new)
             (taken E.contents E.failures errors.old) (taken E.contents E.failures errors.new) }
+        ensures notes { NotesAnswer (taken O.contents O.failures output.old) (taken O.contents O.failures output.new)
+            (taken E.contents E.failures errors.old) (taken E.contents E.failures errors.new)
+            (N.told notes.old) (N.told notes.new) result }
     {
         match self {
-            Request::Make(words) => report(&words.answer(alloc, folder, progress), output),
-            Request::Sign(words) => report(&words.answer(alloc, folder, progress), output),
-            Request::Verify(files) => report(&files.answer(folder), output),
-            Request::Retire(words) => report(&words.answer(alloc, folder), output),
-            Request::Audit(words) => report(&words.answer(alloc, folder), output),
-            Request::AuditGiven(words) => report(&words.answer(alloc, folder), output),
-            Request::Serve(words) => {
-                report_serving(
-                    &words.answer(alloc, folder, input, output, progress),
-                    errors,
-                )
+            Request::Make(words) => {
+                let answer = words.answer(alloc, folder, progress);
+                report(&answer, words.spec, output, notes)
             }
-            Request::Migrate(words) => report(&words.answer(alloc, folder), output),
-            Request::ListState(words) => report(&words.answer(alloc, folder), output),
-            Request::Public(words) => report(&words.answer(alloc, folder), output),
+            Request::Sign(words) => {
+                let answer = words.answer(alloc, folder, progress);
+                report(&answer, words.name, output, notes)
+            }
+            Request::Verify(files) => report(&files.answer(folder), "", output, notes),
+            Request::Retire(words) => report(&words.answer(alloc, folder), "", output, notes),
+            Request::Audit(words) => report(&words.answer(alloc, folder), "", output, notes),
+            Request::AuditGiven(words) => report(&words.answer(alloc, folder), "", output, notes),
+            Request::Serve(words) => {
+                let served = words.answer(alloc, folder, input, output, progress);
+                report_serving(&served, errors, notes)
+            }
+            Request::Migrate(words) => report(&words.answer(alloc, folder), "", output, notes),
+            Request::ListState(words) => report(&words.answer(alloc, folder), "", output, notes),
+            Request::Public(words) => report(&words.answer(alloc, folder), "", output, notes),
         }
     }
 }
@@ -266,7 +276,7 @@ fn bare_hbsign<'a>(alloc: Global) -> Result<Command<'a>, AllocError>
                  1  Refused: a line on standard output says why, of serve on standard error\n  \
                  2  The line is wrong, or its name or spec is none; no file was opened\n  \
                  3  A file or the machine failed, or the input of serve ended inside a message (27); standard error \
-                 says what failed, but for memory (29, 46) and the output (36)",
+                 says what failed",
             )
             .version(VERSION)
             .no_binary_name(true)

@@ -37,7 +37,8 @@ impl<'a> ListState<'a> {
             .after_help(
                 "It reads STATE alone, without a lock, so that it runs beside serve and on a copy that is read-only. \
                  Nothing that it prints is secret.\n\nExample:\n  $ hbsign list firmware.key\n  spec lms:H10/W8\n  \
-                 format 2\n  level 0 left 1023\n  names 1\n  0 key\n  1 name fw-1.0.2 leaf 0 digest 91c0..",
+                 format 2\n  level 0 left 1023\n  names 1\n  0 key\n  1 name fw-1.0.2 leaf 0 digest 91c0..\n  \
+                 signatures 1023",
             )
             .arg(required(alloc, "STATE", "State file, or a copy of it"))
     }

@@ -421,6 +421,10 @@ impl<'a, R: Files<File = File>> SignerFolder<'a> for Machine<'a, R> {
         StateAlarm::new(self.standard, path)
     }
 
+    fn warn_moved(&self, old: &str, new: &str) {
+        self.standard.warn_moved(old, new);
+    }
+
     fn close_state(&mut self, disk: FileDisk<StateFile<'a, SystemFile>>) {
         drop(disk);
     }

@@ -16,10 +16,11 @@
 //! - the line: `line`, `argument` and `number`; where it gives no request, `usage_fault`, `line_fault`
 //!   and `texts`
 //! - the commands: `make`, `sign`, `verify`, `retire`, `audit`, `audit_given`, `serve`, `migrate`, `list`, `public`
-//! - the answer: `answer`, `refusal`, `listing_text` and `hex_text`, written to `output`
+//! - the answer: `answer`, `refusal`, `listing_text` and `hex_text`, written to `output`; `notes` and `sentence` say
+//!   what a refusal means
 //! - a signer: `key_file` over the disk of a state file, `signing` over any store
 //! - files: `files` has the traits, `trace` what contracts see of the calls
-//! - the machine: `machine`, `standard` (its streams, and what is said of failed calls) and `random_file`; `file_id`
+//! - the machine: `machine`, `standard` (its streams, and the lines about failed calls) and `random_file`; `file_id`
 //!   (which file a path leads to), `target` (how a file is written), `key_start` (whether it has a key)
 //! - a state file: `file_calls` (the calls of the system, which are trusted), made by `system_file`; `state` over them,
 //!   `offset_file`, and `file_disk` over that; `disk_file` has an honest file
@@ -46,6 +47,7 @@ mod listing_text;
 mod machine;
 mod make;
 mod migrate;
+mod notes;
 mod number;
 mod offset_file;
 mod output;
@@ -55,6 +57,7 @@ mod public;
 mod random_file;
 mod refusal;
 mod retire;
+mod sentence;
 mod serve;
 mod sign;
 mod signing;
@@ -70,8 +73,10 @@ mod verify;
 use answer::OUTPUT_FAILED;
 use line::ClapReader;
 use machine::Machine;
+use notes::Notes;
 use output::{Output, Part, Printer};
-use progress::Bar;
+use progress::{Bar, is_quiet};
+use sentence::Sentences;
 use serve::Serve;
 use standard::{Input, Standard, StreamWriter};
 use std::env::Env;
@@ -88,6 +93,7 @@ fn main(rt: HostRuntime) -> ExitCode {
 }
 
 fn run(rt: &HostRuntime, standard: &Standard) -> u8 {
+    let mut notes = Sentences::new(standard, is_quiet(rt));
     let stderr = rt.stderr();
     let mut errors = Printer::new(StreamWriter {
         standard,
@@ -102,12 +108,21 @@ fn run(rt: &HostRuntime, standard: &Standard) -> u8 {
     // A crash leaves an answer whole or not written: it is written in one piece, unless a listing is longer than this
     // buffer. The buffer is written again when it is dropped; after a failed write, `StreamWriter` refuses that.
     let Ok(writer) = BufWriter::new(rt.alloc(), writer) else {
-        return no_memory(rt, &mut errors);
+        return no_memory(rt, &mut errors, &mut notes);
     };
     let mut output = Printer::new(writer);
     match words(rt) {
-        Ok(words) => run_line(rt, standard, words.as_slice(), &mut output, &mut errors),
-        Err(error) if error.kind() == io::ErrorKind::OutOfMemory => no_memory(rt, &mut errors),
+        Ok(words) => run_line(
+            rt,
+            standard,
+            words.as_slice(),
+            &mut output,
+            &mut errors,
+            &mut notes,
+        ),
+        Err(error) if error.kind() == io::ErrorKind::OutOfMemory => {
+            no_memory(rt, &mut errors, &mut notes)
+        }
         Err(_) => {
             let _ = errors.print(&[Part::Text("error: a word of the line isn't UTF-8\n")]);
             program::LINE_REFUSED
@@ -115,12 +130,13 @@ fn run(rt: &HostRuntime, standard: &Standard) -> u8 {
     }
 }
 
-fn run_line<'a, O: Output, E: Output>(
+fn run_line<'a, O: Output, E: Output, N: Notes>(
     rt: &HostRuntime,
     standard: &'a Standard,
     words: &'a [String],
     output: &mut O,
     errors: &mut E,
+    notes: &mut N,
 ) -> u8 {
     program::run(
         rt.alloc(),
@@ -134,12 +150,13 @@ fn run_line<'a, O: Output, E: Output>(
         output,
         errors,
         &&Bar::new(rt, standard),
+        notes,
     )
 }
 
 // Takes no memory. Tested: the line is on standard error exactly if the first word is `serve`.
-fn no_memory<E: Output>(rt: &HostRuntime, errors: &mut E) -> u8 {
-    program::report_no_memory(serves(rt), &mut Printer::new(io::writer(rt)), errors)
+fn no_memory<E: Output, N: Notes>(rt: &HostRuntime, errors: &mut E, notes: &mut N) -> u8 {
+    program::report_no_memory(serves(rt), &mut Printer::new(io::writer(rt)), errors, notes)
 }
 
 // Whether the first word is `serve`.

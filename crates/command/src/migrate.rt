@@ -4,7 +4,8 @@ ghost use Rattle.std.specs.Prelude.{◌≡◌, IfOk, codes};
 ghost use Rattle.clap.specs.declared.builder.command.Command.{Command as ClapCommand};
 ghost use Rattle.clap.specs.Words.{AddsSubcommand, app_of, first_value, found_of, with_subcommand};
 ghost use Rattle.command.specs.Files.{files_seen};
-ghost use Rattle.command.specs.Migrate.{IsMigrate, MigratesFrom, MigratesIn, migrate_answer, migrate_app};
+ghost use Rattle.command.specs.Migrate.{IsMigrate, MigratesFrom, MigratesIn, MigratesOpened, migrate_answer};
+ghost use Rattle.command.specs.Migrate.{migrate_app};
 
 use crate::answer::{Answer, Done};
 use crate::argument::required;
@@ -12,7 +13,7 @@ use crate::files::{NewContent, SignerFolder};
 use crate::key_file;
 use crate::refusal::Refusal;
 use clap::{ArgMatches, Command};
-use state_file::Disk;
+use state_file::{Disk, SlotList};
 use std::alloc::{AllocError, Global};
 
 /// The words of the line.
@@ -46,8 +47,8 @@ impl<'a> Migrate<'a> {
             .arg(required(
                 alloc,
                 "NEW",
-                "State file that takes its place, which is made where there is none. After a stop or a failure run the \
-                         same line again: one OLD goes to one NEW",
+                "State file that takes its place, which is made where there is none. After a stop, a failure or 50 \
+                         never take another NEW: run the same line again, since one OLD goes to one NEW",
             ))
     }
 
@@ -84,14 +85,42 @@ impl<'a> Migrate<'a> {
             (D.trace folder.old) (D.trace folder.new) }
     {
         match folder.open_or_make_state(self.new, NewContent::Records) {
-            Ok(new) => {
-                let mut alarm = folder.alarm(self.old);
-                let (old, new, migrated) = key_file::migrate(alloc, old, new, &mut alarm);
+            Ok(new) => self.migrate_opened(alloc, folder, old, new),
+            Err(refusal) => {
+                folder.close_state(old);
+                Err(refusal)
+            }
+        }
+    }
+
+    // Audits the old records first, and warns before anything is written if they were moved before.
+    fn migrate_opened<D: SignerFolder<'a>>(
+        &self,
+        alloc: Global,
+        folder: &mut D,
+        old: D::Disk,
+        new: D::Disk,
+    ) -> Answer
+        ensures migrates { MigratesOpened D.Disk.Disk
+            (files_seen (D.content folder.old) D.is_opened (D.is_closed folder.new)) old new result }
+        ensures trace { D.trace folder.new ≡ D.trace folder.old }
+    {
+        let mut alarm = folder.alarm(self.old);
+        let (old, audited) = key_file::audit(alloc, old, None, &mut alarm);
+        match audited {
+            Ok(report) => {
+                if report.moved.is_some() {
+                    folder.warn_moved(self.old, self.new);
+                }
+                // (the audit warned of bytes behind the last record)
+                let mut silent = SlotList::new();
+                let (old, new, migrated) = key_file::migrate(alloc, old, new, &mut silent);
                 folder.close_state(new);
                 folder.close_state(old);
                 answer_to(migrated)
             }
             Err(refusal) => {
+                folder.close_state(new);
                 folder.close_state(old);
                 Err(refusal)
             }

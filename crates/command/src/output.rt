@@ -1,9 +1,9 @@
 //! Where the program writes, with a count of the texts that couldn't be written.
 
-ghost use Rattle.std.specs.Prelude.{◌≡◌, ℕ, OnOk};
+ghost use Rattle.std.specs.Prelude.{◌≡◌, ◌++◌, ℕ, OnOk, codes, decimal};
 ghost use Rattle.std.specs.Io.KnownBytes.{Appends};
 ghost use Rattle.command.specs.Output.{CountsFailure, Prints, behind_line, level_line, level_lines, part_text};
-ghost use Rattle.command.specs.Output.{moved_line, taken_of, text_of};
+ghost use Rattle.command.specs.Output.{moved_line, signatures_line, taken_of, text_of};
 
 use crate::hex_text::write_hex;
 use crate::listing_text::{write_entries, write_spec};
@@ -31,6 +31,8 @@ pub enum Part<'a> {
     Spec(&'a Spec),
     /// A line for each of a key's records; record 0 is the first.
     Entries(&'a [Entry]),
+    /// A line with the number of new names that a key can still sign; 2^64 or more for None.
+    Signatures(Option<u64>),
     /// A line with the last record's slot, if bytes stand behind it; nothing for None.
     Behind(Option<u32>),
 }
@@ -112,6 +114,7 @@ fn write_part<W: Write>(writer: &mut W, part: &Part<'_>) -> io::Result<()>
         Part::Moved(version) => write_moved(writer, *version),
         Part::Spec(spec) => write_spec(writer, spec),
         Part::Entries(entries) => write_entries(writer, entries),
+        Part::Signatures(number) => write_signatures(writer, *number),
         Part::Behind(slot) => write_behind(writer, *slot),
     }
 }
@@ -143,6 +146,25 @@ fn write_moved<W: Write>(writer: &mut W, version: Option<u16>) -> io::Result<()>
     };
     writer.write_all("moved ".as_bytes())?;
     writer.write_fmt(u64::from(version))?;
+    writer.write_all("\n".as_bytes())
+}
+
+fn write_signatures<W: Write>(writer: &mut W, number: Option<u64>) -> io::Result<()>
+    ensures { OnOk result (Appends (W.contents writer.old) (W.contents writer.new) (signatures_line number)) }
+{
+    match number {
+        Some(number) => write_count(writer, "signatures ", number),
+        None => writer.write_all("signatures at least 2^64\n".as_bytes()),
+    }
+}
+
+// A line of a word, with the blank behind it, and a number.
+fn write_count<W: Write>(writer: &mut W, word: &str, number: u64) -> io::Result<()>
+    ensures { OnOk result (Appends (W.contents writer.old) (W.contents writer.new)
+        (word.now ++ decimal number ++ codes "\n")) }
+{
+    writer.write_all(word.as_bytes())?;
+    writer.write_fmt(number)?;
     writer.write_all("\n".as_bytes())
 }
 

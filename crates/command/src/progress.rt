@@ -21,7 +21,7 @@ use std::io;
 use std::io::Write;
 use std::time::Clock;
 
-// The variable of the environment that turns the line off, unless it is empty.
+// The variable of the environment that turns the line off, and the sentences beside refusals, unless it is empty.
 const QUIET: &str = "HBSIGN_QUIET";
 
 // The width of a terminal that doesn't tell its own, and the greatest width that is believed.
@@ -411,7 +411,8 @@ fn is_dumb<E: Env>(env: &E) -> bool {
     variable(env, "TERM").as_slice() == "dumb".as_bytes()
 }
 
-fn is_quiet<E: Env>(env: &E) -> bool {
+/// Whether the user wants no line of progress, and no sentence beside a refusal.
+pub fn is_quiet<E: Env>(env: &E) -> bool {
     !matches!(env.var(QUIET, &mut [0]), Ok(0) | Err(FillError::NotPresent))
 }
 

@@ -47,7 +47,8 @@ pub enum Refusal {
 }
 
 impl Refusal {
-    fn number(&self) -> u8
+    /// Its number, by which clients tell refusals apart.
+    pub fn number(&self) -> u8
         ensures { result ≡ number_of self.now }
     {
         match self {

@@ -151,15 +151,39 @@ impl Standard {
 
     /// As `tell`, for a reason of this program's own.
     pub fn tell_reason(&self, path: &str, tried: &str, reason: &str) {
-        let mut line = Line {
+        let mut line = self.line();
+        let _ = write!(line, "hbsign: {}: {tried}: {reason}\n", Escaped(path));
+        let _ = line.pass_on();
+    }
+
+    /// Says a sentence of this program's own on standard error.
+    pub fn say(&self, sentence: &str) {
+        let mut line = self.line();
+        let _ = write!(line, "hbsign: {sentence}\n");
+        let _ = line.pass_on();
+    }
+
+    // An empty line, for standard error.
+    fn line(&self) -> Line<StreamWriter<'_, Stderr>> {
+        Line {
             text: ArrayString::new(),
             writer: StreamWriter {
                 standard: self,
                 stream: &self.errors,
                 writer: self.stderr,
             },
-        };
-        let _ = write!(line, "hbsign: {}: {tried}: {reason}\n", Escaped(path));
+        }
+    }
+
+    /// Warns on standard error that the records of `old` were moved before: if not to `new`, two files can sign.
+    pub fn warn_moved(&self, old: &str, new: &str) {
+        let mut line = self.line();
+        let _ = write!(
+            line,
+            "hbsign: {}: was moved before; if that wasn't to {}, two files can sign now: keep one\n",
+            Escaped(old),
+            Escaped(new)
+        );
         let _ = line.pass_on();
     }
 
@@ -308,12 +332,15 @@ impl<W: Write> fmt::Write for Line<W> {
     }
 }
 
-// A path with its control characters as hex digits, so that it can't change the terminal.
+// A path with its control characters as hex digits, so that it can't change the terminal. An empty one has quotes.
 #[derive(Clone, Copy)]
 struct Escaped<'a>(&'a str);
 
 impl Display for Escaped<'_> {
     fn fmt<W: fmt::Write>(&self, f: &mut Formatter<W>) -> fmt::Result {
+        if self.0.is_empty() {
+            f.write_str("''")?;
+        }
         for c in self.0.chars() {
             if c.is_control() {
                 write!(f, "\\x{:02x}", c as u32)?;

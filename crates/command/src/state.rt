@@ -8,6 +8,7 @@ ghost use Rattle.command.specs.OffsetFile.{kept};
 ghost use Rattle.command.specs.Trace.{Happening, measured, read_at, synced, written_at};
 
 use crate::file_calls::FileCalls;
+use crate::file_disk::FileDisk;
 use crate::file_id::FileId;
 use crate::files::NewContent;
 use crate::offset_file::{OffsetFile, kind_kept};
@@ -16,7 +17,7 @@ use crate::standard::Standard;
 use crate::system_file::{Access, SystemFile};
 use crate::trace::{Event, Trace};
 use sign_core::Alarm;
-use state_file::SlotList;
+use state_file::{Disk, SlotList};
 use std::fs::{File, Files, OpenOptions, Permissions, TryLockError};
 use std::io::ErrorKind;
 use std::os::unix::fs::{FileExt, OpenOptionsExt, PermissionsExt};
@@ -152,12 +153,9 @@ impl<'a> StateFile<'a, SystemFile> {
     ) -> Result<Self, Refusal>
         ensures { OpensState path.now result }
     {
-        let mut state = StateFile::take(standard, path, file, access)?;
+        let state = StateFile::take(standard, path, file, access)?;
         match state.file.file.try_lock() {
-            Ok(()) => {
-                state.is_locked = true;
-                Ok(state)
-            }
+            Ok(()) => Ok(state.locked()),
             Err(TryLockError::WouldBlock) => {
                 standard.tell_reason(
                     path,
@@ -209,6 +207,26 @@ impl<'a> StateFile<'a, SystemFile> {
             self.file.file.read_at(&mut gate, 0),
         )?;
         Ok(gate[0] != OPEN_GATE)
+    }
+}
+
+impl<'a, F: FileCalls> StateFile<'a, F> {
+    ghost use Rattle.std.specs.Prelude.{IsTrue};
+    ghost use Rattle.command.specs.declared.file_disk.FileDisk.{FileDisk as D};
+    ghost use Rattle.command.specs.declared.state.StateFile.{StateFile as S};
+    ghost use Rattle.command.specs.StateFile.{trace_of};
+
+    // It, once it is locked: where its file is honest, so is it, and so is a disk over it.
+    fn locked(self) -> Self
+        ensures path { result.path.now ≡ self.entry.path.now }
+        ensures trace { trace_of result ≡ trace_of self.entry }
+        ensures honest { IsTrue (F.honest self.entry.file) → IsTrue (⟦<StateFile<'a, F> as OffsetFile>⟧.honest result) }
+        ensures disk { (disk : D (S F)) → disk.file ≡ result → IsTrue (F.honest self.entry.file) →
+            IsTrue (⟦<FileDisk<StateFile<'a, F>> as Disk>⟧.honest disk) }
+    {
+        let mut state = self;
+        state.is_locked = true;
+        state
     }
 }
 
@@ -290,8 +308,8 @@ fn not_regular(standard: &Standard, path: &str) -> Refusal
     Refusal::FileFailed
 }
 
-// Reads a file that isn't locked. A gate that another process opened since the length was asked reads as closed: its
-// slot wasn't whole then.
+// Reads a file that isn't locked. Another process may have opened the last gate below its length since the length was
+// asked. Then this gate reads as closed: its slot wasn't whole.
 fn read_unlocked<F: FileCalls>(
     file: &mut F,
     length: u64,
@@ -301,10 +319,17 @@ fn read_unlocked<F: FileCalls>(
     ensures { ReadsAtMost result into.new }
 {
     let answer = file.read_at(at, into);
-    let next = at.saturating_add(SLOT);
-    if into.len() == 1 && into[0] == OPEN_GATE && next >= length {
+    let gate = length.saturating_sub(1) / SLOT * SLOT;
+    let Ok(n) = &answer else {
+        return answer;
+    };
+    if gate < at || gate - at >= *n as u64 {
+        return answer;
+    }
+    let gate_read = (gate - at) as usize;
+    if into[gate_read] == OPEN_GATE {
         match file.len() {
-            Ok(now) if now > next => into[0] = CLOSED_GATE,
+            Ok(now) if now > gate.saturating_add(SLOT) => into[gate_read] = CLOSED_GATE,
             _ => {}
         }
     }

@@ -26,3 +26,6 @@ returns-in-Err-clause-replies g c texts asks =
 pub returns-in-Err-clause-accepted : goal.returns-in-Err-clause-accepted
 returns-in-Err-clause-accepted g c none =
     errors_kept _ c.begins_with_serve.result c.in-Err.fault _ _ _ _ _ c.begins_with_serve.ensures none c.in-Err.ensures.err c.explain.ensures.explains
+
+pub returns-in-Ok-clause-notes : goal.returns-in-Ok-clause-notes
+returns-in-Ok-clause-notes g c = inl c.fulfil.ensures.notes
