@@ -203,7 +203,7 @@ HBS_CALL uint64_t hbs_root(const uint8_t *public_key, size_t public_key_length,
  * (RFC 8554 4.5) and 128 for XMSS (RFC 8391 4.1.9).
  *
  * `prefix` has HBS_PREFIX_BYTES. Where the number is HBS_READY, the detail is how many of them, from the first on, are
- * to be hashed, and nothing is said of the signature's validity. Otherwise it is the refusal of the key or the
+ * to be hashed, and the answer says nothing of the signature's validity. Otherwise it is the refusal of the key or the
  * signature that is known without any hash, 1 to 6 or 11, and `prefix` has zeros.
  */
 HBS_MUST_CHECK HBS_CALL uint64_t hbs_message_prefix(const uint8_t *public_key, size_t public_key_length,

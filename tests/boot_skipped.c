@@ -63,6 +63,47 @@ APART void called_twice(const part *it) {
     halted();
 }
 
+/* The same by the message's digest, which is given in the message's place. */
+static inline uint64_t verify_digest(const part *it) {
+    return hbs_verify_digest(it[KEY].bytes, it[KEY].length, it[SIGNATURE].bytes, it[SIGNATURE].length,
+                             it[MESSAGE].bytes);
+}
+
+APART void digest_once(const part *it) {
+    if (verify_digest(it) == HBS_VERIFIED) booted();
+    halted();
+}
+
+APART void digest_twice(const part *it) {
+    if (verify_digest(it) == HBS_VERIFIED && verify_digest(it) == HBS_VERIFIED) booted();
+    halted();
+}
+
+/* The same by a message in one piece. */
+static hbs_message pieces;
+
+static inline uint64_t end(const part *it) {
+    return hbs_end(&pieces, it[KEY].bytes, it[KEY].length, it[SIGNATURE].bytes, it[SIGNATURE].length);
+}
+
+static inline void begin(const part *it) {
+    if (hbs_begin(&pieces, it[KEY].bytes, it[KEY].length, it[SIGNATURE].bytes, it[SIGNATURE].length) != HBS_READY)
+        halted();
+    hbs_add(&pieces, it[MESSAGE].bytes, it[MESSAGE].length);
+}
+
+APART void end_once(const part *it) {
+    begin(it);
+    if (end(it) == HBS_VERIFIED) booted();
+    halted();
+}
+
+APART void end_twice(const part *it) {
+    begin(it);
+    if (end(it) == HBS_VERIFIED && end(it) == HBS_VERIFIED) booted();
+    halted();
+}
+
 /* Read again after a call, which a skip may let return with wrong registers. */
 static const part *volatile given;
 static volatile uint8_t root[HBS_ROOT_BYTES];

@@ -7,22 +7,30 @@
  * over, and the time in ticks of the machine's clock. The stack is measured where MEASURED is added to the call's
  * number, since that takes as long as some refusals; else it is 0. The message of hbs_verify_digest is the digest. For
  * hbs_root the answer is 0 where the key's root came out, and for a message in pieces that of hbs_begin, if it refuses,
- * and else that of hbs_end.
+ * and else that of hbs_end. With AT_0 the message isn't the case's own, but as many bytes from address 0 on, and with
+ * NULLS the answer is how many calls refuse null pointers. UNALIGNED loads a number from an odd address. Where a case
+ * ends in an exception, its answer is FAULTED, and the last one.
  */
 #include "hbs_verify.h"
 
 enum { OPEN = 1, CLOSE = 2, WRITE = 5, READ = 6, EXIT = 24 };
-enum { VERIFY, PREFIX, DIGEST, ROOT, PIECES, MEASURED = 256 };
+enum { VERIFY, PREFIX, DIGEST, ROOT, PIECES, NULLS, AT_0, UNALIGNED, MEASURED = 256 };
+#define FAULTED (~(uint64_t)0)
 /* Painted words of 32 bits below the stack pointer, and those that the caller may be using. */
 #define PAINTED 4096
 #define CALLER 32
 #define PAINT 0xa5a5a5a5u
 
-/* One after the other, so that the message and the signature begin at odd addresses. */
-static uint8_t bytes[HBS_XMSS_KEY_BYTES + 1 + (1 << 16) + HBS_MOST_SIGNATURE_BYTES + 1];
+/* One after the other, so that key and message begin at odd addresses, and the signature where the message ends. */
+static uint8_t room[1 + HBS_XMSS_KEY_BYTES + 1 + (1 << 16) + HBS_MOST_SIGNATURE_BYTES + 1] __attribute__((aligned(8)));
+static uint8_t *const bytes = room + 1;
 static uint8_t prefix[HBS_PREFIX_BYTES], root[HBS_ROOT_BYTES];
 static hbs_message so_far;
+static intptr_t answers;
 void start(void);
+void fault(void);
+/* Its variables don't count as stack of the calls that are measured. */
+#define APART __attribute__((noinline))
 
 /* Asks QEMU for something, as each machine does. */
 static intptr_t ask(intptr_t what, void *with) {
@@ -94,8 +102,16 @@ static int moved(intptr_t what, intptr_t file, void *place, size_t length) {
 static void end(void) {
     /* (a machine of 32 bits gives the reason itself) */
     intptr_t reason[2] = {0x20026, 0};
+    ask(CLOSE, &answers);
     ask(EXIT, sizeof reason[0] == 8 ? (void *)reason : (void *)reason[0]);
     for (;;) { }
+}
+
+/* Where each exception leads. */
+void fault(void) {
+    uint64_t answer[3] = {FAULTED, 0, 0};
+    moved(WRITE, answers, answer, sizeof answer);
+    end();
 }
 
 /* Whether the key's root came out. */
@@ -123,6 +139,63 @@ static uint64_t in_pieces(const uint32_t *numbers, const uint8_t *message, const
     return hbs_end(&so_far, bytes, numbers[1], signature, numbers[3]);
 }
 
+/* How many calls refuse null in the place of each pointer. The case's own signature is valid. */
+APART static uint64_t refused_nulls(const uint32_t *numbers, const uint8_t *message, const uint8_t *signature) {
+    const size_t keys = numbers[1], messages = numbers[2], signatures = numbers[3];
+    uint8_t *volatile at_0 = NULL;
+    uint8_t *null = at_0;
+    uint64_t count = (hbs_verify(null, keys, message, messages, signature, signatures) == HBS_NULL) +
+                     (hbs_verify(bytes, keys, null, messages, signature, signatures) == HBS_NULL) +
+                     (hbs_verify(bytes, keys, message, messages, null, signatures) == HBS_NULL) +
+                     (hbs_root(null, keys, message, messages, signature, signatures, root) == HBS_NULL) +
+                     (hbs_root(bytes, keys, null, messages, signature, signatures, root) == HBS_NULL) +
+                     (hbs_root(bytes, keys, message, messages, null, signatures, root) == HBS_NULL) +
+                     (hbs_root(bytes, keys, message, messages, signature, signatures, null) == HBS_NULL) +
+                     (hbs_message_prefix(null, keys, signature, signatures, prefix) == HBS_NULL) +
+                     (hbs_message_prefix(bytes, keys, null, signatures, prefix) == HBS_NULL) +
+                     (hbs_message_prefix(bytes, keys, signature, signatures, null) == HBS_NULL) +
+                     (hbs_verify_digest(null, keys, signature, signatures, root) == HBS_NULL) +
+                     (hbs_verify_digest(bytes, keys, null, signatures, root) == HBS_NULL) +
+                     (hbs_verify_digest(bytes, keys, signature, signatures, null) == HBS_NULL) +
+                     (hbs_begin((hbs_message *)null, bytes, keys, signature, signatures) == HBS_NULL) +
+                     (hbs_begin(&so_far, null, keys, signature, signatures) == HBS_NULL) +
+                     (hbs_begin(&so_far, bytes, keys, null, signatures) == HBS_NULL) +
+                     (hbs_end((const hbs_message *)null, bytes, keys, signature, signatures) == HBS_NULL) +
+                     (hbs_end(&so_far, null, keys, signature, signatures) == HBS_NULL) +
+                     (hbs_end(&so_far, bytes, keys, null, signatures) == HBS_NULL);
+    if (hbs_begin(&so_far, bytes, keys, signature, signatures) != HBS_READY) return 0;
+    hbs_add(&so_far, message, messages);
+    hbs_add(&so_far, null, 0);
+    if (hbs_end(&so_far, bytes, keys, signature, signatures) != HBS_VERIFIED) return 0;
+    hbs_add(&so_far, null, 1);
+    return count + (hbs_end(&so_far, bytes, keys, signature, signatures) == HBS_CHANGED);
+}
+
+/* The answer for a message that begins at address 0, as hbs_verify.h says: its first byte is added as a copy. */
+APART static uint64_t from_address_0(const uint32_t *numbers, const uint8_t *signature) {
+    volatile uintptr_t at = 0;
+    const uint8_t first = *(volatile uint8_t *)at;
+    uint64_t answer = hbs_begin(&so_far, bytes, numbers[1], signature, numbers[3]);
+    if (HBS_NUMBER(answer) != HBS_READY) return answer;
+    hbs_add(&so_far, &first, 1);
+    hbs_add(&so_far, (const uint8_t *)(at + 1), numbers[2] - 1);
+    return hbs_end(&so_far, bytes, numbers[1], signature, numbers[3]);
+}
+
+/* A number from an odd address, loaded as the compiler wouldn't where the processor mayn't. */
+APART static uint64_t unaligned(void) {
+    const uintptr_t at = (uintptr_t)bytes;
+    uint32_t number;
+#if defined(__riscv)
+    __asm__ volatile("lw %0, 0(%1)" : "=r"(number) : "r"(at) : "memory");
+#elif defined(__aarch64__)
+    __asm__ volatile("ldr %w0, [%1]" : "=r"(number) : "r"(at) : "memory");
+#else
+    __asm__ volatile("ldr %0, [%1]" : "=r"(number) : "r"(at) : "memory");
+#endif
+    return number;
+}
+
 static uint64_t called(const uint32_t *numbers) {
     const uint8_t *message = bytes + numbers[1], *signature = message + numbers[2];
     switch (numbers[0] % MEASURED) {
@@ -130,6 +203,9 @@ static uint64_t called(const uint32_t *numbers) {
     case PREFIX: return hbs_message_prefix(bytes, numbers[1], signature, numbers[3], prefix);
     case DIGEST: return hbs_verify_digest(bytes, numbers[1], signature, numbers[3], message);
     case ROOT: return by_root(numbers, message, signature);
+    case NULLS: return refused_nulls(numbers, message, signature);
+    case AT_0: return from_address_0(numbers, signature);
+    case UNALIGNED: return unaligned();
     default: return in_pieces(numbers, message, signature);
     }
 }
@@ -157,13 +233,13 @@ static void answer_case(const uint32_t *numbers, uint64_t *answer) {
 void start(void) {
     uint32_t numbers[4];
     uint64_t answer[3];
-    intptr_t cases = open("cases", 5, 1), answers = open("answers", 7, 5);
+    intptr_t cases = open("cases", 5, 1);
+    answers = open("answers", 7, 5);
     while (moved(READ, cases, numbers, sizeof numbers) &&
-           (size_t)numbers[1] + numbers[2] + numbers[3] <= sizeof bytes &&
+           (size_t)numbers[1] + numbers[2] + numbers[3] <= sizeof room - 1 &&
            moved(READ, cases, bytes, (size_t)numbers[1] + numbers[2] + numbers[3])) {
         answer_case(numbers, answer);
         moved(WRITE, answers, answer, sizeof answer);
     }
-    ask(CLOSE, &answers);
     end();
 }

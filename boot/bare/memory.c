@@ -7,6 +7,7 @@
 
 void start(void);
 void begin(void);
+void fault(void);
 extern uint32_t stack_end[];
 
 /* Eight bytes in a turn, as QEMU has to run each instruction. */
@@ -72,14 +73,107 @@ uint64_t __aeabi_uidivmod(uint32_t number, uint32_t by) {
 uint32_t __aeabi_uidiv(uint32_t number, uint32_t by) { return (uint32_t)__aeabi_uidivmod(number, by); }
 #endif
 
+/*
+ * Where a program begins. Each exception leads to fault. With FAULTS as 1 an unaligned load or store is an exception,
+ * where the processor can do that. With SIMD an aarch64 has its registers, and the MMU on: only then does it load from
+ * any address, in memory that isn't a device's.
+ */
+#ifndef FAULTS
+#define FAULTS 0
+#endif
+#define TEXT_OF(it) #it
+#define TEXT(it) TEXT_OF(it)
+
 #if defined(__ARM_ARCH_PROFILE) && __ARM_ARCH_PROFILE == 'M'
-__attribute__((section(".begin"), used)) static void *const vectors[16] = {stack_end, (void *)start};
+#define FOUR_FAULTS (void *)fault, (void *)fault, (void *)fault, (void *)fault
+__attribute__((section(".begin"), used)) static void *const vectors[16] = {
+    stack_end, (void *)begin, (void *)fault, (void *)fault, FOUR_FAULTS, FOUR_FAULTS, FOUR_FAULTS};
+
+/* CCR.UNALIGN_TRP, which Cortex-M0 has always set. */
+void begin(void) {
+    if (FAULTS) *(volatile uint32_t *)0xe000ed14u |= 8;
+    start();
+}
 #elif defined(__riscv)
-__attribute__((section(".begin"), naked)) void begin(void) { __asm__("la sp, stack_end\ntail start"); }
-#elif defined(__aarch64__)
 __attribute__((section(".begin"), naked)) void begin(void) {
-    __asm__("adrp x9, stack_end\nadd x9, x9, :lo12:stack_end\nmov sp, x9\nb start");
+    __asm__("la sp, stack_end\n"
+            "la t0, fault\n"
+            "csrw mtvec, t0\n"
+            "tail start");
+}
+#elif defined(__aarch64__)
+#ifdef SIMD
+#define MMU "1"
+/* The first GiB is of devices, the second Normal memory, of 32 bits of addresses. */
+#define PREPARE \
+    "mov x9, #3 << 20\n" \
+    "msr cpacr_el1, x9\n" \
+    "mov x9, #0xff00\n" \
+    "msr mair_el1, x9\n" \
+    "ldr x9, =0x803520\n" \
+    "msr tcr_el1, x9\n" \
+    "adr x9, blocks\n" \
+    "msr ttbr0_el1, x9\n" \
+    "dsb ish\n" \
+    "tlbi vmalle1\n" \
+    "dsb ish\n" \
+    "isb\n"
+#else
+#define MMU "0"
+#define PREPARE
+#endif
+__asm__(".section .vectors, \"ax\"\n"
+        ".balign 2048\n"
+        "vectors:\n"
+        ".rept 16\n"
+        "b fault\n"
+        ".balign 128\n"
+        ".endr\n"
+        "blocks:\n"
+        ".quad 0x401, 0x40000705, 0, 0\n"
+        ".text");
+
+/* SCTLR_EL1 has the bits M and A. */
+__attribute__((section(".begin"), naked)) void begin(void) {
+    __asm__(PREPARE
+            "adrp x9, vectors\n"
+            "add x9, x9, :lo12:vectors\n"
+            "msr vbar_el1, x9\n"
+            "mrs x9, sctlr_el1\n"
+            "bic x9, x9, #3\n"
+            "mov x10, #" TEXT(FAULTS) " << 1 | " MMU "\n"
+            "orr x9, x9, x10\n"
+            "msr sctlr_el1, x9\n"
+            "isb\n"
+            "adrp x9, stack_end\n"
+            "add x9, x9, :lo12:stack_end\n"
+            "mov sp, x9\n"
+            "b start");
 }
 #else
-__attribute__((section(".begin"), naked)) void begin(void) { __asm__("ldr sp, =stack_end\nb start"); }
+/* (an exception has a stack pointer of its own) */
+__asm__(".section .vectors, \"ax\"\n"
+        ".balign 32\n"
+        "vectors:\n"
+        ".rept 8\n"
+        "b faulted\n"
+        ".endr\n"
+        "faulted:\n"
+        "ldr sp, =stack_end\n"
+        "b fault\n"
+        ".ltorg\n"
+        ".text");
+
+/* SCTLR has the bit A. */
+__attribute__((section(".begin"), naked)) void begin(void) {
+    __asm__("ldr sp, =stack_end\n"
+            "ldr r0, =vectors\n"
+            "mcr p15, 0, r0, c12, c0, 0\n"
+            "mrc p15, 0, r0, c1, c0, 0\n"
+            "bic r0, r0, #2\n"
+            "orr r0, r0, #" TEXT(FAULTS) " << 1\n"
+            "mcr p15, 0, r0, c1, c0, 0\n"
+            "isb\n"
+            "b start");
+}
 #endif

@@ -51,7 +51,7 @@ static EFI_STATUS read_all(EFI_FILE_PROTOCOL *file, UINTN most, contents *it) {
     return status;
 }
 
-/* Reads a file that has at most so many bytes. Says so where it can't. */
+/* Reads a file that has at most `most` bytes. Says so where it can't. */
 static EFI_STATUS read_file(EFI_FILE_PROTOCOL *folder, CHAR16 *name, UINTN most, contents *it) {
     EFI_FILE_PROTOCOL *file;
     EFI_STATUS status = folder->Open(folder, &file, name, EFI_FILE_MODE_READ, 0);
