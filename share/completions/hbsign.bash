@@ -58,7 +58,7 @@ _hbsign() {
     [ "$kind" = none ] && return
     [ "$kind" = spec ] && kind=$specs
     mapfile -t COMPREPLY < <(compgen -W "$kind" -- "$current")
-    # what stands before a colon is on the line already
+    # what is before a colon is on the line already
     if [[ $current = *:* && $COMP_WORDBREAKS = *:* ]]; then
         COMPREPLY=("${COMPREPLY[@]#"${current%:*}:"}")
     fi
