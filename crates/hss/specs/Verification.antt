@@ -49,6 +49,7 @@ HasKeyTypes top s i = (signature_at s i).pair ≡ (key_at top s i).pair
 -- - `MessageRead`: all levels above the bottom are valid, the bottom has its key's types, and the message can't be
 --   read.
 -- - `RootMismatch`: level i is the first that isn't valid, though its types are its key's.
+-- Requirement: RFC 8554 9, types
 abbrev pub Verdict : {A : Type 0} → HssPublic → List ℕ → List ℕ → Result A Refusal → Type 0
 Verdict key message bytes (Ok _) = (s : Signature) × Spells signature s bytes × IsValid key message s
 Verdict key message bytes (Err (Unreadable fault)) = HasFault signature bytes 0 fault

@@ -20,6 +20,7 @@ abbrev pub leaf_of : List ℕ → ℕ → ℕ → List ℕ → List ℕ
 leaf_of identifier h q key = sha256 (identifier ++ u32str (node_number h 0 q) ++ u16str leaf_separator ++ key)
 
 -- T[r] = H(I || u32str(r) || u16str(D_INTR) || T[2r] || T[2r+1]): node j of height k + 1, from its children
+-- Requirement: RFC 8554 5.1, one hash
 abbrev pub join_of : List ℕ → ℕ → Joins
 join_of identifier h k j left right =
     sha256 (identifier ++ u32str (node_number h (k + 1) j) ++ u16str inner_separator ++ left ++ right)

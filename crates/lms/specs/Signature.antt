@@ -25,6 +25,7 @@ type_end ots = 4 + signature_len_of ots + 4
 
 -- A signature (5.4): q, the one-time signature (4.5) with its type, C and values, the tree's type, and the path. If q
 -- is no leaf of the tree, the fault is at q, once the tree's type is read.
+-- Requirement: RFC 8554 9, lengths
 unfoldable pub signature : Layout Signature
 signature = do
   q ← number

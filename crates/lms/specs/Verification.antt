@@ -56,6 +56,7 @@ IsValid key message s = IsValidFor key (digest_of key message s) s
 -- - `TypeMismatch`: they spell one of other types than the key's.
 -- - `MessageRead`: they spell one of the key's types, and the message can't be read.
 -- - `RootMismatch`: they spell one of the key's types that isn't valid.
+-- Requirement: RFC 8554 9, types
 abbrev pub Verdict : {A : Type 0} → LmsPublic → List ℕ → List ℕ → Result A Refusal → Type 0
 Verdict key message bytes (Ok _) = (s : Signature) × Spells signature s bytes × IsValid key message s
 Verdict key message bytes (Err (Unreadable fault)) = HasFault signature bytes 0 fault

@@ -112,7 +112,7 @@ path_more leaf join base depth i n other lower into above long last other_is low
     ∙ sym (map-range_with_len_more f 0 d d (omega arith))
     ∙ ap (λ k. part_path leaf join base k i) e
 
--- what is said of a list's length, said of a number equal to it
+-- what holds of a list's length holds of a number equal to it
 pub read_below : (leaf : Leaves) (join : Joins) (base n depth i : ℕ) (half lower : List (List ℕ)) → n ≡ depth
     → (half ≡ part_nodes leaf join base n (i / 2 ^ n) → lower ≡ part_path leaf join base n i)
     → half ≡ part_nodes leaf join base depth (i / 2 ^ depth)

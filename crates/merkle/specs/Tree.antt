@@ -11,6 +11,7 @@ abbrev pub Joins : Type 0
 Joins = ℕ → ℕ → List ℕ → List ℕ → List ℕ
 
 -- node j of height k, counted from the left
+-- Requirement: RFC 8391 4.1.6, leftmost
 unfoldable pub node : Leaves → Joins → ℕ → ℕ → List ℕ
 node leaf join zero j = leaf j
 node leaf join (suc k) j = join k j (node leaf join k (2 * j)) (node leaf join k (2 * j + 1))

@@ -17,6 +17,7 @@ use std::marker::Model;
 /// Let b be half of the tree's height, rounded down. A block is a node of height b with all nodes and the `2^b` leaves
 /// under it. Kept are the nodes from height b upwards, and one block: `2^(height - b + 1) + 2^(b + 1) - 2` nodes of 32
 /// bytes. Memory is taken when the cache is made, and by no other call.
+// Requirement: RFC 8391 4.1.9, cached path
 #[derive(Drop)]
 pub struct PathCache<T: TreeHash> {
     tree: T,
@@ -75,8 +76,8 @@ impl<T: TreeHash> PathCache<T> {
         Ok(cache)
     }
 
-    /// As `for_leaf`, and tells a `Progress` of the leaves while they are made. If memory is refused, it is told of
-    /// none, and given back.
+    /// As `for_leaf`, and tells a `Progress` of the leaves while they are made. If memory is refused, it hears of none,
+    /// and is given back.
     pub fn for_leaf_telling<P: Progress + Drop>(
         alloc: Global,
         tree: T,

@@ -40,6 +40,7 @@ xmss_text xmss.H10 = codes "10"
 xmss_text xmss.H16 = codes "16"
 xmss_text xmss.H20 = codes "20"
 
+-- Requirement: RFC 8554 6, hss
 abbrev pub spec_text : Spec → List ℕ
 spec_text (Lms pair) = codes "lms:" ++ pair_text pair
 spec_text (Hss levels) = codes "hss:" ++ levels_text levels

@@ -66,6 +66,7 @@ height_of H15 = 15
 height_of H20 = 20
 height_of H25 = 25
 
+-- Requirement: SP 800-208 4, lms sets
 abbrev pub lms_types : List LmsType
 lms_types = H5 ∷ H10 ∷ H15 ∷ H20 ∷ H25 ∷ []
 
@@ -96,6 +97,7 @@ xmss_height_of xmss.H10 = 10
 xmss_height_of xmss.H16 = 16
 xmss_height_of xmss.H20 = 20
 
+-- Requirement: SP 800-208 5, xmss sets
 abbrev pub xmss_types : List XmssType
 xmss_types = xmss.H10 ∷ xmss.H16 ∷ xmss.H20 ∷ []
 

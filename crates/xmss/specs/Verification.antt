@@ -52,6 +52,8 @@ IsValid key message s = IsValidFor key (digest_of key message s) s
 
 -- Ok: the bytes spell a valid signature of the key's type. Else one of these: the bytes have this fault; or they spell
 -- a signature, and the message can't be read; or they spell one that isn't valid.
+-- Requirement: RFC 8391 3.1.6, rejected
+-- Requirement: RFC 8391 4.1.10, fails
 abbrev pub Verdict : {A : Type 0} → XmssPublic → List ℕ → List ℕ → Result A Refusal → Type 0
 Verdict key message bytes (Ok _) = (s : Signature) × Spells (signature key.tree) s bytes × IsValid key message s
 Verdict key message bytes (Err (Unreadable fault)) = HasFault (signature key.tree) bytes 0 fault
