@@ -192,7 +192,7 @@ public class BouncyCastle {
         }
 
         public Supplier<byte[]> at(int leaves) {
-            // the next leaf stands after the version, two types and I
+            // the next leaf comes after the version, two types and I
             byte[] moved = ByteBuffer.wrap(bytes.clone()).putInt(28, leaves).array();
             return () -> {
                 try {

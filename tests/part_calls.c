@@ -6,8 +6,8 @@
    - `all`: as many bytes as are asked for.
    - `failed`, `interrupted`, `memory`: the errors EIO, EINTR, ENOMEM.
 
-   PATH,t,OFFSET,COUNT changes what is read: after COUNT reads at this offset the next ones give other bytes. Files are
-   recognized by their device and inode, so a plan holds for a standard stream, too. */
+   PATH,t,OFFSET,COUNT changes what is read: after COUNT reads of the byte at this offset the next ones give another.
+   Files are recognized by their device and inode, so a plan holds for a standard stream, too. */
 #define _GNU_SOURCE
 #include <dlfcn.h>
 #include <errno.h>
@@ -82,16 +82,17 @@ static ssize_t size_of(int file, char kind, size_t size)
     return -1;
 }
 
-/* Changes what was read at an offset of a file, if a plan says so. */
+/* Changes the byte that was read at an offset of a file, if a plan says so. */
 static void turn(int file, void *into, ssize_t size, long long at)
 {
     struct plan *plan = plan_of(file, 't');
     char *left;
-    if (!plan || size <= 0 || strtoll(plan->words, &left, 10) != at)
+    long long offset = plan ? strtoll(plan->words, &left, 10) : -1;
+    if (offset < at || offset >= at + size)
         return;
     if (strtol(left + 1, NULL, 10) > plan->reads++)
         return;
-    memset(into, 0xa5, size);
+    ((unsigned char *)into)[offset - at] ^= 0xff;
 }
 
 #define NEXT(name) ((__typeof__(&name))dlsym(RTLD_NEXT, #name))

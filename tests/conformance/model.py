@@ -224,7 +224,7 @@ def extend_body(level, parent_leaf, identifier, seed, randomizer, digest, root):
 
 
 def bound_body(name, leaf, randomizer, digest, version=NEWEST):
-    """A Bound in a file of a version: the fields after the name stand behind room for the longest name."""
+    """A Bound in a file of a version: the fields after the name come after room for the longest name."""
     return body(3, u8(len(name)), name + bytes(LONGEST_NAME[version] - len(name)), u32(leaf), randomizer, digest)
 
 
@@ -465,7 +465,16 @@ class Signer:
         """The lines of a listing."""
         lines = [f"spec {self.spec()}", f"format {self.version}"]
         lines += [f"level {level} left {left}" for level, left in enumerate(self.left())] + [f"names {len(self.bound)}"]
-        return lines + [f"{place} {self.listed(record)}" for place, record in enumerate(self.bodies)]
+        lines += [f"{place} {self.listed(record)}" for place, record in enumerate(self.bodies)]
+        signatures = self.signatures()
+        return lines + [f"signatures {signatures}" if signatures < 2**64 else "signatures at least 2^64"]
+
+    def signatures(self):
+        """How many new names the free leaves allow. A free leaf above the bottom signs trees of all leaves below it."""
+        if self.has_moved:
+            return 0
+        heights = [XMSS_HEIGHTS[self.pairs[0][0]]] if self.scheme == XMSS else [HEIGHTS[tree] for tree, _ in self.pairs]
+        return sum(left << sum(heights[level + 1:]) for level, left in enumerate(self.left()))
 
     def listed(self, record):
         """The words of a listing for a record."""
@@ -601,7 +610,7 @@ def carried(record):
 
 
 def behind(content):
-    """The slot of the last record of a state file, if bytes stand behind what an append can leave; None if not."""
+    """The slot of the last record of a state file, if bytes follow what an append can leave; None if not."""
     count = len(records_of(content))
     return count - 1 if len(content) > 256 * (count + 1) + 1 else None
 
@@ -613,8 +622,8 @@ def listing_of(content):
 
 
 def warning(path, content):
-    """What standard error says of the state file at this path as it is opened: nothing, or that bytes stand behind its
-    last record."""
+    """What standard error says of the state file at this path as it is opened: nothing, or that bytes follow its last
+    record."""
     try:
         slot = behind(content)
     except Refused:
@@ -635,7 +644,7 @@ def sealed(old):
 
 
 def filled(old, new):
-    """A new file in the end: the old records without the Moved, and the bytes that stood behind their place."""
+    """A new file in the end: the old records without the Moved, and the bytes that were behind their place."""
     return written_over(new, state_file([carried(record) for record in records_of(old) if record[0] != 5]))
 
 
