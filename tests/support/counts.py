@@ -7,14 +7,34 @@ class Counts:
     lock = threading.Lock()
 
 
+def add(passed, failed):
+    """Adds counts of tests that were made elsewhere, such as in another process."""
+    with Counts.lock:
+        Counts.passed += passed
+        Counts.failed += failed
+
+
+def fail(name, *lines):
+    """Counts a test that failed, and prints its name and these lines."""
+    with Counts.lock:
+        Counts.failed += 1
+        print("\n  ".join([f"FAILED {name}", *lines]), flush=True)
+
+
 def check(name, wanted, came):
     """Counts one test: its name, the expected value, and the actual one."""
-    with Counts.lock:
-        if wanted == came:
-            Counts.passed += 1
-        else:
-            Counts.failed += 1
-            print(f"FAILED {name}\n  wanted: {wanted}\n  came:   {came}", flush=True)
+    if wanted == came:
+        add(1, 0)
+    else:
+        fail(name, f"wanted: {wanted}", f"came:   {came}")
+
+
+def check_that(name, holds, came):
+    """Counts one test: its name, whether it holds, and what came instead."""
+    if holds:
+        add(1, 0)
+    else:
+        fail(name, f"came:   {came}")
 
 
 def finish():
