@@ -35,8 +35,11 @@ PAIR = rf"\{{ {SCALAR}, {SCALAR} \}}"
 TYPE = rf"(?:{SCALAR}|{PAIR})"
 ATOM = rf"(?:{VALUE}|-?\d+|true|false|null|undef|poison|zeroinitializer|@static\.\d+)"
 NAME = r'@(?:[\w.]+|"[^"]*")'
-KNOWN = r"(?: (?:noundef|nonnull|zeroext|signext|readonly|immarg))*"
-OPERAND = rf"{TYPE}{KNOWN} {ATOM}"
+KNOWN = r"(?: (?:noundef|nonnull|zeroext|signext|readonly|writeonly|captures\(none\)|immarg))*"
+OPERAND = rf"{SCALAR}{KNOWN} {ATOM}"
+PARAMETERS = rf"\((?:{SCALAR}{KNOWN}(?: {VALUE})?(?:, {SCALAR}{KNOWN}(?: {VALUE})?)*)?\)"
+# what a module may call of LLVM: copies and fills by a length of 64 bits, and a trap
+INTRINSIC = r"@llvm\.(?:memcpy\.p0\.p0\.i64|memmove\.p0\.p0\.i64|memset\.p0\.i64|trap)"
 END = r"(?:, ![\w.]+ !\d+)*"
 ALIGN = r", align \d+"
 # what an instruction may look like
@@ -67,8 +70,8 @@ OUTSIDE = [re.compile(form) for form in (
     r";.*", r'source_filename = "\w+"', r'target (?:datalayout|triple) = ".*"',
     r"@static\.\d+ = private unnamed_addr constant \[\d+ x i8\] (?:c\".*\"|zeroinitializer), align \d+",
     r"attributes #\d+ = \{[^%]*\}", r"!.*",
-    rf"(?:define|declare)(?: internal| dso_local)?{KNOWN} (?:void|{TYPE}) {NAME}\(.*\)(?: unnamed_addr)?(?: #\d+)?"
-    r"(?: \{)?",
+    rf"define(?: internal| dso_local)?{KNOWN} (?:void|{TYPE}) {NAME}{PARAMETERS}(?: unnamed_addr)?(?: #\d+)? \{{",
+    rf"declare void {INTRINSIC}{PARAMETERS}(?: #\d+)?",
     r"\}",
 )]
 LABEL = re.compile(r"[\w.]+:(?: +; (?:preds = .*|No predecessors!))?")
@@ -112,7 +115,7 @@ def narrowed(text):
     """A module with pointers of 32 bits in the places of 64."""
     names = (f"%narrow.{number}" for number in range(1 << 30))
     text = re.sub(r"^(  %[\w.]+ = alloca) ptr,", r"\1 [8 x i8],", text, flags=re.M)
-    text = re.sub(rf"^  ({VALUE}) = load \{{ ({SCALAR}, {SCALAR}) \}}, ptr ({VALUE}), align (\d+){END}$",
+    text = re.sub(rf"^  ({VALUE}) = load \{{ ({SCALAR}, {SCALAR}) \}}, ptr ({ATOM}), align (\d+){END}$",
                   lambda found: parts(found, names), text, flags=re.M)
 
     def address(found):
