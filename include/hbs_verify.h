@@ -40,7 +40,7 @@
  *    5 HBS_TRAILING          place                        bytes follow the end of the signature
  *    6 HBS_KEY_LENGTH        length of the key            the public key has not 56, 60 or 68 bytes
  *    7 HBS_NULL              0                            a pointer is null
- *    8 HBS_CHANGED           0                            hbs_end has another key or signature than hbs_begin
+ *    8 HBS_CHANGED           0                            hbs_end has another prefix than hbs_begin, or none is begun
  *    9 HBS_READY             0, or bytes of a prefix      no refusal, and no verdict: of hbs_root, hbs_begin and
  *                                                         hbs_message_prefix
  *   10 HBS_TYPE_MISMATCH     level                        the types of the signature are not its key's
@@ -110,7 +110,7 @@ extern "C" {
 /* The most bytes that a signature has: HSS with eight levels of H25/W1 (RFC 8554 6.2). A longer one is refused. */
 #define HBS_MOST_SIGNATURE_BYTES 74988
 
-/* The bytes of a root, and the place of a public key's own among its bytes. */
+/* The bytes of a root, and the place of a public key's own among its 56, 60 or 68 bytes. */
 #define HBS_ROOT_BYTES 32
 #define HBS_ROOT_PLACE(public_key_length) \
     ((public_key_length) == HBS_XMSS_KEY_BYTES ? 4u : (public_key_length) - HBS_ROOT_BYTES)
@@ -173,9 +173,10 @@ HBS_MUST_CHECK HBS_CALL uint64_t hbs_begin(hbs_message *message,
 HBS_CALL void hbs_add(hbs_message *message, const uint8_t *piece, size_t piece_length);
 
 /*
- * The answer of hbs_verify for all bytes that were added: 0 exactly where the signature is valid for them. The key and
- * the signature are those of hbs_begin. Otherwise, and where no message is begun or a piece was null, the answer is
- * HBS_CHANGED, or an early refusal. The message stays, so that hbs_end can be called again.
+ * The answer of hbs_verify for all bytes that were added, with the key and the signature of this call: 0 exactly where
+ * the signature is valid for them. It is HBS_CHANGED, or an early refusal, where their prefix (hbs_message_prefix) is
+ * not that of hbs_begin's key and signature, where no message is begun, and where a piece was null. The message stays,
+ * so that hbs_end can be called again.
  */
 HBS_MUST_CHECK HBS_CALL uint64_t hbs_end(const hbs_message *message,
                                          const uint8_t *public_key, size_t public_key_length,
@@ -184,11 +185,12 @@ HBS_MUST_CHECK HBS_CALL uint64_t hbs_end(const hbs_message *message,
 /*
  * For a loader that fears forced faults: computes the root to which the signature leads, and compares it with none.
  *
- * `root` has HBS_ROOT_BYTES, and overlaps nothing that is read. The caller fills it with other bytes than the key's
- * root. After the call it has the key's root exactly where the signature is valid for the message. So the caller's own
- * comparison of `root` with the bytes from HBS_ROOT_PLACE on of the key decides, and can be made twice. Read the key's
- * address again before it (volatile): a skip may let the call return with wrong registers. Of HSS each level signs the
- * next one's key as it was computed, so the message decides the root.
+ * `root` has HBS_ROOT_BYTES, and overlaps nothing that is read. Before each call the caller fills it with other bytes
+ * than the key's root, since a refusal leaves it as it was. After the call it has the key's root exactly where the
+ * signature is valid for the message. So the caller's own comparison of `root` with the bytes from HBS_ROOT_PLACE on of
+ * the key decides, and can be made twice. Read the key's address again before it (volatile): a skip may let the call
+ * return with wrong registers. Of HSS each level signs the next one's key as it was computed, so the message decides
+ * the root.
  *
  * The answer decides nothing. It is HBS_READY where a root was written. Otherwise it is a refusal as hbs_verify has,
  * but of HSS that of the lowest level that is refused, and `root` is as it was.

@@ -68,6 +68,37 @@ static void others(void) {
     wanted("a byte less", HBS_NUMBER(end(&all[SIGNATURE])), HBS_ROOT_MISMATCH);
 }
 
+/* A message that is begun twice, copied between its pieces, and added to after its end. */
+static void gone_on_with(void) {
+    const content *message = &all[MESSAGE];
+    const size_t half = message->length / 2;
+    hbs_message copy;
+    by(100);
+    wanted("begin again", begin(&all[SIGNATURE]), HBS_READY);
+    hbs_add(&pieces, message->bytes, half);
+    copy = pieces;
+    memset(&pieces, 0xee, sizeof pieces);
+    wanted("where it was", end(&all[SIGNATURE]), HBS_CHANGED);
+    pieces = copy;
+    wanted("half of it", HBS_NUMBER(end(&all[SIGNATURE])), HBS_ROOT_MISMATCH);
+    hbs_add(&pieces, message->bytes + half, message->length - half);
+    wanted("all of it, in a copy, after an end", end(&all[SIGNATURE]), HBS_VERIFIED);
+}
+
+/* A signature and a key that change between beginning and end, but not their prefix: those at the end are judged. */
+static void same_prefix(void) {
+    content signature = all[SIGNATURE], key = all[KEY];
+    signature.bytes[signature.length - 1] ^= 1;
+    key.bytes[key.length - 1] ^= 1;
+    by(100);
+    wanted("another path in the end", HBS_NUMBER(end(&signature)), HBS_ROOT_MISMATCH);
+    wanted("another key in the end", HBS_NUMBER(hbs_end(&pieces, key.bytes, key.length, all[SIGNATURE].bytes,
+                                                        all[SIGNATURE].length)), HBS_ROOT_MISMATCH);
+    wanted("another path at the beginning", begin(&signature), HBS_READY);
+    hbs_add(&pieces, all[MESSAGE].bytes, all[MESSAGE].length);
+    wanted("the right one in the end", end(&all[SIGNATURE]), HBS_VERIFIED);
+}
+
 /* Memory that no call began, another signature, and a beginning that was refused. */
 static void not_begun(void) {
     content cut = all[SIGNATURE];
@@ -95,6 +126,8 @@ int main(int count, char **words) {
         wanted("the same again", end(&all[SIGNATURE]), HBS_VERIFIED);
     }
     others();
+    gone_on_with();
+    same_prefix();
     not_begun();
     printf("%d right, %d wrong\n", right, wrong);
     return wrong != 0;
