@@ -182,12 +182,15 @@ APART static uint64_t from_address_0(const uint32_t *numbers, const uint8_t *sig
     return hbs_end(&so_far, bytes, numbers[1], signature, numbers[3]);
 }
 
-/* A number from an odd address, loaded as the compiler wouldn't where the processor mayn't. */
+/*
+ * A number from an odd address, loaded as the compiler wouldn't where the processor mayn't. On RISC-V, whose accesses
+ * tests/boot_aligned.c looks at, also one from below the stack pointer.
+ */
 APART static uint64_t unaligned(void) {
     const uintptr_t at = (uintptr_t)bytes;
     uint32_t number;
 #if defined(__riscv)
-    __asm__ volatile("lw %0, 0(%1)" : "=r"(number) : "r"(at) : "memory");
+    __asm__ volatile("lw %0, 0(%1)\n\tlw zero, -16(sp)" : "=r"(number) : "r"(at) : "memory");
 #elif defined(__aarch64__)
     __asm__ volatile("ldr %w0, [%1]" : "=r"(number) : "r"(at) : "memory");
 #else

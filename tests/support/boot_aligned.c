@@ -5,7 +5,8 @@
  *
  * BITS is 32 or 64, and PROGRAM a file of machine code for address CODE. In the current folder the program reads the
  * file `cases` and writes the file `answers`, as under QEMU, which loads from any address. It prints how many accesses
- * there were, and how many of these at another address than a multiple of their bytes.
+ * there were, how many of these at another address than a multiple of their bytes, and how many below the stack
+ * pointer, in the memory of the stack.
  */
 #include <stdio.h>
 #include <stdlib.h>
@@ -25,7 +26,10 @@ static uc_engine *machine;
 static FILE *files[3];
 static uint8_t moved[MOST_BYTES];
 static size_t word;
-static uint64_t accesses, unaligned;
+static uint64_t accesses, unaligned, below;
+/* The highest stack pointer so far, and how many bytes before it are the stack's for sure. */
+static uint64_t highest;
+#define STACK_BYTES 0x4000u
 static int has_ended;
 
 static void must(uc_err error) {
@@ -34,16 +38,19 @@ static void must(uc_err error) {
     exit(2);
 }
 
-static void look(uc_engine *engine, uc_mem_type type, uint64_t address, int size, int64_t value, void *data) {
-    (void)engine, (void)type, (void)value, (void)data;
-    accesses++;
-    unaligned += address % (uint64_t)size != 0;
-}
-
 static uint64_t register_of(int name) {
     uint64_t value = 0;
     must(uc_reg_read(machine, name, &value));
     return value;
+}
+
+static void look(uc_engine *engine, uc_mem_type type, uint64_t address, int size, int64_t value, void *data) {
+    const uint64_t pointer = register_of(UC_RISCV_REG_SP);
+    (void)engine, (void)type, (void)value, (void)data;
+    if (pointer > highest) highest = pointer;
+    accesses++;
+    unaligned += address % (uint64_t)size != 0;
+    below += address < pointer && address >= highest - STACK_BYTES;
 }
 
 static uint64_t open_file(const char *name) {
@@ -119,6 +126,7 @@ int main(int count, char **words) {
     for (size_t i = 1; i < 3; i++) {
         if (files[i]) fclose(files[i]);
     }
-    printf("%llu accesses, %llu unaligned\n", (unsigned long long)accesses, (unsigned long long)unaligned);
+    printf("%llu accesses, %llu unaligned, %llu below\n", (unsigned long long)accesses,
+           (unsigned long long)unaligned, (unsigned long long)below);
     return 0;
 }
