@@ -4,32 +4,26 @@
    - `run WORDS`: a shell runs them. The answer is the exit status, and what they print.
    - `look TYPE OPTIONS FILE ..`: mounts the device LOOKED_AT, as after a power cut, and unmounts it. The answer is the
      error of the mount, and then of each FILE its bytes.
-   - `mark TEXT`: sets a mark in the log of the mapped device LOGGED, as `dmsetup message` does in more time.
+   - `mark TEXT`: sets a mark in the log (mark.h).
    - `off`: the guest ends.
 
    Each part of an answer is a line `NUMBER LENGTH` and LENGTH bytes. NUMBER is an exit status, or an error of the
    kernel. */
 #define _GNU_SOURCE
-#include <errno.h>
-#include <fcntl.h>
-#include <linux/dm-ioctl.h>
-#include <stdio.h>
 #include <stdlib.h>
-#include <string.h>
-#include <sys/ioctl.h>
 #include <sys/mount.h>
 #include <sys/reboot.h>
 #include <sys/stat.h>
 #include <sys/syscall.h>
 #include <sys/wait.h>
-#include <unistd.h>
+
+#include "mark.h"
 
 #define PORT "/dev/vport0p1"
 #define LOOKED_AT "/dev/vdc"
 #define PLACE "/look"
-#define LOGGED "log"
 
-enum { MOST_BYTES = 1 << 22, MOST_WORDS = 16, MOST_LINE = 4000 };
+enum { MOST_BYTES = 1 << 22, MOST_WORDS = 16 };
 
 static char bytes[MOST_BYTES];
 static FILE *port;
@@ -109,21 +103,7 @@ static void look(char *line)
 
 static void mark(const char *text)
 {
-    static union {
-        struct dm_ioctl head;
-        char room[sizeof(struct dm_ioctl) + sizeof(struct dm_target_msg) + MOST_LINE];
-    } call;
-    int control = open("/dev/mapper/control", O_RDWR), error;
-    struct dm_target_msg *message = (struct dm_target_msg *)(call.room + sizeof call.head);
-    memset(&call, 0, sizeof call);
-    call.head.version[0] = DM_VERSION_MAJOR;
-    call.head.data_size = sizeof call;
-    call.head.data_start = sizeof call.head;
-    strcpy(call.head.name, LOGGED);
-    snprintf(message->message, MOST_LINE, "mark %s", text);
-    error = ioctl(control, DM_TARGET_MSG, &call) == 0 ? 0 : errno;
-    close(control);
-    answer(error, "", 0);
+    answer(set_mark(text), "", 0);
 }
 
 static void load_modules(void)

@@ -50,7 +50,7 @@ class OneFailure(Recorder):
     def prepare(self, sync, failure):
         """What stands before the program's words, so that the device fails from this sync on."""
         self.guest.must(f"echo \"{SWITCH.format(TABLES[failure].format(self.sectors))}\" >/tmp/fail")
-        return f"LD_PRELOAD=/lib/leave_out.so AT_SYNC={sync} BEFORE='sh /tmp/fail' "
+        return f"LD_PRELOAD=/lib/calls.so AT_SYNC={sync} BEFORE='sh /tmp/fail' "
 
     def fail_at(self, sync, failure):
         """Signs a name while the device fails from this sync on, and heals the device: what the program printed."""

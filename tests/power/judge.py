@@ -4,7 +4,7 @@ import os, shutil, subprocess, sys, tempfile
 
 HERE = os.path.dirname(os.path.realpath(__file__))
 sys.path.insert(0, os.path.join(os.path.dirname(HERE), "conformance"))
-from life import AFTER, BEFORE, KEYS, LENGTHS, message  # noqa: E402
+from life import AFTER, ANSWERS, BEFORE, KEYS, LENGTHS, message  # noqa: E402
 from model import Refused, frame, last_tag, records_of  # noqa: E402
 
 LONGEST = 300
@@ -28,6 +28,32 @@ def leaf_of(signature):
     return signature[:len(signature) - size], signature[-size:][:4]
 
 
+def reached(marks):
+    """The lines that were acknowledged before a cut, and those that had begun. A line is acknowledged as soon as its
+    answer begins to leave the program."""
+    done, begun = set(), set()
+    for mark in marks:
+        word, _, number = mark.partition("-")
+        if word == BEFORE:
+            begun.add(int(number))
+        elif word == AFTER:
+            done.add(int(number))
+        elif word == ANSWERS:
+            done.add(max(begun))
+    return done, begun
+
+
+def answered(marks):
+    """The lines with a mark before their answers."""
+    line, found = None, []
+    for mark in marks:
+        word, _, number = mark.partition("-")
+        line = int(number) if word == BEFORE else line
+        if word == ANSWERS and line not in found:
+            found.append(line)
+    return found
+
+
 class Judge:
     """Judges images of one recorded life. A judgement depends on the files and on the marks alone, so each is made
     once."""
@@ -36,10 +62,7 @@ class Judge:
 
     def wrongs(self, marks, files):
         """What is wrong with the files of an image, in words: for each key at most one."""
-        done, begun = set(), set()
-        for mark in marks:
-            word, _, number = mark.partition("-")
-            (done if word == AFTER else begun if word == BEFORE else set()).add(int(number or 0))
+        done, begun = reached(marks)
         found = []
         for key in KEYS.values():
             acked = max((number for number in done if self.lines[number].key == key.name), default=None)
@@ -82,7 +105,7 @@ class Judge:
 class Place:
     """Copies of a key's files, on which the program goes on."""
     def __init__(self, judge, folder, key, old, new):
-        self.judge, self.folder, self.key = judge, folder, key
+        self.judge, self.folder, self.key, self.warned = judge, folder, key, False
         for name, content in (("old", old), ("new", new)):
             if content is not None:
                 self.write(name, content)
@@ -92,15 +115,18 @@ class Place:
             file.write(data)
 
     def run(self, *words, given=b""):
-        """What a line answers: its first output line, and its status. A warning of a file cut short counts."""
+        """What a line prints, and its status. A warning of a file cut short is remembered."""
         run = subprocess.run([self.judge.program, *words], cwd=self.folder, input=given, capture_output=True,
                              timeout=LONGEST)
-        if b"bytes stand behind" in run.stderr:
-            return b"warned", run.returncode
+        self.warned |= b"bytes stand behind" in run.stderr
         return run.stdout, run.returncode
 
-    def wrong(self, have, wanted, acked, asked):
-        """What is wrong with how the files go on, in words, or nothing."""
+    def wrong(self, *case):
+        """What is wrong with how the files go on, in words, or nothing. No line may warn."""
+        return self.wrong_answers(*case) or ("a warning" if self.warned else "")
+
+    def wrong_answers(self, have, wanted, acked, asked):
+        """What is wrong with the answers of the lines."""
         if acked is None:
             return self.wrong_made(have)
         name = "new" if wanted[1] else "old"

@@ -1,5 +1,6 @@
 """The life of two keys, and its recording: the guest makes them, signs, repeats, retires, migrates and serves on a file
-system over dm-log-writes, and sets a mark before each line and after each acknowledged answer."""
+system over dm-log-writes. A mark is set before each line, before an answer leaves the program (calls.c), and after the
+line."""
 import os, sys
 from dataclasses import dataclass, field
 
@@ -10,7 +11,9 @@ from model import frame  # noqa: E402
 MIB = 1 << 20
 # the bytes of a signature
 LENGTHS = {"lms:H5/W4": 2348, "hss:H5/W4,H5/W4": 4 + 2 * 2348 + 56}
-BEFORE, AFTER = "begun", "acked"
+BEFORE, ANSWERS, AFTER = "begun", "answers", "acked"
+# the words before each call of the program that mark answers
+MARKED = "LD_PRELOAD=/lib/calls.so ANSWERS=1"
 # after so many lines the file system writes all to its place: so journals stay short, and mounts quick
 SETTLED = 8
 
@@ -65,6 +68,10 @@ class Line:
     given: str = ""
     files: dict = field(default_factory=dict)
     answer: bytes = b""
+
+    def answers(self):
+        """Whether it has an answer: `serve` begins, and ends, without one."""
+        return self.word not in ("serve", "end")
 
 
 @dataclass
@@ -170,7 +177,7 @@ class Recorder:
             line.files[name] = content if status == 0 else None
 
 
-def record(guest, system, names, beside, before=""):
+def record(guest, system, names, beside, before=MARKED):
     """The lines of a life on a file system, which the guest has recorded on its second disk. Before each line whose
     number `beside` divides, another process begins to write and sync."""
     recorder, lines = Recorder(guest, before), script(names)
