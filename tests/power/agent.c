@@ -23,7 +23,7 @@
 #define LOOKED_AT "/dev/vdc"
 #define PLACE "/look"
 
-enum { MOST_BYTES = 1 << 22, MOST_WORDS = 16 };
+enum { MOST_BYTES = 1 << 22, MOST_WORDS = 16, MOST_TRIES = 6000 };
 
 static char bytes[MOST_BYTES];
 static FILE *port;
@@ -130,14 +130,26 @@ static void begin(void)
         mount("dev", "/dev", "devtmpfs", 0, "") || mount("tmp", "/tmp", "tmpfs", 0, ""))
         puts("agent: not mounted");
     load_modules();
-    while (!(port = fopen(PORT, "r+")))
+}
+
+/* Waits for the port. Without one the guest ends. */
+static void open_port(void)
+{
+    int tries;
+    for (tries = 0; !(port = fopen(PORT, "r+")); tries++) {
+        if (tries == MOST_TRIES) {
+            puts("agent: no port");
+            reboot(RB_POWER_OFF);
+        }
         usleep(10000);
+    }
 }
 
 int main(void)
 {
     static char line[MOST_LINE];
     begin();
+    open_port();
     for (;;) {
         if (!fgets(line, sizeof line, port)) {
             clearerr(port);

@@ -6,7 +6,7 @@ HERE = os.path.dirname(os.path.realpath(__file__))
 KERNEL = os.path.join(HERE, "kernel")
 QEMU = "qemu-system-x86_64"
 # the seconds that a boot may take, and those of an answer where a boot takes USUAL_BOOT. On a slower machine an answer
-# and the guest's whole life may take longer, up to SLOWEST times
+# may take longer, up to SLOWEST times
 LONGEST_BOOT, LONGEST, USUAL_BOOT, SLOWEST = 900, 300, 20, 4
 # on a busy host a guest waits for its processor: that is no broken timer, no lockup and no stall
 PATIENT = "no_timer_check nowatchdog rcupdate.rcu_cpu_stall_suppress=1"
@@ -102,12 +102,12 @@ def words_of(kernel, image, console, port, disks):
 
 class Guest:
     """A running guest. `folder` has its agent. `disks` are files for its devices vda, vdb .., or addresses of a server
-    of `images`. A guest fails that takes too long for its boot, an answer or its life of `longest` seconds; `close`
-    kills it."""
-    def __init__(self, folder, kernel, modules, programs, files, disks, longest):
+    of `images`. A guest fails that takes too long for its boot or an answer, or that runs beyond `end_by`, a time of
+    `time.monotonic`; `close` kills it."""
+    def __init__(self, folder, kernel, modules, programs, files, disks, end_by):
         self.said, self.rest = [os.path.join(folder, name) for name in ("console", "qemu")], b""
         started = time.monotonic()
-        self.longest, self.answer_by, self.end_by = LONGEST_BOOT, started + LONGEST_BOOT, started + LONGEST_BOOT
+        self.longest, self.answer_by, self.end_by = LONGEST_BOOT, started + LONGEST_BOOT, end_by
         programs = {"init": os.path.join(folder, "agent"), "bin/busybox": found(BUSYBOX), **programs}
         image, port = os.path.join(folder, "initramfs"), os.path.join(folder, "port")
         with open(image, "wb") as file:
@@ -123,12 +123,12 @@ class Guest:
             self.process.kill()
             self.process.wait()
             raise
-        slow = min(max((time.monotonic() - started) / USUAL_BOOT, 1), SLOWEST)
-        self.longest, self.end_by = LONGEST * slow, started + longest * slow
+        self.longest = LONGEST * min(max((time.monotonic() - started) / USUAL_BOOT, 1), SLOWEST)
+        self.booted = self.seconds()
 
     def connected(self, path):
         port = socket.socket(socket.AF_UNIX)
-        while self.process.poll() is None and time.monotonic() < self.end_by:
+        while self.process.poll() is None and time.monotonic() < min(self.answer_by, self.end_by):
             try:
                 port.connect(path)
                 return port

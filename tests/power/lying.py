@@ -2,7 +2,7 @@
 written. The law doesn't hold over these, so nothing is judged: it is counted what a user sees."""
 import collections, os, random, subprocess, tempfile
 
-from judge import bodies_of
+from judge import LONGEST, bodies_of
 from life import AFTER, KEYS
 from model import Refused, last_tag
 from writes import FUA, SECTOR, Device, Entry, life_of, sectors_of
@@ -117,7 +117,7 @@ class Seen:
             with open(path, "wb") as file:
                 file.write(content)
             words = [self.program, "audit", path, "--count", str(len(wanted)), "--tag", last_tag(wanted).hex()]
-            run = subprocess.run(words, capture_output=True, check=False)
+            run = subprocess.run(words, capture_output=True, timeout=LONGEST, check=False)
         number = int(run.stdout.split()[1]) if run.stdout.startswith(b"refused ") else 0
         warned = ", with a warning" if b"bytes stand behind" in run.stderr else ", without a warning"
         return f"records are lost: refused {number} by the anchor{warned}"
