@@ -31,6 +31,10 @@ class FileSystem:
     always: bool = False
     package: str = "e2fsprogs"
 
+    def programs(self):
+        """The programs that make it and check it."""
+        return {words.split()[0] for words in (self.make, self.check) if words}
+
 
 JOURNAL, NO_JOURNAL = "-J size=4", "-O ^has_journal"
 
@@ -54,7 +58,7 @@ FILE_SYSTEMS = {each.name: each for each in (
     FileSystem("xfs", "xfs", "mkfs.xfs -q -f -b size=4096", "", 304, package="xfsprogs"),
     FileSystem("xfs, 1 KiB", "xfs", "mkfs.xfs -q -f -b size=1024", "", 304, package="xfsprogs"),
     # (both have blocks of 4 KiB alone)
-    FileSystem("btrfs", "btrfs", "mkfs.btrfs -q -f", "", 128, package="btrfs-progs"),
+    FileSystem("btrfs", "btrfs", "mkfs.btrfs -q -f", "", 128, "btrfs rescue super-recover -y", package="btrfs-progs"),
     FileSystem("f2fs", "f2fs", "mkfs.f2fs -q -f", "", 64, package="f2fs-tools"),
 )}
 
