@@ -146,7 +146,7 @@ class Guest:
             self.port.settimeout(max(min(self.answer_by, self.end_by) - time.monotonic(), 0.001))
             more = self.port.recv(1 << 16)
         except OSError as failed:
-            raise Failed(f"the guest hangs, or takes too long: {failed}: {self.console()}") from None
+            raise Failed(f"the guest doesn't answer: {failed}: {self.console()}") from None
         if not more:
             raise Failed(f"the guest ended: {self.console()}")
         self.rest += more
