@@ -282,8 +282,8 @@ module _ {S R : Type 0} (g : store.Ghosts S) (r : source.Ghosts R) (limit : ℕ)
   bound_answers now old new name given capacity answer key k bound follows once is_name does keyed named =
       elim (cases_Bool old.is_open) [
         | inl opened ↦ elim (cases_Bool (has_moved old.records)) [
-          | inl moved ↦ inr (inl (moved, moved_answers now old new name capacity answer key follows once does.answers opened keyed moved))
-          | inr stays ↦ inr (inr (open_answers now old new name given capacity answer key k bound follows once does opened keyed named stays))
+          | inl moved ↦ inr (inl (opened, moved, moved_answers now old new name capacity answer key follows once does.answers opened keyed moved))
+          | inr stays ↦ inr (inr (opened, stays, open_answers now old new name given capacity answer key k bound follows once does opened keyed named stays))
         ]
         | inr closed ↦ inl (closed, closed_answers now old new name given capacity answer follows is_name does closed)
       ]
@@ -348,8 +348,12 @@ module _ {S R : Type 0} (g : store.Ghosts S) (r : source.Ghosts R) (limit : ℕ)
         elim (signed_answers now old new x given capacity answer follows once is_name does there) [
           | inl closed ↦ inl closed
           | inr (inl moved) ↦ inr (inl moved)
-          | inr (inr answers) ↦ inr (inr (by_digests old.records is.key x is.k is.bound public given answer sound follows.is_signer.sizes is.is_bound
-              is.signature is_public answers))
+          | inr (inr (opens, stays, answers)) ↦ inr (inr (
+            opens,
+            stays,
+            by_digests old.records is.key x is.k is.bound public given answer sound
+                follows.is_signer.sizes is.is_bound is.signature is_public answers,
+          ))
         ]
     | inr closed ↦ inl (closed, closed_answers now old new x.name given capacity answer follows is_name does closed)
   ]

@@ -1,6 +1,6 @@
 -- For every spec some run of the world hands out a signature, and the headline's clauses are false of wrong signers.
 use Rattle.std.proofs.Common.{◌≡◌, ◌≢◌, ◌∙◌, refl, sym, ap, subst, ℕ, zero, suc, ◌+◌, ◌-◌, ◌<◌, ◌≤◌, inl, inr, true, List, [], ◌∷◌, ◌++◌, length}
-use Rattle.std.proofs.Common.{Option, Some, None, Ok, Err, replicate, arith, get_or, false, true≢false}
+use Rattle.std.proofs.Common.{Option, Some, None, Result, Ok, Err, replicate, arith, get_or, false, true≢false}
 use Rattle.std.specs.Prelude.{slice_get, Contains}
 use Rattle.std.specs.List.{AllByRecursion}
 use Rattle.std.proofs.lemmas.Bool.{cases_order}
@@ -308,11 +308,11 @@ module _ {S R : Type 0} (public : AnyPublic) (signer : View S R) (x : Handed) wh
   of_ok : (given : Option (List ℕ)) (other : List ℕ) → AnswersAgain public signer x given (Ok other)
       → (other ≡ x.signature) × ((text : List ℕ) × (given ≡ Some text) × BottomDigests public x text (λ signed digest. signed ≡ digest))
   of_ok given other (inl (closed, is)) = absurd (cc (is))
-  of_ok given other (inr (inl (moved, is))) = absurd (cc (is))
-  of_ok None other (inr (inr is)) = absurd (cc (is))
-  of_ok (Some text) other (inr (inr (inl (bound, inl is)))) = (cc (is), (text, refl, bound))
-  of_ok (Some text) other (inr (inr (inl (bound, inr is)))) = absurd (cc (is))
-  of_ok (Some text) other (inr (inr (inr (differs, is)))) = absurd (cc (is))
+  of_ok given other (inr (inl (opened, moved, is))) = absurd (cc (is))
+  of_ok None other (inr (inr (opened, stays, is))) = absurd (cc (is))
+  of_ok (Some text) other (inr (inr (opened, stays, inl (bound, inl is)))) = (cc (is), (text, refl, bound))
+  of_ok (Some text) other (inr (inr (opened, stays, inl (bound, inr is)))) = absurd (cc (is))
+  of_ok (Some text) other (inr (inr (opened, stays, inr (differs, is)))) = absurd (cc (is))
 
   data CauseOf (given : Option (List ℕ)) (fault : SignFault) : Type 0 where
     closed : signer.is_open ≡ false → fault ≡ Stopped → CauseOf given fault
@@ -323,11 +323,11 @@ module _ {S R : Type 0} (public : AnyPublic) (signer : View S R) (x : Handed) wh
 
   of_err : (given : Option (List ℕ)) (fault : SignFault) → AnswersAgain public signer x given (Err fault) → CauseOf given fault
   of_err given fault (inl (shut, is)) = closed shut (cc (is))
-  of_err given fault (inr (inl (away, is))) = moved away (cc (is))
-  of_err None fault (inr (inr is)) = unread refl (cc (is))
-  of_err (Some text) fault (inr (inr (inl (bound, inl is)))) = absurd (cc (is))
-  of_err (Some text) fault (inr (inr (inl (bound, inr is)))) = no_memory (cc (is))
-  of_err (Some text) fault (inr (inr (inr (differs, is)))) = changed text refl differs (cc (is))
+  of_err given fault (inr (inl (opened, away, is))) = moved away (cc (is))
+  of_err None fault (inr (inr (opened, stays, is))) = unread refl (cc (is))
+  of_err (Some text) fault (inr (inr (opened, stays, inl (bound, inl is)))) = absurd (cc (is))
+  of_err (Some text) fault (inr (inr (opened, stays, inl (bound, inr is)))) = no_memory (cc (is))
+  of_err (Some text) fault (inr (inr (opened, stays, inr (differs, is)))) = changed text refl differs (cc (is))
 
   not_others : (given : Option (List ℕ)) (fault : SignFault) → CauseOf given fault → (fault ≡ Stopped → ⊥) → (fault ≡ MovedAway → ⊥) → (fault ≡ MessageRead → ⊥) → (fault ≡ Changed → ⊥)
       → (fault ≡ OutOfMemory → ⊥) → ⊥
@@ -365,6 +365,18 @@ module _ {S R : Type 0} (public : AnyPublic) (signer : View S R) (x : Handed) wh
   not_unread given (no_memory is) read = cc (is)
   not_unread given (changed text gave differs is) read = cc (is)
 
+  not_open : (given : Option (List ℕ)) (answer : Result (List ℕ) SignFault) → AnswersAgain public signer x given answer
+      → signer.is_open ≡ false → (answer ≡ Err Stopped → ⊥) → ⊥
+  not_open given answer (inl (shut, is)) shuts other = other is
+  not_open given answer (inr (inl (opened, away, is))) shuts other = true≢false (sym opened ∙ shuts)
+  not_open given answer (inr (inr (opened, stays, is))) shuts other = true≢false (sym opened ∙ shuts)
+
+  not_there : (given : Option (List ℕ)) (answer : Result (List ℕ) SignFault) → AnswersAgain public signer x given answer
+      → signer.is_open ≡ true → has_moved signer.records ≡ true → (answer ≡ Err MovedAway → ⊥) → ⊥
+  not_there given answer (inl (shut, is)) opened went other = true≢false (sym opened ∙ shut)
+  not_there given answer (inr (inl (opens, away, is))) opened went other = other is
+  not_there given answer (inr (inr (opens, stays, is))) opened went other = true≢false (sym went ∙ stays)
+
   not_exhausted : (given : Option (List ℕ)) → CauseOf given Exhausted → ⊥
   not_exhausted given (closed shut is) = cc (is)
   not_exhausted given (moved away is) = cc (is)
@@ -381,6 +393,8 @@ module _ {S R : Type 0} (public : AnyPublic) (signer : View S R) (x : Handed) wh
     stops = λ opened answers. not_stopped given (of_err given Stopped answers) opened;
     moves = λ stays answers. not_moved given (of_err given MovedAway answers) stays;
     reads = λ read answers. not_unread given (of_err given MessageRead answers) read;
+    goes_on = λ answer closed other answers. not_open given answer answers closed other;
+    stays = λ answer opened moved other answers. not_there given answer answers opened moved other;
     exhausted = λ answers. not_exhausted given (of_err given Exhausted answers);
     others = λ fault a b c d e answers. not_others given fault (of_err given fault answers) a b c d e;
   }

@@ -34,12 +34,13 @@ AnswersBoundText records name signature (Some text) answer =
     (IsBoundText records name text × ((answer ≡ Ok signature) ⊎ (answer ≡ Err OutOfMemory)))
     ⊎ ((IsBoundText records name text → ⊥) × (answer ≡ Err Changed))
 
--- First come 26 of a closed signer, and 31 after a Moved.
+-- A closed signer gives 26 alone, and an open one after a Moved 31 alone.
 abbrev pub AnswersBound : {S R : Type 0} → View S R → (name signature : List ℕ) → (given : Option (List ℕ))
     → Result (List ℕ) SignFault → Type 0
 AnswersBound signer name signature given answer = ((signer.is_open ≡ false) × (answer ≡ Err Stopped))
-    ⊎ ((has_moved signer.records ≡ true) × (answer ≡ Err Moved))
-    ⊎ AnswersBoundText signer.records name signature given answer
+    ⊎ ((signer.is_open ≡ true) × (has_moved signer.records ≡ true) × (answer ≡ Err Moved))
+    ⊎ ((signer.is_open ≡ true) × (has_moved signer.records ≡ false)
+    × AnswersBoundText signer.records name signature given answer)
 
 -- A bound name has one signature: each request under it gets this one, or what comes before. A name that was signed is
 -- bound, and this is the signature that was handed out.

@@ -1,13 +1,13 @@
 -- The headline, of the calls that were made, whatever they answered: creates, openings, signings, requests of a serve
 -- and retirings over a disk that keeps what was synced, in all its lives, with crashes between calls and inside them;
--- and migrations. That signatures are handed out at all stands in `NotEmpty.antt`, what requests get under names that a
--- crash left bound in `BoundNames.antt`.
+-- and migrations. That some run of the world hands out a signature stands in `NotEmpty.antt`, what requests get under
+-- names that a crash left bound in `BoundNames.antt`.
 --
 -- | words | field or premise | definition |
 -- |---|---|---|
 -- | the calls, each by its own contract; lives and crashes | `IsHistory`, `IsMovedHistory` | `Sessions.antt` |
 -- | the disk keeps what was synced, and began without a key | `starts`, `HasNoKey` | `Lives.antt`, `state_file` |
--- | a migration with any answer, or a crash in it, left the key at the new place | `contents_moved` | `Sessions.antt` |
+-- | after a migration all that a crash may leave at the new place has the key | `contents_moved` | `Sessions.antt` |
 -- | all signatures that were handed out | `handed_of`, `moved_handed` | `Sessions.antt` |
 -- | the public key that the create gave | `GaveKey` | `Sessions.antt` |
 -- | no leaf signs two digests | `one_digest` | `LeafUse`, `MakesUses` |
@@ -65,11 +65,12 @@ AnswersText public x (Some text) answer = (BottomDigests public x text (λ signe
     × ((answer ≡ Ok x.signature) ⊎ (answer ≡ Err OutOfMemory)))
     ⊎ (BottomDigests public x text (λ signed other. signed ≢ other) × (answer ≡ Err Changed))
 
--- First come 26 of a closed signer, and 31 after a Moved.
+-- A closed signer gives 26 alone, and an open one after a Moved 31 alone.
 abbrev pub AnswersAgain : {S R : Type 0} → AnyPublic → View S R → Handed → (given : Option (List ℕ))
     → Result (List ℕ) SignFault → Type 0
 AnswersAgain public signer x given answer = ((signer.is_open ≡ false) × (answer ≡ Err Stopped))
-    ⊎ ((has_moved signer.records ≡ true) × (answer ≡ Err Moved)) ⊎ AnswersText public x given answer
+    ⊎ ((signer.is_open ≡ true) × (has_moved signer.records ≡ true) × (answer ≡ Err Moved))
+    ⊎ ((signer.is_open ≡ true) × (has_moved signer.records ≡ false) × AnswersText public x given answer)
 
 -- What was handed out in all the calls so far, and what the next request gets.
 pub record IsSafe {S R : Type 0} (g : store.Ghosts S) (r : source.Ghosts R) (held : Holder S R)

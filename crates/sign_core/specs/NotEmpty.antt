@@ -1,6 +1,7 @@
--- The headline says something. Signatures are handed out: for every spec some run of the world hands one out. And its
--- clauses are false of signers that go wrong.
-use Rattle.std.specs.Prelude.{◌≡◌, ◌≢◌, ◌≤◌, ℕ, true, false, List, length, Contains, Option, Some, None, Ok, Err}
+-- The headline says something. For every spec some run of the world hands out a signature. And the headline's clauses
+-- are false of signers that go wrong.
+use Rattle.std.specs.Prelude.{◌≡◌, ◌≢◌, ◌≤◌, ℕ, true, false, List, length, Contains, Option, Some, None, Result, Ok}
+use Rattle.std.specs.Prelude.{Err}
 use Rattle.typecodes.specs.declared.spec.Spec.{Spec}
 use Rattle.typecodes.specs.Name.{IsName}
 use Rattle.typecodes.specs.Spec.{IsSpec}
@@ -61,6 +62,11 @@ pub record RefusesWrongAnswers {S R : Type 0} (public : AnyPublic) (signer : Vie
   pub stops : signer.is_open ≡ true → AnswersAgain public signer x given (Err Stopped) → ⊥
   pub moves : has_moved signer.records ≡ false → AnswersAgain public signer x given (Err Moved) → ⊥
   pub reads : given ≢ None → AnswersAgain public signer x given (Err MessageRead) → ⊥
+  -- of a closed signer anything but 26, and of an open one after a Moved anything but 31
+  pub goes_on : (answer : Result (List ℕ) SignFault) → signer.is_open ≡ false → answer ≢ Err Stopped
+      → AnswersAgain public signer x given answer → ⊥
+  pub stays : (answer : Result (List ℕ) SignFault) → signer.is_open ≡ true → has_moved signer.records ≡ true
+      → answer ≢ Err Moved → AnswersAgain public signer x given answer → ⊥
   -- 22, or any refusal but these and 29
   pub exhausted : AnswersAgain public signer x given (Err Exhausted) → ⊥
   pub others : (fault : SignFault) → fault ≢ Stopped → fault ≢ Moved → fault ≢ MessageRead → fault ≢ Changed

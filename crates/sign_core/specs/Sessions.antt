@@ -140,7 +140,8 @@ RequestLaw {S} {R} {M} g r m = (old new : View S R) (name : List ℕ) (before la
 
 -- A life of the disk, which may be cut by a crash.
 --
--- - `finds`, `prepares`: `FileStore::open` or `format` is called. It is refused, or a crash comes in it or after it.
+-- - `finds`, `prepares`: `FileStore::open`, `open_into` or `format` is called. It is refused, or a crash comes in it or
+--   after it.
 -- - `moves`: `migrate_key` is called, with this disk as the old place. A crash comes in it or after it.
 -- - `serves`: there is a store on the disk, and these calls end. A crash comes in the last one; for one between two
 --   calls the last is `gives_store`.

@@ -292,9 +292,9 @@ pub fn session_law<S: Store, R: Source, M: Message>()
 ///   nothing else comes. Names that a crash left bound are `bound_law`'s.
 ///
 /// So it is, too, where the key was moved and the calls go on over the new disk, of all signatures of both (`moved`).
-/// They go on after an Ok, and after any other answer, or a crash in the migration, that left a key at the new place.
-/// The premises are the calls' own contracts. `specs/HeadlineOfCalls.antt` says it, and `specs/Sessions.antt` has the
-/// calls and the lives.
+/// They go on after an Ok. After any other answer, or a crash in the migration, they go on once all that a crash may
+/// leave at the new place has the key. The premises are the calls' own contracts. `specs/HeadlineOfCalls.antt` says it,
+/// and `specs/Sessions.antt` has the calls and the lives.
 pub fn headline_law<D: Disk + Drop, E: Disk + Drop, R: Source, M: Message>()
     ensures calls { HeadlineOfCalls D.Disk E.Disk ⟦<FileStore<D> as Store>⟧ R.Source }
     ensures moved { HeadlineOfMoved D.Disk E.Disk ⟦<FileStore<D> as Store>⟧ ⟦<FileStore<E> as Store>⟧ R.Source }
