@@ -78,7 +78,7 @@ impl Notes for Sentences<'_> {
 // both, as a test compares.
 fn sentence(number: u8) -> &'static str {
     match number {
-        1 | 2 | 3 | 4 | 5 => "PUBLIC or SIGNATURE is cut, swapped, or text in place of bytes",
+        1 | 2 | 3 | 4 | 5 => "PUBLIC or SIGNATURE is cut, long, swapped, or text",
         6 => "PUBLIC is no public key, perhaps a state file or hex digits",
         10 => "a signature's types aren't its key's: take the signature of this key",
         11 => "the signature hasn't as many levels as the key: take the signature of this key",
@@ -110,7 +110,8 @@ fn sentence(number: u8) -> &'static str {
              again"
         }
         32 => {
-            "the current bottom tree has fewer leaves, or there is none yet: take a smaller number"
+            "the current bottom tree has fewer leaves, or there is none yet: take a smaller number, if \
+             there is one"
         }
         33 => {
             "a new name of more than 64 bytes, on a file of format 1: take a shorter name, or migrate"
@@ -125,7 +126,8 @@ fn sentence(number: u8) -> &'static str {
         }
         41 => "it is no state file: take another",
         42 => {
-            "the version is unknown; for migrate also where OLD is of format 2: take a later program"
+            "the version is unknown; for migrate also where OLD is of format 2: take a later program; \
+             migrate: keep OLD"
         }
         45 => {
             "a call on a state file failed: mount its file system anew before anything opens the file; \

@@ -180,8 +180,9 @@ impl Standard {
         let mut line = self.line();
         let _ = write!(
             line,
-            "hbsign: {}: was moved before; if that wasn't to {}, two files can sign now: keep one\n",
+            "hbsign: {}: was moved before; if that wasn't to {}, two files can sign now: delete {}\n",
             Escaped(old),
+            Escaped(new),
             Escaped(new)
         );
         let _ = line.pass_on();

@@ -53,7 +53,7 @@ def write(path, data, mode=None):
 
 
 # what `migrate old new` says where the records of `old` were moved before
-MOVED_BEFORE = "hbsign: old: was moved before; if that wasn't to new, two files can sign now: keep one\n"
+MOVED_BEFORE = "hbsign: old: was moved before; if that wasn't to new, two files can sign now: delete new\n"
 SPEC = "lms:H5/W2"
 MESSAGE, OTHER = b"\1", b"\2"
 TAPE = bytes(range(100, 164))
