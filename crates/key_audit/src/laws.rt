@@ -39,7 +39,8 @@ pub fn listing_law()
 ///
 /// The signer's calls are those of `headline_law`, in the lives of one disk, and of another to which the key was moved.
 /// Whichever of their signatures are given, with the texts that were read, each is valid and no two use one leaf for
-/// different digests. So 61 means that a second signer or an old copy signed, or that the disk lost what it had synced.
+/// different digests. So at 61 not all are theirs: a second signer or an old copy signed, the disk lost what it had
+/// synced, or one is forged.
 pub fn runs_law<D: Disk + Drop, E: Disk + Drop, R: Source, M: Message>()
     ensures calls { RunsLaw D.Disk E.Disk ⟦<FileStore<D> as Store>⟧ R.Source }
     ensures moved { MovedRunsLaw D.Disk E.Disk ⟦<FileStore<D> as Store>⟧ ⟦<FileStore<E> as Store>⟧ R.Source }

@@ -145,7 +145,7 @@ impl<D: Disk + Drop> FileStore<D> {
     }
 
     /// Opens the records of a key, as `open` does, and hands each of them to the taker, the first one first. A refused
-    /// opening may have handed over records, too: those before what it refuses.
+    /// opening may have handed over records, too.
     pub fn open_into<T: Taker>(disk: D, taker: &mut T) -> Result<Self, Refused<D, OpenFault>>
         ensures finds { FindsRecords D.Disk disk result }
         ensures taken { IfOk result (λ store. T.taken taker.new ≡ T.taken taker.old ++ records_of store) }
