@@ -1,7 +1,7 @@
 //! The progress of long work: a line on a terminal, rewritten while trees are made, and erased at the end of each.
 //!
 //! Contracts say what the line has, and `line_laws` what its reader gets. When it is drawn and erased depends on a
-//! clock and a terminal: tests/progress tests that.
+//! clock and a terminal: tests/suites/progress tests that.
 
 ghost use Rattle.std.specs.Prelude.{◌≡◌, ◌<◌, ◌≤◌, OnOk, IfOk};
 ghost use Rattle.std.specs.Io.KnownBytes.{Appends};
