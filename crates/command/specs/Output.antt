@@ -36,7 +36,7 @@ behind_line (Some slot) = codes "behind " ++ decimal slot ++ codes "\n"
 abbrev pub entry_text : Entry → List ℕ
 entry_text Key = codes " key"
 entry_text (Tree level leaf) = (codes " tree level " ++ decimal level) ++ (codes " leaf " ++ decimal leaf)
-entry_text (Name name leaf digest) =
+entry_text (Name leaf name digest) =
     (codes " name " ++ name ++ (codes " leaf " ++ decimal leaf)) ++ codes " digest " ++ encode_lower digest
 entry_text (Retired upto) = codes " retired upto " ++ decimal upto
 entry_text Moved = codes " moved"

@@ -27,7 +27,7 @@ use Rattle.key_audit.specs.Audit.{Judges, ReadsStore}
 abbrev pub entry_of : Record → Entry
 entry_of (entry.Key key) = KeyEntry
 entry_of (entry.Extend extend) = Tree extend.level extend.parent_leaf
-entry_of (entry.Bound bound) = Name bound.name bound.leaf bound.digest
+entry_of (entry.Bound bound) = Name bound.leaf bound.name bound.digest
 entry_of (entry.Retire upto) = Retired upto
 entry_of entry.Moved = Moved
 
@@ -59,7 +59,7 @@ shown_of_listing listing = record {
 
 -- how many entries are names
 abbrev pub name_count : Entry → ℕ
-name_count (Name name leaf digest) = 1
+name_count (Name leaf name digest) = 1
 name_count KeyEntry = 0
 name_count (Tree level leaf) = 0
 name_count (Retired upto) = 0

@@ -2,6 +2,7 @@
 pub mod Audit
 pub mod InMemory
 pub mod LeafIndex
+pub mod ListedName
 pub mod Listing
 pub mod Loading
 pub mod Uses

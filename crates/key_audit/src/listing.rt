@@ -1,11 +1,13 @@
 //! What a listing of a state file says. Nothing of it is secret.
 
-ghost use Rattle.std.specs.Prelude.{◌≡◌, ◌≤◌};
+ghost use Rattle.std.specs.Prelude.{◌≡◌, ◌≤◌, IfOk};
 ghost use Rattle.key_audit.specs.Listing.{entry_of, name_count, names_among};
 
+use crate::listed_name::ListedName;
 use arrayvec::ArrayVec;
 use state_file::{Record, Version};
-use typecodes::{Name, Spec};
+use std::alloc::{AllocError, Global};
+use typecodes::Spec;
 
 /// What a state file is, and what its key has signed.
 #[derive(Debug, PartialEq, Eq, Drop)]
@@ -34,8 +36,8 @@ pub enum Entry {
     },
     /// A name, with the leaf that it is bound to and the 32-byte digest that the leaf signs.
     Name {
-        name: Name,
         leaf: u32,
+        name: ListedName,
         digest: [u8; 32],
     },
     /// The current bottom tree's leaves below `upto` are given up.
@@ -47,24 +49,25 @@ pub enum Entry {
 }
 
 impl Entry {
-    /// A record's entry.
-    pub fn of(source: &Record) -> Self
-        ensures { result ≡ entry_of source.now }
+    /// A record's entry. Memory may be refused for a name of more than 22 bytes.
+    pub fn of(alloc: Global, source: &Record) -> Result<Self, AllocError>
+        ensures { IfOk result (λ entry. entry ≡ entry_of source.now) }
     {
-        match source {
+        let entry = match source {
             Record::Key(_) => Entry::Key,
             Record::Extend(extend) => Entry::Tree {
                 level: extend.level,
                 leaf: extend.parent_leaf,
             },
             Record::Bound(bound) => Entry::Name {
-                name: bound.name,
                 leaf: bound.leaf,
+                name: ListedName::of(alloc, &bound.name)?,
                 digest: bound.digest,
             },
             Record::Retire { upto } => Entry::Retired { upto: *upto },
             Record::Moved => Entry::Moved,
-        }
+        };
+        Ok(entry)
     }
 }
 

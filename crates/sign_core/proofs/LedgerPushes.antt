@@ -1,7 +1,7 @@
 -- A ledger matches its records after an Extend or a Bound.
 use Rattle.std.proofs.Common.{◌≡◌, inl, inr, ℕ, zero, suc, ◌+◌, ◌-◌, ◌^◌, ◌<◌, ◌≤◌, Bool, true, false, cond, ◌||◌, ◌&&◌, List, [], ◌∷◌, ◌++◌}
 use Rattle.std.proofs.Common.{length, not, true≢false, Option, Some, None, refl, sym, ap, subst, ◌∙◌, arith, eq-eqb, ne_eqb, leb-true, ltb-true}
-use Rattle.std.specs.Prelude.{Result, Ok, Err, IsOk, OnOk, is_some, nat_eq, nat_le, nat_lt, unwrap_or}
+use Rattle.std.specs.Prelude.{is_some, nat_eq, nat_le, nat_lt, unwrap_or}
 use Rattle.std.proofs.Math.Nat.{pow-le-pow_right}
 use Rattle.std.proofs.lemmas.Bool.{and_parts, cases_eq, cases_lt}
 use Rattle.std.proofs.lemmas.List.{length_push, take_all}
@@ -19,12 +19,13 @@ use Rattle.state_file.specs.declared.record.Secret.{Secret}
 use Rattle.state_file.specs.declared.record.Secret.TheVariants.{Lms, Hss, Xmss}
 use Rattle.state_file.specs.Laws.{bottom_of, leaves_at, tree_leaves_at, levels_of}
 use Rattle.sign_core.specs.Records.{are_same, binding_at, can_follow, can_follow_legal, current, has_identifier, has_moved, has_randomizer, is_free}
-use Rattle.sign_core.specs.Ledger.{ByPlace, ByText, IsTableOf, made_at, made_entry, of_place, of_text}
+use Rattle.sign_core.specs.Ledger.{ByPlace, ByText, IsTableOf, bound_in, made_at, made_entry, of_place, of_text}
 use Rattle.sign_core.specs.inner.Trees.{FollowsExtend, place_of}
 use Rattle.sign_core.proofs.Kept.{FollowsBound}
 use Rattle.sign_core.specs.Trees.{HasTrees, with_next}
 use Rattle.sign_core.specs.Trees.{kept_at as tree_kept}
 use Rattle.sign_core.specs.Textbook.{HasSizes, current_at}
+use Rattle.sign_core.specs.declared.name_map.NameMap.{NameMap}
 use Rattle.sign_core.specs.declared.ledger.Binding.{Binding}
 use Rattle.sign_core.specs.declared.ledger.Made.{Made}
 use Rattle.sign_core.specs.declared.trees.Tree.{Tree}
@@ -33,11 +34,6 @@ use Rattle.sign_core.proofs.Keys.{key_stands}
 use Rattle.sign_core.proofs.Legal.{grows}
 use Rattle.sign_core.proofs.LedgerSteps.{identifier_grown, identifier_other, is_some_record, kept_bound, made_after, made_before, made_here}
 use Rattle.sign_core.proofs.LedgerSteps.{kept_other, made_other, moved_last, not_means, or_none, sizes_grown}
-
--- an `OnOk` clause, for an answer that is Ok
-pub on_ok : {T E P : Type 0} (r : Result T E) → IsOk r → OnOk r P → P
-on_ok (Ok x) is holds = holds
-on_ok (Err e) is holds = absurd (true≢false (sym is))
 
 -- ---- how many leaves a tree has
 
@@ -119,15 +115,15 @@ tree_of_end secret records levels level has within =
 
 -- ---- a Bound
 
-pub grown_bound : (records : List Record) (key : Key) (made : ByPlace Made) (bindings : ByText Binding) (identifiers : ByText ℕ)
+pub grown_bound : (records : List Record) (key : Key) (made : ByPlace Made) (bindings : NameMap) (identifiers : ByText ℕ)
     (levels : List (Option Tree)) (count : ℕ) (moved : Bool) → IsTableOf records key made bindings identifiers levels count moved
     → (bound : Bound) (bottom tree : ℕ) → can_follow (Some key) records (BoundRecord bound) ≡ true → HasSizes (BoundRecord bound)
     → bottom ≡ bottom_of key.secret → bottom < 8 → tree ≡ place_of (tree_kept levels bottom)
     → (new_levels : List (Option Tree)) → FollowsBound levels bottom bound.leaf new_levels
-    → (bound_name : List ℕ) → bound_name ≡ bound.name → (new_bindings : ByText Binding)
-    → ((name : List ℕ) → of_text new_bindings name ≡ cond (are_same bound_name name)
+    → (bound_name : List ℕ) → bound_name ≡ bound.name → (new_bindings : NameMap)
+    → ((name : List ℕ) → bound_in new_bindings name ≡ cond (are_same bound_name name)
     (Some (record { place = count; leaf = bound.leaf; randomizer = bound.randomizer; digest = bound.digest; tree = tree }))
-    (of_text bindings name))
+    (bound_in bindings name))
     → (new : List Record) → new ≡ records ++ BoundRecord bound ∷ []
     → IsTableOf new key made new_bindings identifiers new_levels (count + 1) moved
 grown_bound records key made bindings identifiers levels count moved old bound bottom tree follows own last within tree_is new_levels trees
@@ -182,7 +178,7 @@ some_or true place None = refl
 some_or true place (Some other) = refl
 some_or false place found = sym (or_none (is_some found))
 
-pub grown_extend : (records : List Record) (key : Key) (made : ByPlace Made) (bindings : ByText Binding) (identifiers : ByText ℕ)
+pub grown_extend : (records : List Record) (key : Key) (made : ByPlace Made) (bindings : NameMap) (identifiers : ByText ℕ)
     (levels : List (Option Tree)) (count : ℕ) (moved : Bool) → IsTableOf records key made bindings identifiers levels count moved
     → (extend : Extend) (level parent : ℕ) → can_follow (Some key) records (ExtendRecord extend) ≡ true → HasSizes (ExtendRecord extend)
     → level ≡ extend.level → level - 1 < 8 → parent ≡ place_of (tree_kept levels (level - 1))

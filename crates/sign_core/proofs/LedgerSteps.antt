@@ -17,6 +17,7 @@ use Rattle.sign_core.specs.Ledger.{ByPlace, ByText, IsTableOf, binding_kept, kep
 use Rattle.sign_core.proofs.Kept.{FollowsRetire}
 use Rattle.sign_core.specs.Trees.{HasTrees}
 use Rattle.sign_core.specs.Textbook.{AllHaveSizes, HasSizes}
+use Rattle.sign_core.specs.declared.name_map.NameMap.{NameMap}
 use Rattle.sign_core.specs.declared.ledger.Binding.{Binding}
 use Rattle.sign_core.specs.declared.ledger.Made.{Made}
 use Rattle.sign_core.specs.declared.trees.Tree.{Tree}
@@ -156,7 +157,7 @@ sizes_grown records entry sizes own k other at = elim (front_or_new records entr
   | inr (end, same) ↦ subst HasSizes same own
 ]
 
-module _ (records : List Record) (key : Key) (made : ByPlace Made) (bindings : ByText Binding) (identifiers : ByText ℕ)
+module _ (records : List Record) (key : Key) (made : ByPlace Made) (bindings : NameMap) (identifiers : ByText ℕ)
     (levels : List (Option Tree)) (count : ℕ) (moved : Bool) (old : IsTableOf records key made bindings identifiers levels count moved)
     (entry : Record) (follows : can_follow (Some key) records entry ≡ true) where
   pub is_some_record : 0 < length records
@@ -188,7 +189,7 @@ some_means : (found : Option ℕ) → is_some found ≡ true → (place : ℕ) �
 some_means None is = absurd (true≢false (sym is))
 some_means (Some place) is = (place, refl)
 
-pub grown_retire : (records : List Record) (key : Key) (made : ByPlace Made) (bindings : ByText Binding) (identifiers : ByText ℕ)
+pub grown_retire : (records : List Record) (key : Key) (made : ByPlace Made) (bindings : NameMap) (identifiers : ByText ℕ)
     (levels : List (Option Tree)) (count : ℕ) (moved : Bool) → IsTableOf records key made bindings identifiers levels count moved
     → (upto bottom : ℕ) → can_follow (Some key) records (Retire upto) ≡ true → bottom ≡ bottom_of key.secret
     → (new_levels : List (Option Tree)) → FollowsRetire levels bottom upto new_levels → (new : List Record) → new ≡ records ++ Retire upto ∷ []

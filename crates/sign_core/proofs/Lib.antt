@@ -48,6 +48,7 @@ pub mod Calls
 pub mod SignerCalls
 pub mod Acknowledged
 pub mod Sound
+pub mod BoundIn
 pub mod LedgerReading
 pub mod LedgerSteps
 pub mod LedgerPushes

@@ -1,10 +1,11 @@
 -- What a ledger holds of the records in memory, and that it matches them.
-use Rattle.std.specs.Prelude.{◌≡◌, ◌⊎◌, ℕ, ◌+◌, ◌-◌, ◌^◌, ◌<◌, Bool, List, [], length, take, drop, slice_get, nat_eq}
+use Rattle.std.specs.Prelude.{◌≡◌, ◌⊎◌, ℕ, ◌+◌, ◌-◌, ◌^◌, ◌<◌, Bool, if◌then◌else◌, nat_eq, nat_le, min}
+use Rattle.std.specs.Prelude.{List, [], ◌∷◌, ◌++◌, length, replicate, take, drop, slice_get}
 use Rattle.std.specs.Prelude.{Option, Some, None, option_map, is_some}
 use Rattle.std.specs.Cmp.Lexicographic.{pointwise}
 use Rattle.std.specs.declared.hash.FoldHasher.{FoldHasher}
 use Rattle.std.specs.declared.hash.BuildHasherDefault.{BuildHasherDefault}
-use Rattle.std.specs.HashMap.{HashMap, get}
+use Rattle.std.specs.HashMap.{HashMap, get, spare}
 use Rattle.state_file.specs.Laws.{IsLegal, bottom_of}
 use Rattle.state_file.specs.declared.record.Bound.{Bound}
 use Rattle.state_file.specs.declared.record.Key.{Key}
@@ -12,6 +13,7 @@ use Rattle.state_file.specs.declared.record.Record.{Record}
 use Rattle.state_file.specs.declared.record.Record.TheVariants.{Key as KeyRecord, Extend as ExtendRecord}
 use Rattle.state_file.specs.declared.record.Record.TheVariants.{Bound as BoundRecord, Retire, Moved}
 use Rattle.state_file.specs.declared.record.Secret.{Secret}
+use Rattle.sign_core.specs.declared.name_map.NameMap.{NameMap}
 use Rattle.sign_core.specs.declared.ledger.Binding.{Binding}
 use Rattle.sign_core.specs.declared.ledger.Made.{Made}
 use Rattle.sign_core.specs.declared.ledger.LedgerFault.{LedgerFault}
@@ -40,6 +42,21 @@ ByPlace V = HashMap ℕ V (BuildHasherDefault FoldHasher)
 
 abbrev pub of_place : {V : Type 0} → ByPlace V → ℕ → Option V
 of_place entries place = get nat_eq entries place
+
+-- ---- bindings by name
+
+-- the key of a name of at most 22 bytes: how many bytes it has, and these, filled up by zeros
+abbrev pub short_text : (name : List ℕ) → List ℕ
+short_text name = length name ∷ (name ++ replicate (22 - length name) 0)
+
+-- a name's binding, in the map of short names or in the other
+abbrev pub bound_in : NameMap → (name : List ℕ) → Option Binding
+bound_in bindings name =
+    if nat_le (length name) 22 then of_text bindings.short (short_text name) else of_text bindings.long name
+
+-- for how many more names there is memory, whatever their lengths
+abbrev pub spare_in : NameMap → ℕ
+spare_in bindings = min (spare bindings.short) (spare bindings.long)
 
 -- ---- what is kept of a record
 
@@ -73,7 +90,7 @@ binding_kept secret records name = option_map (kept_of secret records) (binding_
 
 -- A ledger's parts match its records. It has the Extends by place, the bindings by name, each I after the Key's, and
 -- the current trees with their next leaves. It knows the number of records, and whether a Moved is last.
-pub record IsTableOf (records : List Record) (key : Key) (made : ByPlace Made) (bindings : ByText Binding)
+pub record IsTableOf (records : List Record) (key : Key) (made : ByPlace Made) (bindings : NameMap)
     (identifiers : ByText ℕ) (levels : List (Option Tree)) (count : ℕ) (moved : Bool) : Type 0 where
   pub legal : IsLegal records
   pub keyed : the_key records ≡ Some key
@@ -82,7 +99,7 @@ pub record IsTableOf (records : List Record) (key : Key) (made : ByPlace Made) (
   pub moved_is : moved ≡ has_moved records
   pub trees_are : HasTrees key.secret records levels
   pub made_are : (place : ℕ) → of_place made place ≡ made_at records place
-  pub bindings_are : (name : List ℕ) → of_text bindings name ≡ binding_kept key.secret records name
+  pub bindings_are : (name : List ℕ) → bound_in bindings name ≡ binding_kept key.secret records name
   pub identifiers_are : (identifier : List ℕ)
       → is_some (of_text identifiers identifier) ≡ has_identifier (drop 1 records) identifier
 

@@ -7,6 +7,7 @@ ghost use Rattle.sign_core.specs.Records.{has_identifier, has_moved, is_free, th
 ghost use Rattle.sign_core.specs.Ledger.{TakesMemory};
 
 use crate::key::AnyPublic;
+use crate::name_map::NameMap;
 use crate::replay::Replay;
 use crate::trees::{CurrentTrees, Tree};
 use arrayvec::ArrayVec;
@@ -92,7 +93,7 @@ pub struct Ledger {
     key: Key,
     // the Extends by their places
     made: HashMap<u32, Made>,
-    bindings: HashMap<Name, Binding>,
+    bindings: NameMap,
     // the places of the Extends by their I
     identifiers: HashMap<[u8; 16], u32>,
     trees: CurrentTrees,
@@ -103,14 +104,14 @@ pub struct Ledger {
 impl Model for Ledger {
     ghost use Rattle.std.specs.Prelude.{min};
     ghost use Rattle.std.specs.HashMap.{spare};
-    ghost use Rattle.sign_core.specs.Ledger.{IsTableOf, Table};
+    ghost use Rattle.sign_core.specs.Ledger.{IsTableOf, Table, spare_in};
 
     ghost Value = { Table };
 
     ghost view = { λ s. record {
       key = s.key;
       records = s.records;
-      spare = min (spare s.made) (min (spare s.bindings) (spare s.identifiers));
+      spare = min (spare s.made) (min (spare_in s.bindings) (spare s.identifiers));
     } };
 
     ghost invariant = { λ s. IsTableOf s.records s.key s.made s.bindings s.identifiers s.trees.levels s.count s.moved };
@@ -141,7 +142,7 @@ impl Ledger {
             records,
             key,
             made: HashMap::new(alloc),
-            bindings: HashMap::new(alloc),
+            bindings: NameMap::new(alloc),
             identifiers: HashMap::new(alloc),
             trees: CurrentTrees::of_key(),
             count: 1,
@@ -225,7 +226,7 @@ impl Ledger {
     pub(crate) fn find(&self, name: &Name) -> Option<Binding>
         ensures { result ≡ binding_kept self.now.key.secret self.now.records name.now }
     {
-        self.bindings.get(name).copied()
+        self.bindings.get(name)
     }
 
     /// Whether a record makes a tree with this I.
@@ -378,7 +379,7 @@ impl Ledger {
             }
             Record::Bound(bound) => {
                 let binding = Binding::of(&bound, place, self.trees.place(bottom));
-                let _ = self.bindings.insert(bound.name, binding);
+                self.bindings.insert(&bound.name, binding);
                 self.trees.raise(bottom, bound.leaf + 1);
             }
             Record::Retire { upto } => self.trees.raise(bottom, upto),

@@ -46,6 +46,7 @@ mod key_trees;
 mod laws;
 mod ledger;
 mod migration;
+mod name_map;
 mod progress;
 mod replay;
 mod serving;

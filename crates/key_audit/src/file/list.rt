@@ -1,9 +1,9 @@
 //! The listing of a state file: its types, and what its key has signed.
 
-ghost use Rattle.std.specs.Prelude.{◌≡◌, [], false, IfOk, List};
+ghost use Rattle.std.specs.Prelude.{◌≡◌, ◌∷◌, [], ◌++◌, false, IfOk, List, OnOk};
 ghost use Rattle.state_file.specs.FileStore.{has_stopped, records_of};
 ghost use Rattle.state_file.specs.declared.record.Record.{Record as R};
-ghost use Rattle.key_audit.specs.Listing.{Lists, ListsReplayed};
+ghost use Rattle.key_audit.specs.Listing.{Lists, ListsReplayed, entry_of};
 ghost use Rattle.key_audit.specs.inner.Listing.{IsListed, ListsRecords};
 
 use crate::file::loading::{finish, load_into};
@@ -11,13 +11,14 @@ use crate::listing::{Entry, Listing};
 use crate::report::AuditFault;
 use sign_core::{Replay, slot_behind, types_of};
 use state_file::{Disk, FileStore, Record, Taker};
-use std::alloc::Global;
+use std::alloc::{AllocError, Global};
 use std::marker::Model;
 
 /// Makes a listing of records, one after the other: `FileStore::open_into` hands it each record as it reads the file.
 /// Contracts see the list of records that it took.
 #[derive(Drop)]
 pub struct ListReplay {
+    alloc: Global,
     replay: Replay,
     entries: Vec<Entry>,
     // whether memory was refused for an entry
@@ -38,6 +39,7 @@ impl ListReplay {
         ensures { result ≡ [] }
     {
         ListReplay {
+            alloc,
             replay: Replay::new(alloc),
             entries: Vec::new(alloc),
             lacking: false,
@@ -70,9 +72,17 @@ impl Taker for ListReplay {
     fn take(&mut self, entry: &Record) {
         self.replay.take(entry);
         if !self.lacking {
-            self.lacking = self.entries.push(Entry::of(entry)).is_err();
+            self.lacking = push_entry(self.alloc, &mut self.entries, entry).is_err();
         }
     }
+}
+
+fn push_entry(alloc: Global, entries: &mut Vec<Entry>, source: &Record) -> Result<(), AllocError>
+    ensures { OnOk result (entries.new.items ≡ entries.old.items ++ entry_of source.now ∷ []) }
+{
+    let entry = Entry::of(alloc, source)?;
+    entries.push(entry)?;
+    Ok(())
 }
 
 /// Lists a state file without changing it: types, version, free leaves of each level, an entry for each record, and

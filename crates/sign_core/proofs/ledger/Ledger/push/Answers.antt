@@ -5,11 +5,12 @@ use Rattle.state_file.specs.declared.record.Record.TheVariants.{Extend as Extend
 use Rattle.state_file.specs.Laws.{bottom_of}
 use Rattle.sign_core.specs.declared.ledger.Binding.{Binding}
 use Rattle.sign_core.specs.Records.{are_same, can_follow}
-use Rattle.sign_core.specs.Ledger.{Table, TakesMemory, of_text}
+use Rattle.sign_core.specs.Ledger.{Table, TakesMemory, bound_in, spare_in}
 use Rattle.sign_core.specs.Textbook.{HasSizes}
 use Rattle.sign_core.proofs.Kept.{follows_bound, follows_moved, follows_retire}
 use Rattle.sign_core.proofs.LedgerReading.{key_levels}
-use Rattle.sign_core.proofs.LedgerPushes.{bound_leaf, extend_inside, grown_bound, grown_extend, on_ok}
+use Rattle.sign_core.proofs.BoundIn.{on_ok}
+use Rattle.sign_core.proofs.LedgerPushes.{bound_leaf, extend_inside, grown_bound, grown_extend}
 use Rattle.sign_core.proofs.LedgerSteps.{grown_plain, grown_retire}
 use Rattle.sign_core.proofs.ledger.Ledger.push.Goals.{In-Extend, In-Bound, In-Retire, In-Moved, After-from-bottom}
 use Rattle.sign_core.proofs.ledger.Ledger.push.Goals as goal
@@ -93,15 +94,15 @@ overflow_add-bound c =
 pub invariant_of-self-in-Bound : goal.invariant_of-self-in-Bound
 invariant_of-self-in-Bound c =
     let takes : TakesMemory c.args.entry = subst TakesMemory (sym c.in-Bound.is) tt in
-    let room : 0 < spare c.self.inside.bindings = omega (arith, c.requires.room.room takes, ap (λ (t : Table). t.spare) c.self.view_is) in
+    let room : 0 < spare_in c.self.inside.bindings = omega (arith, c.requires.room.room takes, ap (λ (t : Table). t.spare) c.self.view_is) in
     grown_bound c.self.inside.records c.self.inside.key c.self.inside.made c.self.inside.bindings c.self.inside.identifiers c.self.inside.trees.levels
     c.self.inside.count c.self.inside.moved c.self.invariant c.in-Bound.bound c.from-bottom.result c.place.result
     (bound_follows (goal.at.invariant_of-self-in-Bound c).In-Bound) (subst HasSizes c.in-Bound.is c.requires.sizes)
     (last (goal.at.invariant_of-self-in-Bound c).After-from-bottom) (bottom_few (goal.at.invariant_of-self-in-Bound c).After-from-bottom) c.place.ensures
     c.raise.new.self.levels
     (follows_bound c.self.inside.trees.levels c.raise.new.self.levels c.from-bottom.result c.in-Bound.bound.leaf c.raise.ensures) c.in-Bound.bound.name refl c.insert-in-Bound.new.self
-    (λ name. (on_ok c.insert-in-Bound.result (c.insert-in-Bound.ensures.succeeds room) c.insert-in-Bound.ensures.updates).0 name
-    ∙ ap (λ (b : Binding). cond (are_same c.in-Bound.bound.name name) (Some b) (of_text c.self.inside.bindings name)) c.of-binding.ensures)
+    (λ name. c.insert-in-Bound.ensures.updates name
+    ∙ ap (λ (b : Binding). cond (are_same c.in-Bound.bound.name name) (Some b) (bound_in c.self.inside.bindings name)) c.of-binding.ensures)
     c.push.new.self (c.push.ensures ∙ ap (λ (x : Record). c.self.inside.records ++ x ∷ []) c.in-Bound.is)
 
 -- ---- a Retire

@@ -11,6 +11,6 @@ invariant_of-self-2 c = record {
   moved_is = c.self.invariant.moved_is;
   trees_are = c.self.invariant.trees_are;
   made_are = λ place. c.reserve.ensures.entries.2 place ∙ c.self.invariant.made_are place;
-  bindings_are = λ name. c.reserve-2.ensures.entries.2 name ∙ c.self.invariant.bindings_are name;
+  bindings_are = λ name. c.reserve-2.ensures.same name ∙ c.self.invariant.bindings_are name;
   identifiers_are = λ identifier. ap is_some (c.reserve-3.ensures.entries.2 identifier) ∙ c.self.invariant.identifiers_are identifier;
 }
