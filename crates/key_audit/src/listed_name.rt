@@ -3,6 +3,7 @@
 ghost use Rattle.std.specs.Prelude.{◌≡◌, IfOk};
 
 use std::alloc::{AllocError, Global};
+use std::boxed::BoxedSlice;
 use std::marker::Model;
 use typecodes::Name;
 
@@ -10,7 +11,7 @@ use typecodes::Name;
 #[derive(Debug, Drop)]
 enum Text {
     Short { len: u8, bytes: [u8; 22] },
-    Long(Box<Name>),
+    Long(BoxedSlice<u8>),
 }
 
 /// A name: 1 to 128 bytes, each a visible character of ASCII, 0x21 to 0x7E.
@@ -37,7 +38,7 @@ impl ListedName {
     {
         let bytes = name.as_bytes();
         if bytes.len() > 22 {
-            let text = Text::Long(Box::new(alloc, *name)?);
+            let text = Text::Long(BoxedSlice::from_slice(alloc, bytes)?);
             return Ok(ListedName { text });
         }
         let mut short = [0; 22];
@@ -54,7 +55,7 @@ impl ListedName {
     {
         match &self.text {
             Text::Short { len, bytes } => &bytes[..usize::from(*len)],
-            Text::Long(name) => name.as_bytes(),
+            Text::Long(bytes) => bytes.as_slice(),
         }
     }
 }
