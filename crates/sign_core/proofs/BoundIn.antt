@@ -5,7 +5,7 @@ use Rattle.std.specs.Bool.{one_answer}
 use Rattle.std.specs.Cmp.Lexicographic.{bytes_decides, unequal}
 use Rattle.std.proofs.lemmas.List.{take_at}
 use Rattle.sign_core.specs.Records.{are_same}
-use Rattle.sign_core.specs.Ledger.{bound_in, of_text, short_text}
+use Rattle.sign_core.specs.Ledger.{bound_at, of_text, short_text}
 use Rattle.sign_core.specs.declared.name_map.NameMap.{NameMap}
 use Rattle.sign_core.specs.declared.ledger.Binding.{Binding}
 
@@ -43,7 +43,7 @@ not_named name other within is apart =
 pub short_bound : (old new : NameMap) (name : List ℕ) (binding : Binding) → length name ≤ 22
     → ((text : List ℕ) → of_text new.short text ≡ cond (are_same (short_text name) text) (Some binding) (of_text old.short text))
     → new.long ≡ old.long
-    → (other : List ℕ) → bound_in new other ≡ cond (are_same name other) (Some binding) (bound_in old other)
+    → (other : List ℕ) → bound_at new other ≡ cond (are_same name other) (Some binding) (bound_at old other)
 short_bound old new name binding short bound stays other =
     by_length (nat_le (length other) 22) (of_text old.short (short_text other)) (of_text old.long other)
     (of_text new.short (short_text other)) (of_text new.long other) (are_same name other) binding
@@ -56,7 +56,7 @@ short_bound old new name binding short bound stays other =
 pub long_bound : (old new : NameMap) (name : List ℕ) (binding : Binding) → nat_le (length name) 22 ≡ false
     → ((text : List ℕ) → of_text new.long text ≡ cond (are_same name text) (Some binding) (of_text old.long text))
     → new.short ≡ old.short
-    → (other : List ℕ) → bound_in new other ≡ cond (are_same name other) (Some binding) (bound_in old other)
+    → (other : List ℕ) → bound_at new other ≡ cond (are_same name other) (Some binding) (bound_at old other)
 long_bound old new name binding long bound stays other =
     by_length (nat_le (length other) 22) (of_text old.short (short_text other)) (of_text old.long other)
     (of_text new.short (short_text other)) (of_text new.long other) (are_same name other) binding
@@ -68,6 +68,6 @@ long_bound old new name binding long bound stays other =
 -- more room, in each of the two
 pub kept_alike : (old new : NameMap) → ((text : List ℕ) → of_text new.short text ≡ of_text old.short text)
     → ((name : List ℕ) → of_text new.long name ≡ of_text old.long name)
-    → (name : List ℕ) → bound_in new name ≡ bound_in old name
+    → (name : List ℕ) → bound_at new name ≡ bound_at old name
 kept_alike old new short long name =
     λ i. if nat_le (length name) 22 then short (short_text name) i else long name i

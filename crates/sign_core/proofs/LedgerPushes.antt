@@ -19,7 +19,7 @@ use Rattle.state_file.specs.declared.record.Secret.{Secret}
 use Rattle.state_file.specs.declared.record.Secret.TheVariants.{Lms, Hss, Xmss}
 use Rattle.state_file.specs.Laws.{bottom_of, leaves_at, tree_leaves_at, levels_of}
 use Rattle.sign_core.specs.Records.{are_same, binding_at, can_follow, can_follow_legal, current, has_identifier, has_moved, has_randomizer, is_free}
-use Rattle.sign_core.specs.Ledger.{ByPlace, ByText, IsTableOf, bound_in, made_at, made_entry, of_place, of_text}
+use Rattle.sign_core.specs.Ledger.{ByPlace, ByText, IsTableOf, bound_at, made_at, made_entry, of_place, of_text}
 use Rattle.sign_core.specs.inner.Trees.{FollowsExtend, place_of}
 use Rattle.sign_core.proofs.Kept.{FollowsBound}
 use Rattle.sign_core.specs.Trees.{HasTrees, with_next}
@@ -121,9 +121,9 @@ pub grown_bound : (records : List Record) (key : Key) (made : ByPlace Made) (bin
     → bottom ≡ bottom_of key.secret → bottom < 8 → tree ≡ place_of (tree_kept levels bottom)
     → (new_levels : List (Option Tree)) → FollowsBound levels bottom bound.leaf new_levels
     → (bound_name : List ℕ) → bound_name ≡ bound.name → (new_bindings : NameMap)
-    → ((name : List ℕ) → bound_in new_bindings name ≡ cond (are_same bound_name name)
+    → ((name : List ℕ) → bound_at new_bindings name ≡ cond (are_same bound_name name)
     (Some (record { place = count; leaf = bound.leaf; randomizer = bound.randomizer; digest = bound.digest; tree = tree }))
-    (bound_in bindings name))
+    (bound_at bindings name))
     → (new : List Record) → new ≡ records ++ BoundRecord bound ∷ []
     → IsTableOf new key made new_bindings identifiers new_levels (count + 1) moved
 grown_bound records key made bindings identifiers levels count moved old bound bottom tree follows own last within tree_is new_levels trees

@@ -50,13 +50,13 @@ abbrev pub short_text : (name : List ℕ) → List ℕ
 short_text name = length name ∷ (name ++ replicate (22 - length name) 0)
 
 -- a name's binding, in the map of short names or in the other
-abbrev pub bound_in : NameMap → (name : List ℕ) → Option Binding
-bound_in bindings name =
+abbrev pub bound_at : NameMap → (name : List ℕ) → Option Binding
+bound_at bindings name =
     if nat_le (length name) 22 then of_text bindings.short (short_text name) else of_text bindings.long name
 
 -- for how many more names there is memory, whatever their lengths
-abbrev pub spare_in : NameMap → ℕ
-spare_in bindings = min (spare bindings.short) (spare bindings.long)
+abbrev pub spare_of : NameMap → ℕ
+spare_of bindings = min (spare bindings.short) (spare bindings.long)
 
 -- ---- what is kept of a record
 
@@ -99,7 +99,7 @@ pub record IsTableOf (records : List Record) (key : Key) (made : ByPlace Made) (
   pub moved_is : moved ≡ has_moved records
   pub trees_are : HasTrees key.secret records levels
   pub made_are : (place : ℕ) → of_place made place ≡ made_at records place
-  pub bindings_are : (name : List ℕ) → bound_in bindings name ≡ binding_kept key.secret records name
+  pub bindings_are : (name : List ℕ) → bound_at bindings name ≡ binding_kept key.secret records name
   pub identifiers_are : (identifier : List ℕ)
       → is_some (of_text identifiers identifier) ≡ has_identifier (drop 1 records) identifier
 

@@ -104,14 +104,14 @@ pub struct Ledger {
 impl Model for Ledger {
     ghost use Rattle.std.specs.Prelude.{min};
     ghost use Rattle.std.specs.HashMap.{spare};
-    ghost use Rattle.sign_core.specs.Ledger.{IsTableOf, Table, spare_in};
+    ghost use Rattle.sign_core.specs.Ledger.{IsTableOf, Table, spare_of};
 
     ghost Value = { Table };
 
     ghost view = { λ s. record {
       key = s.key;
       records = s.records;
-      spare = min (spare s.made) (min (spare_in s.bindings) (spare s.identifiers));
+      spare = min (spare s.made) (min (spare_of s.bindings) (spare s.identifiers));
     } };
 
     ghost invariant = { λ s. IsTableOf s.records s.key s.made s.bindings s.identifiers s.trees.levels s.count s.moved };

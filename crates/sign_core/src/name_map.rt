@@ -2,7 +2,7 @@
 
 ghost use Rattle.std.specs.Prelude.{◌≡◌, ◌<◌, ◌≤◌, ◌+◌, cond, length, List, None, OnErr, OnOk, Some, ℕ};
 ghost use Rattle.sign_core.specs.Records.{are_same};
-ghost use Rattle.sign_core.specs.Ledger.{bound_in, short_text, spare_in};
+ghost use Rattle.sign_core.specs.Ledger.{bound_at, short_text, spare_of};
 
 use crate::ledger::Binding;
 use std::alloc::{AllocError, Global};
@@ -19,7 +19,7 @@ pub(crate) struct NameMap {
 impl NameMap {
     /// No binding. It takes no memory.
     pub(crate) fn new(alloc: Global) -> Self
-        ensures { (name : List ℕ) → bound_in result name ≡ None }
+        ensures { (name : List ℕ) → bound_at result name ≡ None }
     {
         NameMap {
             short: HashMap::new(alloc),
@@ -28,7 +28,7 @@ impl NameMap {
     }
 
     pub(crate) fn get(&self, name: &Name) -> Option<Binding>
-        ensures { result ≡ bound_in self.now name.now }
+        ensures { result ≡ bound_at self.now name.now }
     {
         let bytes = name.as_bytes();
         if bytes.len() <= 22 {
@@ -40,10 +40,10 @@ impl NameMap {
 
     /// Makes room for more names, short or long.
     pub(crate) fn reserve(&mut self, additional: usize) -> Result<(), AllocError>
-        ensures same { (name : List ℕ) → bound_in self.new name ≡ bound_in self.old name }
-        ensures room { OnOk result (additional ≤ spare_in self.new) }
-        ensures lacking { OnErr result (spare_in self.old < additional) }
-        ensures spare { spare_in self.old ≤ spare_in self.new }
+        ensures same { (name : List ℕ) → bound_at self.new name ≡ bound_at self.old name }
+        ensures room { OnOk result (additional ≤ spare_of self.new) }
+        ensures lacking { OnErr result (spare_of self.old < additional) }
+        ensures spare { spare_of self.old ≤ spare_of self.new }
     {
         self.short.reserve(additional)?;
         self.long.reserve(additional)
@@ -51,10 +51,10 @@ impl NameMap {
 
     /// Binds a name. It needs reserved room.
     pub(crate) fn insert(&mut self, name: &Name, binding: Binding)
-        requires { 0 < spare_in self.old }
-        ensures updates { (other : List ℕ) → bound_in self.new other
-            ≡ cond (are_same name.now other) (Some binding) (bound_in self.old other) }
-        ensures spare { spare_in self.old ≤ spare_in self.new + 1 }
+        requires { 0 < spare_of self.old }
+        ensures updates { (other : List ℕ) → bound_at self.new other
+            ≡ cond (are_same name.now other) (Some binding) (bound_at self.old other) }
+        ensures spare { spare_of self.old ≤ spare_of self.new + 1 }
     {
         let bytes = name.as_bytes();
         if bytes.len() <= 22 {

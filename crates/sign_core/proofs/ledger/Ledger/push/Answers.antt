@@ -5,7 +5,7 @@ use Rattle.state_file.specs.declared.record.Record.TheVariants.{Extend as Extend
 use Rattle.state_file.specs.Laws.{bottom_of}
 use Rattle.sign_core.specs.declared.ledger.Binding.{Binding}
 use Rattle.sign_core.specs.Records.{are_same, can_follow}
-use Rattle.sign_core.specs.Ledger.{Table, TakesMemory, bound_in, spare_in}
+use Rattle.sign_core.specs.Ledger.{Table, TakesMemory, bound_at, spare_of}
 use Rattle.sign_core.specs.Textbook.{HasSizes}
 use Rattle.sign_core.proofs.Kept.{follows_bound, follows_moved, follows_retire}
 use Rattle.sign_core.proofs.LedgerReading.{key_levels}
@@ -94,7 +94,7 @@ overflow_add-bound c =
 pub invariant_of-self-in-Bound : goal.invariant_of-self-in-Bound
 invariant_of-self-in-Bound c =
     let takes : TakesMemory c.args.entry = subst TakesMemory (sym c.in-Bound.is) tt in
-    let room : 0 < spare_in c.self.inside.bindings = omega (arith, c.requires.room.room takes, ap (λ (t : Table). t.spare) c.self.view_is) in
+    let room : 0 < spare_of c.self.inside.bindings = omega (arith, c.requires.room.room takes, ap (λ (t : Table). t.spare) c.self.view_is) in
     grown_bound c.self.inside.records c.self.inside.key c.self.inside.made c.self.inside.bindings c.self.inside.identifiers c.self.inside.trees.levels
     c.self.inside.count c.self.inside.moved c.self.invariant c.in-Bound.bound c.from-bottom.result c.place.result
     (bound_follows (goal.at.invariant_of-self-in-Bound c).In-Bound) (subst HasSizes c.in-Bound.is c.requires.sizes)
@@ -102,7 +102,7 @@ invariant_of-self-in-Bound c =
     c.raise.new.self.levels
     (follows_bound c.self.inside.trees.levels c.raise.new.self.levels c.from-bottom.result c.in-Bound.bound.leaf c.raise.ensures) c.in-Bound.bound.name refl c.insert-in-Bound.new.self
     (λ name. c.insert-in-Bound.ensures.updates name
-    ∙ ap (λ (b : Binding). cond (are_same c.in-Bound.bound.name name) (Some b) (bound_in c.self.inside.bindings name)) c.of-binding.ensures)
+    ∙ ap (λ (b : Binding). cond (are_same c.in-Bound.bound.name name) (Some b) (bound_at c.self.inside.bindings name)) c.of-binding.ensures)
     c.push.new.self (c.push.ensures ∙ ap (λ (x : Record). c.self.inside.records ++ x ∷ []) c.in-Bound.is)
 
 -- ---- a Retire
