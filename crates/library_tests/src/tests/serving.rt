@@ -1,6 +1,6 @@
 //! Exchanges of frames over inputs and outputs that fail, or give and take few bytes at a time. Each is compared with
 //! the same exchange over a whole input and an output that takes all. The replies to whole inputs are tested by
-//! `tests/conformance` and `tests/serving`.
+//! `tests/conformance` and `tests/suites/serving`.
 
 use crate::tests::expecting::{expect, sign, top_left};
 use crate::tests::signer::{LMS, created_by, seen_from};

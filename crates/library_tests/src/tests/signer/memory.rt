@@ -1,5 +1,5 @@
 //! Keys in memory whose calls are answered at the second try where memory is refused at the first. `tests/run` runs
-//! these with each allocation refused in turn. `tests/refused_memory` tests keys in files, by the built program.
+//! these with each allocation refused in turn. `tests/suites/refused_memory` tests keys in files, by the built program.
 
 use super::records::records_of;
 use super::*;

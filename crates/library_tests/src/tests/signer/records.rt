@@ -1,5 +1,5 @@
 //! Legal and illegal lists of records, in memory. Files of such lists are tested by `tests/conformance` and
-//! `tests/machine_edge`.
+//! `tests/suites/system_errors`.
 
 ghost use Rattle.std.specs.Prelude.{◌≡◌, ◌≤◌, true};
 ghost use Rattle.state_file.specs.Slot.{FitsVersion, version_begun};
