@@ -243,7 +243,11 @@ module _ {D : Type 0} (d : disk.Ghosts D) where
   -- ---- records that a replay took
 
   keeps_on : (old mid new : FileStore D d) → KeepsLoads old mid → KeepsLoads mid new → KeepsLoads old new
-  keeps_on old mid new first later = record { loads = later.loads ∙ first.loads; given = later.given ∙ first.given }
+  keeps_on old mid new first later = record {
+    loads = later.loads ∙ first.loads;
+    given = later.given ∙ first.given;
+    unreadable = later.unreadable ∙ first.unreadable;
+  }
 
   judged_replay : GivesBytes → (old new : FileStore D d) (anchor : Option Anchor) (answer : Result Report AuditFault) (taken : List Record)
       → ReadsStore d old new answer → AreLoaded (d.honest (disk_of old)) (records_of old) taken → Judges (d.honest (disk_of old)) taken anchor answer
@@ -263,7 +267,7 @@ module _ {D : Type 0} (d : disk.Ghosts D) where
       let fine = no_ledger_judged (d.honest (disk_of store)) records anchor fault is in
       judged_replay gives_bytes store store anchor (Err fault) records
       (answered d store store (Err fault) (kept_first d store only) running fine.not_stopped fine.not_failed fine.none fine.no_slot) are fine.judges
-      (λ honest. no_ledger_tags records anchor fault is (IsSlotTag d (disk_of store))) (record { loads = refl; given = refl })
+      (λ honest. no_ledger_tags records anchor fault is (IsSlotTag d (disk_of store))) (record { loads = refl; given = refl; unreadable = refl })
 
   -- they don't fit the anchor, or its tag couldn't be read
   pub no_anchor : GivesBytes → (old new : FileStore D d) (anchor : Option Anchor) (fault : AuditFault) (records : List Record)

@@ -144,6 +144,8 @@ pub record AuditsReplayed {D : Type 0} (d : disk.Ghosts D) (old new : FileStore 
   pub own : audits.loaded ≡ records_of old
   pub loads : loads_of new ≡ loads_of old
   pub given : given_of new ≡ given_of old
+  -- so 43 doesn't come
+  pub unreadable : unreadable_of new ≡ unreadable_of old
 
 -- ---- what holds of audits
 

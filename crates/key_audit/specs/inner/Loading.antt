@@ -4,7 +4,7 @@ use Rattle.std.specs.Prelude.{Option, Some, None, Result, Ok, Err}
 use Rattle.state_file.specs.declared.disk.Disk as disk
 use Rattle.state_file.specs.declared.record.Record.{Record}
 use Rattle.state_file.specs.declared.store.file_store.FileStore.{FileStore}
-use Rattle.state_file.specs.FileStore.{disk_of, given_of, loads_of, records_of}
+use Rattle.state_file.specs.FileStore.{disk_of, given_of, loads_of, records_of, unreadable_of}
 use Rattle.state_file.specs.Store.{IsRecordAt}
 use Rattle.sign_core.specs.Records.{first_illegal}
 use Rattle.key_audit.specs.declared.report.AuditFault.{AuditFault}
@@ -48,6 +48,7 @@ IsRefusedLedger records _ = ⊥
 pub record KeepsLoads {D : Type 0} {bound : _} (old new : FileStore D bound) : Type 0 where
   pub loads : loads_of new ≡ loads_of old
   pub given : given_of new ≡ given_of old
+  pub unreadable : unreadable_of new ≡ unreadable_of old
 
 -- ---- tags
 

@@ -10,4 +10,5 @@ returns g c = record {
   own = c.judge.ensures.own ∙ c.requires.taken;
   loads = c.judge.ensures.loads.loads;
   given = c.judge.ensures.loads.given;
+  unreadable = c.judge.ensures.loads.unreadable;
 }
