@@ -184,10 +184,16 @@ fn take_up(ledger: &mut Ledger, entry: &Record) -> Result<(), SignFault>
 fn take_over(replay: Replay) -> Result<Ledger, SignFault>
     ensures { TakesOver replay result }
 {
-    let ledger = replay.finish().map_err(loading_fault)?;
-    // For the prover: its records have their sizes.
-    let _key = ledger.key();
-    Ok(ledger)
+    match replay.finish() {
+        Ok(ledger) => {
+            // For the prover: its records have their sizes.
+            let _key = ledger.key();
+            Ok(ledger)
+        }
+        Err(LedgerFault::Empty) => Err(SignFault::NoKey),
+        Err(LedgerFault::Illegal(place)) => Err(SignFault::Illegal(place)),
+        Err(LedgerFault::OutOfMemory) => Err(SignFault::NoMemoryToOpen),
+    }
 }
 
 // Loads the records of a store in their order, and takes them up.
