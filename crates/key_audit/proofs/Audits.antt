@@ -1,6 +1,6 @@
 -- What an audit answers at each of its ends.
 use Rattle.std.proofs.Common.{◌≡◌, ℕ, ◌-◌, ◌<◌, ◌⊎◌, inl, inr, Bool, false, List, [], ◌∷◌, length, Some, None, Ok, Err, Option, Result}
-use Rattle.std.proofs.Common.{refl, sym, ap, ◌∙◌, subst, arith, IsTrue}
+use Rattle.std.proofs.Common.{refl, sym, ap, ◌∙◌, subst, arith, IsErrAnd, IsTrue}
 use Rattle.std.proofs.lemmas.Option.{slice_get_within}
 use Rattle.typecodes.specs.Layout.{AreBytes}
 use Rattle.state_file.specs.declared.disk.Disk as disk
@@ -23,6 +23,12 @@ use Rattle.key_audit.specs.inner.Loading.{AreLoaded, GivesTag, IsRefusedLedger, 
 use Rattle.key_audit.specs.Tags.{IsTag}
 use Rattle.key_audit.proofs.Loads.{IsUnchanged, OnlyNow, answered, kept_by, kept_first, reads_after}
 use Rattle.key_audit.proofs.Tags.{tag_law}
+
+-- an answer that is this fault
+pub is_fault_of : {A : Type 0} (answer : Result A AuditFault) (fault : AuditFault) → IsErrAnd answer (λ f. f ≡ fault)
+    → answer ≡ Err fault
+is_fault_of (Ok x) fault is = absurd is
+is_fault_of (Err f) fault is = ap Err is
 
 pub some_legal : (records : List Record) → IsLegal records → 0 < length records
 some_legal records legal = slice_get_within records 0 (KeyRecord legal.key) legal.first
