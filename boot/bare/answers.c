@@ -184,7 +184,7 @@ APART static uint64_t from_address_0(const uint32_t *numbers, const uint8_t *sig
 
 /*
  * A number from an odd address, loaded as the compiler wouldn't where the processor mayn't. On RISC-V, whose accesses
- * tests/boot_aligned.c looks at, also one from below the stack pointer.
+ * tests/support/boot_aligned.c looks at, also one from below the stack pointer.
  */
 APART static uint64_t unaligned(void) {
     const uintptr_t at = (uintptr_t)bytes;
