@@ -7,9 +7,9 @@ ghost use Rattle.key_audit.specs.Signatures.{below_2_64, ends_moved, names_left,
 use crate::listing::{Entry, Listing};
 use typecodes::Spec;
 
-/// For how many new names the listed key's free leaves are enough; None for 2^64 or more. A file also takes 2^31 records
-/// at most. Each free leaf above the bottom signs a new tree below it. A file whose records go on in another one signs
-/// none.
+/// For how many new names the listed key's free leaves are enough; None for 2^64 or more. A file also takes 2^31
+/// records at most. Each free leaf above the bottom signs a new tree below it. A file whose records go on in another
+/// one signs none.
 pub fn count_signatures(listing: &Listing) -> Option<u64>
     ensures { result ≡ below_2_64 (signatures_of (shown_of_listing listing.now)) }
 {

@@ -1,4 +1,4 @@
-//! Bindings by name, in little memory: a short name takes the 23 bytes of a key of its own, and not the 129 of a `Name`.
+//! Bindings by name, in little memory: a short name takes a key of 23 bytes, and not the 129 of a `Name`.
 
 ghost use Rattle.std.specs.Prelude.{◌≡◌, ◌<◌, ◌≤◌, ◌+◌, cond, length, List, None, OnErr, OnOk, Some, ℕ};
 ghost use Rattle.sign_core.specs.Records.{are_same};
