@@ -102,6 +102,13 @@ fn sentence(number: u8) -> &'static str {
             "a call failed before in this process: mount its file system anew before anything opens the \
              file; then make room, or look at the device"
         }
+        _ => sentence_of_records(number),
+    }
+}
+
+// The rows on damaged records, memory, and from 30 on on room, leaves, names and frames.
+fn sentence_of_records(number: u8) -> &'static str {
+    match number {
         28 | 43 | 44 => "don't sign; withdraw the public key: nobody knows which leaves were used",
         29 | 46 => "memory was refused: more memory",
         30 => "no room for the records that are needed: take a new key",
@@ -120,6 +127,13 @@ fn sentence(number: u8) -> &'static str {
             "the input ends inside a frame, before its message: the client sends its request again"
         }
         36 => "a reply can't be written: the client sends its request again",
+        _ => sentence_of_files(number),
+    }
+}
+
+// The rows from 40 on: on opening state files, anchors, other files and given signatures.
+fn sentence_of_files(number: u8) -> &'static str {
+    match number {
         40 => {
             "is it PUBLIC, or damaged? Run a stopped make or migrate again, but no make where PUBLIC is \
              in use"
