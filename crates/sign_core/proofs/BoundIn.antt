@@ -1,5 +1,5 @@
 -- A name is bound in one of two maps, by its length.
-use Rattle.std.proofs.Common.{◌≡◌, ℕ, ◌+◌, ◌-◌, ◌≤◌, Bool, true, false, cond, List, [], ◌∷◌, ◌++◌, Option, Some, length, take, drop, get_or, replicate, refl, sym, ap, ◌∙◌, true≢false, le-leb, leb-true, arith}
+use Rattle.std.proofs.Common.{◌≡◌, ℕ, ◌-◌, ◌≤◌, Bool, true, false, cond, List, Option, Some, length, take, drop, get_or, replicate, refl, sym, ap, ◌∙◌, true≢false, le-leb}
 use Rattle.std.specs.Prelude.{Result, Ok, Err, IsOk, OnOk, if◌then◌else◌, nat_eq, nat_le}
 use Rattle.std.specs.Bool.{one_answer}
 use Rattle.std.specs.Cmp.Lexicographic.{bytes_decides, unequal}

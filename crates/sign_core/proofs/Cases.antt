@@ -16,11 +16,11 @@ use Rattle.sign_core.specs.Records.{are_same, binding_at, has_identifier, has_mo
 use Rattle.sign_core.specs.Records.{next_at, wanted_count}
 use Rattle.sign_core.specs.Textbook.{Trees, damaged_at, digest_at, lms_secret, any_public_of, public_of_key, current_at}
 use Rattle.sign_core.specs.Textbook.{textbook_signature}
-use Rattle.sign_core.specs.World.{◌>>=◌, ◌>>◌}
-use Rattle.sign_core.specs.World.{Chance, Creation, Fate, Opening, Outcome, State, answer_if, append, begin_trees, bind}
-use Rattle.sign_core.specs.World.{draw, draw_identifier, draw_seed, event, extend_record, first_refusal, give, new_key}
+use Rattle.sign_core.specs.Steps.{◌>>=◌, ◌>>◌, Steps, give, run_then}
+use Rattle.sign_core.specs.World.{Chance, Creation, Fate, Opening, Outcome, State, append, begin_trees, bind}
+use Rattle.sign_core.specs.World.{draw, draw_identifier, draw_seed, event, extend_record, first_refusal, new_bound, new_key}
 use Rattle.sign_core.specs.World.{open_state, open_signer, publish, read, refuse_if, refuse_some, secret_of_fields}
-use Rattle.sign_core.specs.World.{repeat_or_bind, some_or, the_records}
+use Rattle.sign_core.specs.World.{repeat_or_bind, some_or, the_records, unless}
 
 -- ---- create and open
 
@@ -83,7 +83,7 @@ repeated state key k bound chance given = event (do
 -- SEED and C are among these fields
 abbrev pub extended_seed : State → Trees → (level leaf : ℕ) → (identifier : List ℕ) → (fields : List (List ℕ)) → Fate
     → (List Record → Outcome (List ℕ)) → Outcome (List ℕ)
-extended_seed state trees level leaf identifier fields fate next = (do
+extended_seed state trees level leaf identifier fields fate next = run_then (do
   drawn ← draw_seed fields
   secret ← give (lms_secret (slice_index_or trees.pairs level trees.top.pair) identifier drawn.0)
   append (extend_record trees state.records level secret drawn.1 leaf) fate) state (λ a later. next later.records)
@@ -91,7 +91,7 @@ extended_seed state trees level leaf identifier fields fate next = (do
 -- I, too
 abbrev pub extended_identifier : State → Trees → (level leaf : ℕ) → (fields : List (List ℕ)) → Fate
     → (List Record → Outcome (List ℕ)) → Outcome (List ℕ)
-extended_identifier state trees level leaf fields fate next = (do
+extended_identifier state trees level leaf fields fate next = run_then (do
   identifier ← draw_identifier fields
   refuse_if RandomRepeated (has_identifier state.records identifier)
   drawn ← draw_seed (drop 1 fields)
@@ -108,7 +108,7 @@ bound_message state key name made given fate = event (do
   message ← read given
   leaf ← give (next_at key.secret state.records (bottom_of key.secret))
   digest ← give (digest_at key state.records (length state.records) leaf randomizer message)
-  bound ← give {A = Bound} (record { name = name; leaf = leaf; randomizer = randomizer; digest = digest })
+  bound ← give (new_bound name leaf randomizer digest)
   append (BoundRecord bound) fate
   records ← the_records
   give (textbook_signature key records (length state.records) bound)) state
@@ -122,16 +122,19 @@ bound_sound state key name chance level damaged = event (do
   bind key name chance) state
 
 -- this level is the deepest with a free leaf
-abbrev pub bound_level : (limit : ℕ) → State → Key → (name : List ℕ) → Chance → (level : Option ℕ) → Outcome (List ℕ)
-bound_level limit state key name chance deepest = event (do
+abbrev pub level_steps : (limit : ℕ) → Key → (name : List ℕ) → Chance → (found : Option ℕ) → Steps (List ℕ)
+level_steps limit key name chance found = do
   records ← the_records
-  level ← some_or Exhausted deepest
+  level ← some_or Exhausted found
   refuse_if LedgerFull (nat_lt limit (length records + wanted_count key.secret level))
   refuse_if OutOfMemory (not chance.has_room)
   refuse_some (option_map Damaged (damaged_at key level records (current_at level records (length records))))
   open_signer
   begin_trees key (bottom_of key.secret - level) chance.trees
-  bind key name chance) state
+  bind key name chance
+
+abbrev pub bound_level : (limit : ℕ) → State → Key → (name : List ℕ) → Chance → (found : Option ℕ) → Outcome (List ℕ)
+bound_level limit state key name chance found = event (level_steps limit key name chance found) state
 
 -- ---- a request
 
@@ -155,6 +158,6 @@ retired_key limit state upto fate found = event (do
   records ← the_records
   bottom ← give (bottom_of key.secret)
   refuse_if RetireRange (nat_lt (leaves_of_current key.secret records bottom) upto)
-  answer_if tt (nat_le upto (next_at key.secret records bottom))
-  refuse_if LedgerFull (nat_lt limit (length records + 1))
-  append (Retire upto) fate) state
+  unless (nat_le upto (next_at key.secret records bottom)) (do
+    refuse_if LedgerFull (nat_lt limit (length records + 1))
+    append (Retire upto) fate)) state

@@ -11,10 +11,12 @@ use Rattle.sign_core.specs.declared.fault.SignFault.TheVariants.{Damaged}
 use Rattle.sign_core.specs.Opened.{IsDamagedFor, IsFirstDamaged}
 use Rattle.sign_core.specs.Records.{are_same, binding_at, deepest, has_moved, the_key, wanted_count, is_long}
 use Rattle.sign_core.specs.Textbook.{tree_chain, damaged_at, digest_at, is_sound_at, current_at}
-use Rattle.sign_core.specs.World.{Chance, Outcome, State, requested}
+use Rattle.sign_core.specs.Steps.{◌>>◌}
+use Rattle.sign_core.specs.World.{Chance, Outcome, State, begin_trees, bind, open_state, requested}
+use Rattle.sign_core.proofs.steps.Settled.{settled}
 use Rattle.sign_core.specs.inner.Cases.{requested_binding}
 use Rattle.sign_core.proofs.Cases.{bound_level, bound_sound, repeated, repeated_sound, requested_key}
-use Rattle.sign_core.proofs.Ends.{ended_bound_below, not_damaged}
+use Rattle.sign_core.proofs.Ends.{never_settled, not_damaged, trees_refuse}
 use Rattle.sign_core.proofs.OnceKept.{kept_choice}
 
 -- ---- the first of a list that passes a test
@@ -105,8 +107,10 @@ module _ (limit : ℕ) (state : State) (key : Key) (name : List ℕ) (chance : C
       let same : slot ≡ other = cc (answer) in
       ((level, free, first_damaged key state.records level _ other (is ∙ ap Some same)), refl)
   names_sound level None free is other answer =
-      absurd (ended_bound_below (λ outcome. outcome.answer ≢ Err (Damaged other)) (not_damaged other) key name chance (bottom_of key.secret - level) chance.trees
-      state.records answer)
+      let below = bottom_of key.secret - level in
+      absurd (settled _ _ (never_settled (Damaged other) (λ failed. cc))
+      (begin_trees key below chance.trees >> bind key name chance) (open_state state.records)
+      (trees_refuse (λ fault. fault ≢ Damaged other) (not_damaged other) key name chance below chance.trees _) answer)
 
   names_anew : (level : Option ℕ) → deepest key.secret state.records ≡ level → Names None (bound_level limit state key name chance level)
   names_anew None free = λ slot answer. absurd (cc (answer))

@@ -1,7 +1,7 @@
 -- Every event keeps the records sound and what was handed out recorded, and so does every run.
-use Rattle.std.proofs.Common.{◌≡◌, refl, sym, subst, ℕ, zero, suc, ◌+◌, ◌<◌, ◌≤◌, inr, Bool, true, false, List, [], ◌∷◌, ◌++◌}
+use Rattle.std.proofs.Common.{◌≡◌, refl, sym, subst, ℕ, zero, suc, ◌<◌, ◌≤◌, inr, true, false, List, [], ◌∷◌, ◌++◌}
 use Rattle.std.proofs.Common.{length, Option, Some, None, arith}
-use Rattle.std.specs.Prelude.{if◌then◌else◌, is_some, nat_le, nat_lt, not, slice_get}
+use Rattle.std.specs.Prelude.{if◌then◌else◌, is_some, nat_le, nat_lt, slice_get}
 use Rattle.std.specs.Cmp.Lexicographic.{bytes_decides}
 use Rattle.std.proofs.lemmas.Bool.{and_from, le-leb, leb-false, ltb-false, not_from_false}
 use Rattle.typecodes.specs.declared.spec.Spec.{Spec}
@@ -11,19 +11,14 @@ use Rattle.state_file.specs.declared.record.Key.{Key}
 use Rattle.state_file.specs.declared.record.Record.{Record}
 use Rattle.state_file.specs.declared.record.Record.TheVariants.{Key as KeyRecord, Retire}
 use Rattle.state_file.specs.declared.record.Secret.{Secret}
-use Rattle.sign_core.specs.declared.key.AnyPublic.{AnyPublic}
-use Rattle.sign_core.specs.declared.fault.SignFault.{SignFault}
-use Rattle.sign_core.specs.Records.{can_follow, current, first_illegal, has_moved, the_key, leaves_of_current, next_at}
+use Rattle.sign_core.specs.Records.{can_follow, current, has_moved, leaves_of_current, next_at}
 use Rattle.sign_core.proofs.Found.{next_of}
 use Rattle.sign_core.specs.Events.{AllEvents, AreFields, IsEvent, key_sizes}
-use Rattle.sign_core.specs.World.{Creation, Event, Fate, Handed, Opening, Outcome, State, World, acked, after, appended, beginning}
-use Rattle.sign_core.proofs.Cases.{begun}
-use Rattle.sign_core.specs.World.{create}
-use Rattle.sign_core.proofs.Cases.{created_load}
-use Rattle.sign_core.specs.World.{cut_new, cut_old, new_key, no_memory, reopen, request, retire}
-use Rattle.sign_core.proofs.Cases.{opened_illegal, opened_key, published, retired_key}
-use Rattle.sign_core.specs.World.{run, secret_of_fields, stop, migrate}
-use Rattle.sign_core.specs.Textbook.{HasSizes, SecretHasSizes, is_sound_at, any_public_of, key_root}
+use Rattle.sign_core.specs.World.{Creation, Event, Fate, Handed, Opening, Outcome, State, World, after, beginning, create}
+use Rattle.sign_core.specs.World.{create_steps, created, migrate, new_key, open_steps, opened, reopen, request, retire}
+use Rattle.sign_core.specs.World.{retire_steps, retired, run, secret_of_fields, stop}
+use Rattle.sign_core.proofs.steps.Holds.{holds}
+use Rattle.sign_core.specs.Textbook.{HasSizes, SecretHasSizes, is_sound_at, key_root}
 use Rattle.sign_core.proofs.Illegal.{legal_alone}
 use Rattle.sign_core.proofs.OnceKept.{IsKept, kept_empty, kept_grown}
 use Rattle.sign_core.proofs.Migrating.{kept_migrated}
@@ -55,57 +50,47 @@ kept_key version secret handed sizes kept = record {
 abbrev After : {A : Type 0} → (handed : List Handed) → Outcome A → Type 0
 After handed outcome = IsKept outcome.state.records handed
 
-after_choice : {A : Type 0} (handed : List Handed) (test : Bool) (x y : Outcome A) → (test ≡ true → After handed x) → (test ≡ false → After handed y)
-    → After handed (if test then x else y)
-after_choice handed true x y first second = first refl
-after_choice handed false x y first second = second refl
-
-after_append : {A : Type 0} (state : State) (handed : List Handed) (entry : Record) (fate : Fate) (next : List Record → Outcome A) → IsKept state.records handed
-    → IsKept (state.records ++ entry ∷ []) handed → After handed (next (state.records ++ entry ∷ [])) → After handed (appended state entry fate next)
-after_append state handed entry acked next kept more later = later
-after_append state handed entry cut_old next kept more later = kept
-after_append state handed entry cut_new next kept more later = more
-after_append state handed entry no_memory next kept more later = kept
-
-after_published : (records : List Record) (handed : List Handed) (public : Option AnyPublic) → IsKept records handed → After handed (published records public)
-after_published records handed (Some public) kept = kept
-after_published records handed None kept = kept
-
 pub none_there : (records : List Record) → nat_le 1 (length records) ≡ false → records ≡ []
 none_there [] short = refl
 none_there (first ∷ rest) short = absurd (omega (arith, leb-false 1 (length (first ∷ rest)) short))
 
-after_begun : (state : State) (handed : List Handed) (chance : Creation) (secret : Option Secret) → IsKept state.records handed → state.records ≡ []
-    → ((made : Secret) → secret ≡ Some made → SecretHasSizes made) → After handed (begun state chance secret)
-after_begun state handed chance None kept empty sizes = kept
-after_begun state handed chance (Some secret) kept empty sizes =
-    let first = kept_key chance.version secret handed (sizes secret refl) (subst (λ records. IsKept records handed) empty kept) in
-    let more : IsKept (state.records ++ KeyRecord (new_key chance.version secret) ∷ []) handed =
-    subst (λ records. IsKept (records ++ KeyRecord (new_key chance.version secret) ∷ []) handed) (sym empty) first in
-    after_choice handed (not chance.has_room) _ _ (λ none. kept)
-    (λ room. after_append state handed (KeyRecord (new_key chance.version secret)) chance.fate _ kept more (after_published _ handed (any_public_of (new_key chance.version secret)) more))
-
-after_created : (failed : Option SignFault) (state : State) (handed : List Handed) (spec : Spec) (chance : Creation) → IsSpec spec
-    → AreFields (key_sizes spec) chance.fields
-    → IsKept state.records handed → After handed (created_load failed state spec chance)
-after_created (Some fault) state handed spec chance can fields kept = kept
-after_created None state handed spec chance can fields kept =
-    after_choice handed (nat_le 1 (length state.records)) _ _ (λ there. kept)
-    (λ short. after_begun state handed chance (secret_of_fields spec chance.fields) kept (none_there state.records short)
-    (λ made is. secret_sizes spec chance.fields made can fields is))
+after_created : (state : State) (handed : List Handed) (spec : Spec) (chance : Creation) → IsSpec spec
+    → AreFields (key_sizes spec) chance.fields → IsKept state.records handed → After handed (created state spec chance)
+after_created state handed spec chance can fields kept =
+    holds (After handed) (create_steps spec chance) state (
+      λ fault failed. kept,
+      λ loaded. (
+        λ there. kept,
+        λ short. (
+          λ none. kept,
+          λ made is. (
+            λ none. kept,
+            λ room. (
+              λ done. (λ none. more short made is, λ known some. more short made is),
+              λ old. kept,
+              λ new. more short made is,
+              λ none. kept,
+            ),
+          ),
+        ),
+      ),
+    )
+  where
+    more : nat_le 1 (length state.records) ≡ false → (made : Secret) → secret_of_fields spec chance.fields ≡ Some made
+        → IsKept (state.records ++ KeyRecord (new_key chance.version made) ∷ []) handed
+    more short made is =
+        let empty = none_there state.records short in
+        let entry = KeyRecord (new_key chance.version made) in
+        let sizes = secret_sizes spec chance.fields made can fields is in
+        subst (λ records. IsKept (records ++ entry ∷ []) handed) (sym empty)
+        (kept_key chance.version made handed sizes (subst (λ records. IsKept records handed) empty kept))
 
 -- ---- open
 
-after_opened_on : (records : List Record) (handed : List Handed) (found : Option Key) → IsKept records handed → After handed (opened_key records found)
-after_opened_on records handed None kept = kept
-after_opened_on records handed (Some key) kept = after_published records handed (any_public_of key) kept
-
-after_opened : (state : State) (handed : List Handed) (chance : Opening) (illegal : Option ℕ) → IsKept state.records handed
-    → After handed (opened_illegal state chance illegal)
-after_opened state handed None None kept = after_opened_on state.records handed (the_key state.records) kept
-after_opened state handed None (Some k) kept = kept
-after_opened state handed (Some (slot, fault)) None kept = kept
-after_opened state handed (Some (slot, fault)) (Some k) kept = kept
+after_opened : (state : State) (handed : List Handed) (chance : Opening) → IsKept state.records handed
+    → After handed (opened state chance)
+after_opened state handed chance kept =
+    holds (After handed) (open_steps chance) state (λ fault some. kept, λ none. (λ none. kept, λ known some. kept))
 
 -- ---- retire
 
@@ -124,28 +109,37 @@ retire_can key records upto stays inside beyond =
     (ltb-false (leaves_of_current key.secret records bottom) upto inside) (leb-false upto (next_at key.secret records bottom) beyond) in
     and_from _ _ (not_from_false _ stays) (and_from _ _ there (le-leb upto (leaves_at key.secret bottom) within))
 
-after_retired : (limit : ℕ) (state : State) (handed : List Handed) (upto : ℕ) (fate : Fate) (found : Option Key) → IsKept state.records handed
-    → the_key state.records ≡ found
-    → After handed (retired_key limit state upto fate found)
-after_retired limit state handed upto fate None kept keyed = kept
-after_retired limit state handed upto fate (Some key) kept keyed =
-    after_choice handed (not state.is_open) _ _ (λ closed. kept)
-    (λ open_now. after_choice handed (has_moved state.records) _ _ (λ moved. kept)
-    (λ stays. after_choice handed (nat_lt (leaves_of_current key.secret state.records (bottom_of key.secret)) upto) _ _ (λ outside. kept)
-    (λ inside. after_choice handed (nat_le upto (next_at key.secret state.records (bottom_of key.secret))) _ _ (λ done. kept)
-    (λ beyond. after_choice handed (nat_lt limit (length state.records + 1)) _ _ (λ full. kept)
-    (λ fits.
-    let more = kept_grown state.records handed key (Retire upto) kept keyed (retire_can key state.records upto stays inside beyond) refl tt in
-    after_append state handed (Retire upto) fate _ kept more more)))))
+after_retired : (limit : ℕ) (state : State) (handed : List Handed) (upto : ℕ) (fate : Fate)
+    → IsKept state.records handed → After handed (retired limit state upto fate)
+after_retired limit state handed upto fate kept =
+    holds (After handed) (retire_steps limit upto fate) state (
+      λ none. kept,
+      λ key keyed. (
+        λ closed. kept,
+        λ open_now. (
+          λ moved. kept,
+          λ stays. (
+            λ outside. kept,
+            λ inside. (
+              λ past. kept,
+              λ beyond.
+                  let more = kept_grown state.records handed key (Retire upto) kept keyed
+                  (retire_can key state.records upto stays inside beyond) refl tt in
+                  (λ full. kept, λ fits. (λ done. more, λ old. kept, λ new. more, λ none. kept)),
+            ),
+          ),
+        ),
+      ),
+    )
 
 -- ---- runs
 
 pub kept_after : (limit : ℕ) (world : World) (event : Event) → IsEvent event → IsKept world.state.records world.handed
     → IsKept (after limit world event).state.records (after limit world event).handed
-kept_after limit world (create spec chance) can kept = after_created chance.failed_load world.state world.handed spec chance can.0 can.1 kept
-kept_after limit world (reopen chance) can kept = after_opened world.state world.handed chance (first_illegal world.state.records) kept
+kept_after limit world (create spec chance) can kept = after_created world.state world.handed spec chance can.0 can.1 kept
+kept_after limit world (reopen chance) can kept = after_opened world.state world.handed chance kept
 kept_after limit world (request name chance) can kept = kept_request limit world.state world.handed name chance can.1 kept
-kept_after limit world (retire upto fate) can kept = after_retired limit world.state world.handed upto fate (the_key world.state.records) kept refl
+kept_after limit world (retire upto fate) can kept = after_retired limit world.state world.handed upto fate kept
 kept_after limit world (migrate fate) can kept = kept_migrated world.state world.handed fate kept
 kept_after limit world stop can kept = kept
 

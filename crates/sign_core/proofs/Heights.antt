@@ -4,7 +4,6 @@ use Rattle.std.specs.Prelude.{slice_get, slice_index_or}
 use Rattle.std.proofs.lemmas.Option.{none-some, same_Some}
 use Rattle.typecodes.specs.declared.spec.Spec.{Spec}
 use Rattle.typecodes.specs.declared.types.LmsPair.{LmsPair}
-use Rattle.typecodes.specs.declared.secret.LmsSecret.{LmsSecret}
 use Rattle.typecodes.specs.declared.secret.XmssSecret.{XmssSecret}
 use Rattle.typecodes.specs.Types.{height_of, xmss_height_of}
 use Rattle.state_file.specs.Laws.{IsLegal, levels_of}

@@ -1,32 +1,15 @@
 -- No event takes a record or a signature away.
-use Rattle.std.proofs.Common.{drop, ◌≡◌, ◌∙◌, refl, sym, ap, ℕ, zero, suc, ◌+◌, ◌-◌, Bool, true, false, List, [], ◌∷◌, ◌++◌, length, Option, Some, None}
+use Rattle.std.proofs.Common.{◌≡◌, ◌∙◌, refl, sym, ap, ℕ, ◌-◌, Bool, true, false, List, [], ◌∷◌, ◌++◌, length, Some, None}
 use Rattle.std.proofs.Common.{append-nil, append_assoc, inl, inr, map, take}
-use Rattle.std.specs.Prelude.{if◌then◌else◌, nat_le, nat_lt, not}
-use Rattle.typecodes.specs.declared.spec.Spec.{Spec}
-use Rattle.state_file.specs.Laws.{bottom_of}
-use Rattle.state_file.specs.declared.record.Bound.{Bound}
-use Rattle.state_file.specs.declared.record.Key.{Key}
+use Rattle.std.specs.Prelude.{if◌then◌else◌}
 use Rattle.state_file.specs.declared.record.Record.{Record}
 use Rattle.state_file.specs.declared.record.Record.TheVariants.{Key as KeyRecord, Extend as ExtendRecord, Bound as BoundRecord, Retire, Moved as MovedRecord}
-use Rattle.state_file.specs.declared.record.Secret.{Secret}
-use Rattle.sign_core.specs.declared.key.AnyPublic.{AnyPublic}
-use Rattle.sign_core.specs.declared.fault.SignFault.{SignFault}
-use Rattle.sign_core.specs.Records.{are_same, binding_at, deepest, first_illegal, has_identifier, has_moved, the_key, leaves_of_current, next_at, is_long}
-use Rattle.sign_core.specs.Records.{wanted_count}
-use Rattle.sign_core.specs.Textbook.{Trees, damaged_at, digest_at, any_public_of, current_at, trees_of}
-use Rattle.sign_core.specs.World.{Chance, Creation, Draw, Event, Fate, Opening, Outcome, State, World, acked, after, appended}
-use Rattle.sign_core.proofs.Cases.{begun, bound_level}
-use Rattle.sign_core.proofs.Cases.{bound_sound, bound_message}
-use Rattle.sign_core.specs.World.{create, created, cut_new, cut_old, first_draw}
-use Rattle.sign_core.specs.inner.Cases.{extended, bound_trees}
-use Rattle.sign_core.proofs.Cases.{created_load, extended_identifier, extended_seed}
-use Rattle.sign_core.specs.World.{new_key, no_memory, open_state, opened, randomizer_of_fields, reopen}
-use Rattle.sign_core.proofs.Cases.{opened_illegal, opened_key, published, repeated}
-use Rattle.sign_core.specs.World.{request, requested}
-use Rattle.sign_core.proofs.Cases.{repeated_sound}
-use Rattle.sign_core.specs.World.{retire, retired, run, secret_of_fields, stop, migrate}
-use Rattle.sign_core.specs.inner.Cases.{requested_binding}
-use Rattle.sign_core.proofs.Cases.{requested_key, retired_key}
+use Rattle.sign_core.specs.Records.{has_moved}
+use Rattle.sign_core.specs.Steps.{Fate, Outcome, State, Steps, acked, append_record, appended, choose, cut_new, cut_old}
+use Rattle.sign_core.specs.Steps.{draw_bytes, event as event_of, give, hold, look, no_memory, open_state, pass, read_message, refuse}
+use Rattle.sign_core.specs.Steps.{run_then, take_some}
+use Rattle.sign_core.specs.World.{Chance, Event, World, after, create, create_steps, created, migrate, open_steps, opened}
+use Rattle.sign_core.specs.World.{reopen, request, request_steps, requested, retire, retire_steps, retired, run, stop}
 use Rattle.sign_core.specs.Lasting.{IsCarriedInto, IsNoMigration, LastingLaw, LastsInto, lasting}
 use Rattle.sign_core.specs.World.{Migration, carried_over, left_alone, migrated_list, sealed}
 use Rattle.sign_core.proofs.Migrating.{front_of, migrated_has}
@@ -57,124 +40,33 @@ grown_append state entry cut_old next later = unchanged state.records
 grown_append state entry cut_new next later = ((entry ∷ [], refl), ([], sym (append-nil state.records)))
 grown_append state entry no_memory next later = unchanged state.records
 
-grown_choice : {A : Type 0} (records : List Record) (test : Bool) (x y : Outcome A) → Grown records x → Grown records y → Grown records (if test then x else y)
-grown_choice records true x y first second = first
-grown_choice records false x y first second = second
+grown_then : {A B : Type 0} (steps : Steps A) (state : State) (next : A → State → Outcome B)
+    → ((a : A) (later : State) → Grown later.records (next a later)) → Grown state.records (run_then steps state next)
+grown_then (give a) state next rest = rest a state
+grown_then (refuse fault) state next rest = unchanged state.records
+grown_then (look more) state next rest = grown_then (more state) state next rest
+grown_then (choose true one other) state next rest = grown_then one state next rest
+grown_then (choose false one other) state next rest = grown_then other state next rest
+grown_then (take_some fault None more) state next rest = unchanged state.records
+grown_then (take_some fault (Some x) more) state next rest = grown_then (more x) state next rest
+grown_then (pass (Some fault) more) state next rest = unchanged state.records
+grown_then (pass None more) state next rest = grown_then more state next rest
+grown_then (hold is_open more) state next rest =
+    grown_then more (record { records = state.records; is_open = is_open }) next rest
+grown_then (draw_bytes bytes more) state next rest = grown_then more state next rest
+grown_then (read_message None more) state next rest = unchanged state.records
+grown_then (read_message (Some message) more) state next rest = grown_then (more message) state next rest
+grown_then (append_record entry fate more) state next rest =
+    grown_append state entry fate _ (λ records. grown_then more (open_state records) next rest)
 
--- ---- create and open
-
-grown_published : (records : List Record) (public : Option AnyPublic) → Grown records (published records public)
-grown_published records (Some public) = unchanged records
-grown_published records None = unchanged records
-
-grown_begun : (state : State) (chance : Creation) (secret : Option Secret) → Grown state.records (begun state chance secret)
-grown_begun state chance None = unchanged state.records
-grown_begun state chance (Some secret) = grown_choice state.records (not chance.has_room) _ _ (unchanged state.records)
-    (grown_append state (KeyRecord (new_key chance.version secret)) chance.fate _ (λ records. grown_published records (any_public_of (new_key chance.version secret))))
-
-grown_created : (failed : Option SignFault) (state : State) (spec : Spec) (chance : Creation) → Grown state.records (created_load failed state spec chance)
-grown_created (Some fault) state spec chance = unchanged state.records
-grown_created None state spec chance = grown_choice state.records (nat_le 1 (length state.records)) _ _ (unchanged state.records)
-    (grown_begun state chance (secret_of_fields spec chance.fields))
-
-grown_opened_on : (records : List Record) (found : Option Key) → Grown records (opened_key records found)
-grown_opened_on records None = unchanged records
-grown_opened_on records (Some key) = grown_published records (any_public_of key)
-
-grown_opened : (state : State) (chance : Opening) (illegal : Option ℕ) → Grown state.records (opened_illegal state chance illegal)
-grown_opened state None None = grown_opened_on state.records (the_key state.records)
-grown_opened state None (Some k) = unchanged state.records
-grown_opened state (Some (slot, fault)) None = unchanged state.records
-grown_opened state (Some (slot, fault)) (Some k) = unchanged state.records
-
--- ---- requests
-
-grown_bound : (state : State) (key : Key) (name : List ℕ) (randomizer given : Option (List ℕ)) (fate : Fate)
-    → Grown state.records (bound_message state key name randomizer given fate)
-grown_bound state key name None given fate = unchanged state.records
-grown_bound state key name (Some randomizer) None fate = unchanged state.records
-grown_bound state key name (Some randomizer) (Some message) fate = grown_append state _ fate _ (λ records. unchanged records)
-
-grown_seed : (state : State) (trees : Trees) (level leaf : ℕ) (identifier : List ℕ) (fields : List (List ℕ)) (fate : Fate)
-    (next : List Record → Outcome (List ℕ))
-    → ((records : List Record) → Grown records (next records)) → Grown state.records (extended_seed state trees level leaf identifier fields fate next)
-grown_seed state trees level leaf identifier [] fate next later = unchanged state.records
-grown_seed state trees level leaf identifier (seed ∷ []) fate next later = unchanged state.records
-grown_seed state trees level leaf identifier (seed ∷ randomizer ∷ []) fate next later = grown_append state _ fate next later
-grown_seed state trees level leaf identifier (seed ∷ randomizer ∷ more ∷ rest) fate next later = unchanged state.records
-
-grown_identifier : (state : State) (trees : Trees) (level leaf : ℕ) (fields : List (List ℕ)) (fate : Fate) (next : List Record → Outcome (List ℕ))
-    → ((records : List Record) → Grown records (next records)) → Grown state.records (extended_identifier state trees level leaf fields fate next)
-grown_identifier state trees level leaf [] fate next later = unchanged state.records
-grown_identifier state trees level leaf (identifier ∷ fields) fate next later = grown_choice state.records (has_identifier state.records identifier) _ _
-    (unchanged state.records) (grown_seed state trees level leaf identifier fields fate next later)
-
-grown_extended : (state : State) (key : Key) (level : ℕ) (trees : Option Trees) (draw : Draw) (next : List Record → Outcome (List ℕ))
-    → ((records : List Record) → Grown records (next records)) → Grown state.records (extended state key level trees draw next)
-grown_extended state key level None draw next later = unchanged state.records
-grown_extended state key level (Some trees) draw next later =
-    grown_identifier state trees level (next_at key.secret state.records (level - 1)) draw.fields draw.fate next later
-
-grown_bound_below : (key : Key) (name : List ℕ) (chance : Chance) (below : ℕ) (draws : List Draw) (records : List Record)
-    → Grown records (bound_trees key name chance below draws records)
-grown_bound_below key name chance zero draws records =
-    grown_bound (open_state records) key name (randomizer_of_fields key.secret chance.bound.fields) chance.given chance.bound.fate
-grown_bound_below key name chance (suc below) draws records =
-    grown_extended (open_state records) key (bottom_of key.secret - below) (trees_of key.secret) (first_draw draws) _
-    (grown_bound_below key name chance below (drop 1 draws))
-
-grown_sound : (state : State) (key : Key) (name : List ℕ) (chance : Chance) (level : ℕ) (damaged : Option ℕ)
-    → Grown state.records (bound_sound state key name chance level damaged)
-grown_sound state key name chance level (Some slot) = unchanged state.records
-grown_sound state key name chance level None = grown_bound_below key name chance (bottom_of key.secret - level) chance.trees state.records
-
-grown_level : (limit : ℕ) (state : State) (key : Key) (name : List ℕ) (chance : Chance) (level : Option ℕ)
-    → Grown state.records (bound_level limit state key name chance level)
-grown_level limit state key name chance None = unchanged state.records
-grown_level limit state key name chance (Some level) =
-    grown_choice state.records (nat_lt limit (length state.records + wanted_count key.secret level)) _ _ (unchanged state.records)
-    (grown_choice state.records (not chance.has_room) _ _ (unchanged state.records)
-    (grown_sound state key name chance level (damaged_at key level state.records (current_at level state.records (length state.records)))))
-
-grown_repeated_sound : (state : State) (key : Key) (k : ℕ) (bound : Bound) (damaged : Option ℕ) → Grown state.records (repeated_sound state key k bound damaged)
-grown_repeated_sound state key k bound (Some slot) = unchanged state.records
-grown_repeated_sound state key k bound None = unchanged state.records
-
-grown_repeated : (state : State) (key : Key) (k : ℕ) (bound : Bound) (chance : Chance) (given : Option (List ℕ))
-    → Grown state.records (repeated state key k bound chance given)
-grown_repeated state key k bound chance None = unchanged state.records
-grown_repeated state key k bound chance (Some message) =
-    grown_choice state.records (not (are_same (digest_at key state.records k bound.leaf bound.randomizer message) bound.digest)) _ _ (unchanged state.records)
-    (grown_choice state.records (not chance.has_room) _ _ (unchanged state.records) (grown_repeated_sound state key k bound _))
-
-grown_of : (limit : ℕ) (state : State) (key : Key) (name : List ℕ) (chance : Chance) (found : Option (ℕ × Bound))
-    → Grown state.records (requested_binding limit state key name chance found)
-grown_of limit state key name chance (Some (k, bound)) = grown_repeated state key k bound chance chance.given
-grown_of limit state key name chance None = grown_choice state.records (is_long key name) _ _ (unchanged state.records)
-    (grown_level limit state key name chance (deepest key.secret state.records))
-
-grown_key : (limit : ℕ) (state : State) (name : List ℕ) (chance : Chance) (found : Option Key)
-    → Grown state.records (requested_key limit state name chance found)
-grown_key limit state name chance None = unchanged state.records
-grown_key limit state name chance (Some key) = grown_choice state.records (not state.is_open) _ _ (unchanged state.records)
-    (grown_choice state.records (has_moved state.records) _ _ (unchanged state.records)
-    (grown_of limit state key name chance (binding_at state.records name)))
+-- an event keeps the records, and may add some
+grown : {A : Type 0} (steps : Steps A) (state : State) → Grown state.records (event_of steps state)
+grown steps state = grown_then steps state _ (λ a later. unchanged later.records)
 
 -- what a request acknowledges begins with the records before it
 pub acknowledges_more : (limit : ℕ) (state : State) (name : List ℕ) (chance : Chance)
     → (more : List Record) × ((requested limit state name chance).acknowledged ≡ state.records ++ more)
-acknowledges_more limit state name chance = (grown_key limit state name chance (the_key state.records)).1
-
--- ---- retire
-
-grown_retired : (limit : ℕ) (state : State) (upto : ℕ) (fate : Fate) (found : Option Key) → Grown state.records (retired_key limit state upto fate found)
-grown_retired limit state upto fate None = unchanged state.records
-grown_retired limit state upto fate (Some key) = grown_choice state.records (not state.is_open) _ _ (unchanged state.records)
-    (grown_choice state.records (has_moved state.records) _ _ (unchanged state.records)
-    (grown_choice state.records (nat_lt (leaves_of_current key.secret state.records (bottom_of key.secret)) upto) _ _ (unchanged state.records)
-    (grown_choice state.records (nat_le upto (next_at key.secret state.records (bottom_of key.secret))) _ _ (unchanged state.records)
-    (grown_choice state.records (nat_lt limit (length state.records + 1)) _ _ (unchanged state.records)
-    (grown_append state (Retire upto) fate _ (λ records. unchanged records))))))
+acknowledges_more limit state name chance = (grown (request_steps limit name chance) state).1
 
 -- ---- runs
 
@@ -184,14 +76,14 @@ only_grown world outcome ((more, are), acknowledged) = record { records = more; 
 
 extends_after : (limit : ℕ) (world : World) (event : Event) → IsNoMigration event → LastsInto world (after limit world event)
 extends_after limit world (create spec chance) none =
-    only_grown world (created world.state spec chance) (grown_created chance.failed_load world.state spec chance)
+    only_grown world (created world.state spec chance) (grown (create_steps spec chance) world.state)
 extends_after limit world (reopen chance) none =
-    only_grown world (opened world.state chance) (grown_opened world.state chance (first_illegal world.state.records))
+    only_grown world (opened world.state chance) (grown (open_steps chance) world.state)
 extends_after limit world (request name chance) none =
-    let ((more, are), acknowledged) = grown_key limit world.state name chance (the_key world.state.records) in
+    let ((more, are), acknowledged) = grown (request_steps limit name chance) world.state in
     record { records = more; handed = _; records_are = are; handed_are = refl }
 extends_after limit world (retire upto fate) none =
-    only_grown world (retired limit world.state upto fate) (grown_retired limit world.state upto fate (the_key world.state.records))
+    only_grown world (retired limit world.state upto fate) (grown (retire_steps limit upto fate) world.state)
 extends_after limit world (migrate fate) none = absurd none
 extends_after limit world stop none =
     record { records = []; handed = []; records_are = sym (append-nil world.state.records); handed_are = sym (append-nil world.handed) }

@@ -1,6 +1,6 @@
 -- A ledger matches its records after an Extend or a Bound.
 use Rattle.std.proofs.Common.{◌≡◌, inl, inr, ℕ, zero, suc, ◌+◌, ◌-◌, ◌^◌, ◌<◌, ◌≤◌, Bool, true, false, cond, ◌||◌, ◌&&◌, List, [], ◌∷◌, ◌++◌}
-use Rattle.std.proofs.Common.{length, not, true≢false, Option, Some, None, refl, sym, ap, subst, ◌∙◌, arith, eq-eqb, ne_eqb, leb-true, ltb-true}
+use Rattle.std.proofs.Common.{length, not, Option, Some, None, refl, sym, ap, subst, ◌∙◌, arith, eq-eqb, ne_eqb, leb-true, ltb-true}
 use Rattle.std.specs.Prelude.{is_some, nat_eq, nat_le, nat_lt, unwrap_or}
 use Rattle.std.proofs.Math.Nat.{pow-le-pow_right}
 use Rattle.std.proofs.lemmas.Bool.{and_parts, cases_eq, cases_lt}
@@ -26,7 +26,6 @@ use Rattle.sign_core.specs.Trees.{HasTrees, with_next}
 use Rattle.sign_core.specs.Trees.{kept_at as tree_kept}
 use Rattle.sign_core.specs.Textbook.{HasSizes, current_at}
 use Rattle.sign_core.specs.declared.name_map.NameMap.{NameMap}
-use Rattle.sign_core.specs.declared.ledger.Binding.{Binding}
 use Rattle.sign_core.specs.declared.ledger.Made.{Made}
 use Rattle.sign_core.specs.declared.trees.Tree.{Tree}
 use Rattle.sign_core.proofs.Follow.{follower_name, free_means, key_stays}

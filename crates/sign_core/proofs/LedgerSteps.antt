@@ -18,7 +18,6 @@ use Rattle.sign_core.proofs.Kept.{FollowsRetire}
 use Rattle.sign_core.specs.Trees.{HasTrees}
 use Rattle.sign_core.specs.Textbook.{AllHaveSizes, HasSizes}
 use Rattle.sign_core.specs.declared.name_map.NameMap.{NameMap}
-use Rattle.sign_core.specs.declared.ledger.Binding.{Binding}
 use Rattle.sign_core.specs.declared.ledger.Made.{Made}
 use Rattle.sign_core.specs.declared.trees.Tree.{Tree}
 use Rattle.sign_core.proofs.Append.{take_of_longer}

@@ -1,3 +1,4 @@
+pub mod steps
 pub mod Cases
 pub mod Found
 pub mod TextbookSpelling

@@ -1,6 +1,6 @@
 -- What the law says of a world follows from what every event keeps.
 use Rattle.std.proofs.Common.{◌≡◌, ◌≢◌, ◌∙◌, ◌↔◌, refl, sym, ap, subst, ℕ, ◌+◌, ◌-◌, ◌≤◌, ◌⊎◌, inl, inr, Bool, true, false, List, [], ◌∷◌, ◌++◌}
-use Rattle.std.proofs.Common.{length, length-append, take, ◌<◌, Option, Some, None, Ok, Err, arith}
+use Rattle.std.proofs.Common.{length, length-append, take, ◌<◌, Option, Some, None, Ok, Err, arith, true≢false}
 use Rattle.std.specs.Prelude.{Contains, if◌then◌else◌, nat_le, nat_lt, not}
 use Rattle.std.specs.Cmp.Lexicographic.{bytes_decides}
 use Rattle.std.proofs.lemmas.Bool.{lt-ltb, le-ltb, lt-leb}
@@ -14,6 +14,7 @@ use Rattle.state_file.specs.declared.record.Record.{Record}
 use Rattle.state_file.specs.declared.record.Record.TheVariants.{Bound as BoundRecord, Retire}
 use Rattle.state_file.specs.declared.record.Secret.{Secret}
 use Rattle.sign_core.specs.declared.key.AnyPublic.{AnyPublic}
+use Rattle.sign_core.specs.declared.fault.SignFault.{SignFault}
 use Rattle.sign_core.specs.declared.fault.SignFault.TheVariants.{Changed, Damaged, Exhausted, Illegal, LedgerFull, OutOfMemory, Stopped, StoreFailed, LongName}
 use Rattle.sign_core.specs.declared.fault.SignFault.TheVariants.{RandomRepeated, RetireRange}
 use Rattle.sign_core.specs.declared.fault.SignFault.TheVariants.{Moved as MovedAway}
@@ -23,13 +24,13 @@ use Rattle.sign_core.specs.Openings.{BeginsKey, Reopens}
 use Rattle.sign_core.specs.Openings.{CanStopOpening}
 use Rattle.sign_core.specs.Headline.{IsBoundTo}
 use Rattle.sign_core.specs.Once.{IsOnce}
-use Rattle.sign_core.specs.World.{Chance, Creation, Handed, Opening, Fate, Outcome, State, World, acked, after, answered, appended, cut_new, cut_old, no_memory}
-use Rattle.sign_core.proofs.Cases.{bound_level, bound_sound}
+use Rattle.sign_core.specs.World.{Chance, Creation, Handed, Opening, Fate, Outcome, State, World, acked, after, answered}
+use Rattle.sign_core.proofs.Cases.{bound_level, bound_sound, level_steps}
 use Rattle.sign_core.specs.World.{retired}
 use Rattle.sign_core.proofs.Cases.{retired_key}
 use Rattle.sign_core.specs.World.{newly_handed, new_key, open_state, opened}
 use Rattle.sign_core.specs.inner.Cases.{bound_trees}
-use Rattle.sign_core.specs.World.{reading, refused, request, requested}
+use Rattle.sign_core.specs.World.{reading, refused, request, request_steps, requested, retire_steps}
 use Rattle.sign_core.specs.inner.Cases.{requested_binding}
 use Rattle.sign_core.proofs.Cases.{opened_illegal, opened_key, published, repeated, repeated_sound}
 use Rattle.sign_core.specs.World.{secret_of_fields}
@@ -38,7 +39,8 @@ use Rattle.sign_core.specs.Textbook.{AreSound, damaged_at, digest_at, any_public
 use Rattle.sign_core.proofs.Illegal.{none_from_legal}
 use Rattle.sign_core.proofs.Opened.{reopens}
 use Rattle.sign_core.proofs.Valid.{undamaged}
-use Rattle.sign_core.proofs.Ends.{Ends, IsDamaged, ended_level, ended_request, not_damaged}
+use Rattle.sign_core.proofs.Ends.{IsOfDamaged, is_plain, level_refuses, never_settled, not_damaged, request_refuses}
+use Rattle.sign_core.proofs.steps.Settled.{AllRefusals, Settles, settled}
 use Rattle.sign_core.proofs.Fresh.{IsDone, fine_bound_below, randomizer_drawn}
 use Rattle.sign_core.proofs.DrawnAgain.{drawn_again, drawn_most, signed_read}
 use Rattle.sign_core.proofs.Leaves.{deepest_is}
@@ -50,9 +52,9 @@ use Rattle.state_file.specs.Slot.{name_most}
 
 -- ---- sound records
 
-never_damaged : (Q : Outcome (List ℕ) → Type 0) (state : State) (handed : List Handed) (key : Key) → IsKept state.records handed
-    → the_key state.records ≡ Some key → IsDamaged Q state key
-never_damaged Q state handed key kept keyed level tree slot is =
+never_damaged : (P : SignFault → Type 0) (state : State) (handed : List Handed) (key : Key) → IsKept state.records handed
+    → the_key state.records ≡ Some key → IsOfDamaged P state key
+never_damaged P state handed key kept keyed level tree slot is =
     absurd (let none = undamaged state.records key level tree (sound_with state.records handed key kept keyed) keyed in cc (none, is))
 
 -- ---- an open signer
@@ -192,21 +194,18 @@ fresh_fine limit state handed key level name message chance kept open_now stays 
     ])
 
 -- 22 comes only where no leaf is free
-not_exhausted : Ends (λ outcome. outcome.answer ≢ Err Exhausted)
-not_exhausted = record {
-  drawn = λ bytes outcome never. never;
-  read = λ outcome never. never;
-  refused_for = λ state fault plain is. plain.0 (cc);
-  cut_off = λ acknowledged entry left is. cc;
-  gives = λ state signature is. cc;
-}
+not_exhausted : (fault : SignFault) → is_plain fault ≡ true → fault ≢ Exhausted
+not_exhausted fault plain is = absurd (true≢false (sym plain ∙ ap is_plain is))
 
 anew_exhausted : (limit : ℕ) (state : State) (key : Key) (name : List ℕ) (chance : Chance) (level : Option ℕ)
     → (bound_level limit state key name chance level).answer ≡ Err Exhausted
     → level ≡ None
 anew_exhausted limit state key name chance None is = refl
 anew_exhausted limit state key name chance (Some level) is =
-    absurd (ended_level (λ outcome. outcome.answer ≢ Err Exhausted) not_exhausted limit state key name chance level (λ level tree slot damaged other. cc) is)
+    let all : AllRefusals (λ fault. fault ≢ Exhausted) (level_steps limit key name chance (Some level)) state =
+    level_refuses (λ fault. fault ≢ Exhausted) not_exhausted limit key name chance (Some level) state
+    (λ level tree slot damaged other. cc) (λ none. cc) in
+    absurd (settled _ _ (never_settled Exhausted (λ other. cc)) (level_steps limit key name chance (Some level)) state all is)
 
 pub exhausted_exactly : (limit : ℕ) (state : State) (key : Key) (name : List ℕ) (chance : Chance) → state.is_open ≡ true → has_moved state.records ≡ false
     → the_key state.records ≡ Some key → binding_at state.records name ≡ None → length name ≤ name_most key.version
@@ -221,28 +220,35 @@ exhausted_exactly limit state key name chance open_now stays keyed unbound has_r
 
 -- ---- any request
 
+not_failed : (fault : SignFault) → is_plain fault ≡ true → fault ≢ StoreFailed
+not_failed fault plain is = absurd (true≢false (sym plain ∙ ap is_plain is))
+
 pub answers_whole : (limit : ℕ) (state : State) (handed : List Handed) (name : List ℕ) (chance : Chance) (slot : ℕ) → IsKept state.records handed
     → (requested limit state name chance).answer ≢ Err (Damaged slot)
 answers_whole limit state handed name chance slot kept =
-    ended_request (λ outcome. outcome.answer ≢ Err (Damaged slot)) (not_damaged slot) limit state name chance
-    (λ key keyed. never_damaged (λ outcome. outcome.answer ≢ Err (Damaged slot)) state handed key kept keyed) (λ is. cc)
+    settled _ _ (never_settled (Damaged slot) (λ other. cc)) (request_steps limit name chance) state
+    (request_refuses (λ fault. fault ≢ Damaged slot) (not_damaged slot) limit name chance state
+    (λ key keyed. never_damaged (λ fault. fault ≢ Damaged slot) state handed key kept keyed) (λ other. cc))
 
-abbrev Closes : Outcome (List ℕ) → Type 0
+-- where an append was cut, the signer is closed
+abbrev Closes : {A : Type 0} → Outcome A → Type 0
 Closes outcome = outcome.answer ≡ Err StoreFailed → outcome.state.is_open ≡ false
 
-ends_closed : Ends Closes
-ends_closed = record {
-  drawn = λ bytes outcome closes. closes;
-  read = λ outcome closes. closes;
-  refused_for = λ state fault plain is. absurd (plain.1 (cc));
-  cut_off = λ acknowledged entry left is. refl;
-  gives = λ state signature is. absurd (cc);
+closed_settled : {A : Type 0} → Settles {A = A} (λ fault. fault ≢ StoreFailed) Closes
+closed_settled = record {
+  answers = λ state a is. absurd (cc);
+  refuses = λ state fault other is. absurd (other (cc));
+  cuts = λ acknowledged entry left is. refl;
+  draws = λ bytes outcome closes. closes;
+  reads = λ outcome closes. closes;
 }
 
 pub failed_closes : (limit : ℕ) (state : State) (name : List ℕ) (chance : Chance) → (requested limit state name chance).answer ≡ Err StoreFailed
     → (requested limit state name chance).state.is_open ≡ false
 failed_closes limit state name chance =
-    ended_request Closes ends_closed limit state name chance (λ key keyed level tree slot damaged is. absurd (cc)) (λ is. absurd (cc))
+    settled _ _ closed_settled (request_steps limit name chance) state
+    (request_refuses (λ fault. fault ≢ StoreFailed) not_failed limit name chance state
+    (λ key keyed level tree slot damaged other. cc) (λ other. cc))
 
 pub closed_key : (limit : ℕ) (state : State) (name : List ℕ) (chance : Chance) (found : Option Key) → state.is_open ≡ false
     → requested_key limit state name chance found ≡ refused state Stopped
@@ -300,27 +306,21 @@ opens_again state handed key kept keyed =
 
 -- ---- retirings
 
-abbrev Shuts : Outcome (Unit {0}) → Type 0
-Shuts outcome = outcome.answer ≡ Err StoreFailed → outcome.state.is_open ≡ false
-
-shuts_choice : (test : Bool) (x y : Outcome (Unit {0})) → Shuts x → Shuts y → Shuts (if test then x else y)
-shuts_choice true x y first second = first
-shuts_choice false x y first second = second
-
-shuts_append : (state : State) (entry : Record) (fate : Fate) → Shuts (appended state entry fate (λ records. answered (open_state records) tt))
-shuts_append state entry acked is = absurd (cc)
-shuts_append state entry cut_old is = refl
-shuts_append state entry cut_new is = refl
-shuts_append state entry no_memory is = absurd (cc)
-
-pub retiring_shuts : (limit : ℕ) (state : State) (upto : ℕ) (fate : Fate) (found : Option Key) → Shuts (retired_key limit state upto fate found)
-retiring_shuts limit state upto fate None = λ is. absurd (cc)
-retiring_shuts limit state upto fate (Some key) =
-    shuts_choice (not state.is_open) _ _ (λ is. absurd (cc))
-    (shuts_choice (has_moved state.records) _ _ (λ is. absurd (cc))
-    (shuts_choice (nat_lt (leaves_of_current key.secret state.records (bottom_of key.secret)) upto) _ _ (λ is. absurd (cc))
-    (shuts_choice (nat_le upto (next_at key.secret state.records (bottom_of key.secret))) _ _ (λ is. absurd (cc))
-    (shuts_choice (nat_lt limit (length state.records + 1)) _ _ (λ is. absurd (cc)) (shuts_append state (Retire upto) fate)))))
+pub retiring_closes : (limit : ℕ) (state : State) (upto : ℕ) (fate : Fate) → Closes (retired limit state upto fate)
+retiring_closes limit state upto fate =
+    settled _ _ closed_settled (retire_steps limit upto fate) state (
+      λ none other. cc,
+      λ key keyed. (
+        λ closed other. cc,
+        λ open_now. (
+          λ moved other. cc,
+          λ stays. (
+            λ outside other. cc,
+            λ inside. (λ past. tt, λ beyond. (λ full other. cc, λ fits. (λ other. cc, tt))),
+          ),
+        ),
+      ),
+    )
 
 pub retires_beyond : (limit : ℕ) (state : State) (key : Key) (upto : ℕ) → state.is_open ≡ true → has_moved state.records ≡ false
     → the_key state.records ≡ Some key → upto ≤ leaves_of_current key.secret state.records (bottom_of key.secret)
@@ -382,7 +382,7 @@ once limit world kept = record {
     no_further = λ key upto fate. retires_before limit world.state key upto fate;
     full = λ key upto fate. retires_full limit world.state key upto fate;
     starved = λ key upto. retires_starved limit world.state key upto;
-    stops = λ upto fate. retiring_shuts limit world.state upto fate (the_key world.state.records);
+    stops = λ upto fate. retiring_closes limit world.state upto fate;
     closed = λ upto fate. closed_retires limit world.state upto fate (the_key world.state.records);
   };
   openings = record {

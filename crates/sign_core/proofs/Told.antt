@@ -1,5 +1,5 @@
 -- What an alarm was told as a disk was opened, whatever came after that.
-use Rattle.std.proofs.Common.{ℕ, List, Result, Ok, Err, inl, inr}
+use Rattle.std.proofs.Common.{ℕ, List, Result, Ok, inl, inr}
 use Rattle.state_file.specs.declared.disk.Disk as disk
 use Rattle.state_file.specs.declared.file.opening.OpenFault.{OpenFault}
 use Rattle.sign_core.specs.Alarm.{TellsBehind}

@@ -1,7 +1,7 @@
 -- No refusal of a request but 25 binds a name; and what a retiring answers where it records nothing.
-use Rattle.std.proofs.Common.{drop, ◌≡◌, ◌≢◌, ◌∙◌, refl, ap, ℕ, zero, suc, ◌+◌, ◌-◌, ◌<◌, ◌≤◌, Bool, true, false, List, [], ◌∷◌, ◌++◌}
-use Rattle.std.proofs.Common.{length, Option, Some, None, Err}
-use Rattle.std.specs.Prelude.{if◌then◌else◌, nat_le, nat_lt, not, slice_index_or}
+use Rattle.std.proofs.Common.{drop, ◌≡◌, ◌≢◌, ◌∙◌, refl, ap, ℕ, zero, suc, ◌+◌, ◌-◌, ◌<◌, ◌≤◌, Bool, true, false, List}
+use Rattle.std.proofs.Common.{length, Some, Err}
+use Rattle.std.specs.Prelude.{if◌then◌else◌, nat_le, nat_lt, not}
 use Rattle.std.proofs.lemmas.Bool.{le-leb, le-ltb, lt-leb, lt-ltb}
 use Rattle.state_file.specs.Laws.{bottom_of}
 use Rattle.state_file.specs.declared.record.Key.{Key}
@@ -11,18 +11,15 @@ use Rattle.sign_core.specs.declared.fault.SignFault.{SignFault}
 use Rattle.sign_core.specs.declared.fault.SignFault.TheVariants.{LedgerFull, OutOfMemory, RetireRange, Stopped, StoreFailed}
 use Rattle.sign_core.specs.declared.fault.SignFault.TheVariants.{Moved as MovedAway}
 use Rattle.sign_core.specs.Retirings.{IsActive, IsBeyondNext}
-use Rattle.sign_core.specs.Records.{binding_at, has_identifier, has_moved, the_key, leaves_of_current, next_at}
-use Rattle.sign_core.specs.Textbook.{Trees, lms_secret, trees_of}
-use Rattle.sign_core.specs.World.{Chance, Draw, Fate, Outcome, State, acked, answered, appended, cut_new, cut_old, extend_record}
-use Rattle.sign_core.proofs.Cases.{bound_message}
-use Rattle.sign_core.specs.World.{first_draw, no_memory, open_state, randomizer_of_fields, refused}
-use Rattle.sign_core.specs.inner.Cases.{extended, bound_trees}
-use Rattle.sign_core.proofs.Cases.{extended_identifier, extended_seed}
+use Rattle.sign_core.specs.Records.{binding_at, has_moved, the_key, leaves_of_current, next_at}
+use Rattle.sign_core.specs.World.{Chance, Draw, Fate, Outcome, State, answered, appended}
+use Rattle.sign_core.specs.Steps.{◌>>◌}
+use Rattle.sign_core.specs.World.{begin_trees, bind, no_memory, open_state, refused}
 use Rattle.sign_core.specs.World.{requested, retired}
 use Rattle.sign_core.proofs.Cases.{retired_key}
 use Rattle.sign_core.proofs.Bindings.{binding_other}
 use Rattle.sign_core.proofs.DrawnAgain.{IsSettled, settled_repeated, settled_key}
-use Rattle.sign_core.proofs.OnceKept.{kept_choice}
+use Rattle.sign_core.proofs.steps.Holds.{HoldsOf, holds}
 
 -- ---- what is bound
 
@@ -31,57 +28,41 @@ abbrev IsQuiet : (before : List Record) → Outcome (List ℕ) → Type 0
 IsQuiet before outcome = (fault : SignFault) (other : List ℕ) → outcome.answer ≡ Err fault → fault ≢ StoreFailed
     → binding_at outcome.state.records other ≡ binding_at before other
 
-quiet_bound : (records : List Record) (key : Key) (name : List ℕ) (randomizer given : Option (List ℕ)) (fate : Fate)
-    → IsQuiet records (bound_message (open_state records) key name randomizer given fate)
-quiet_bound records key name None given fate fault other is not = refl
-quiet_bound records key name (Some randomizer) None fate fault other is not = refl
-quiet_bound records key name (Some randomizer) (Some message) acked fault other is not = absurd (cc)
-quiet_bound records key name (Some randomizer) (Some message) cut_old fault other is not = absurd (not (cc))
-quiet_bound records key name (Some randomizer) (Some message) cut_new fault other is not = absurd (not (cc))
-quiet_bound records key name (Some randomizer) (Some message) no_memory fault other is not = refl
-
-quiet_append : (records : List Record) (trees : Trees) (level leaf : ℕ) (identifier seed randomizer : List ℕ) (fate : Fate)
-    (next : List Record → Outcome (List ℕ)) → ((all : List Record) → IsQuiet all (next all))
-    → (let secret = lms_secret (slice_index_or trees.pairs level trees.top.pair) identifier seed in
-    IsQuiet records (appended (open_state records) (extend_record trees records level secret randomizer leaf) fate next))
-quiet_append records trees level leaf identifier seed randomizer acked next later fault other is not =
-    let secret = lms_secret (slice_index_or trees.pairs level trees.top.pair) identifier seed in
-    let entry = extend_record trees records level secret randomizer leaf in
-    later (records ++ entry ∷ []) fault other is not ∙ binding_other records entry other refl
-quiet_append records trees level leaf identifier seed randomizer cut_old next later fault other is not = absurd (not (cc))
-quiet_append records trees level leaf identifier seed randomizer cut_new next later fault other is not = absurd (not (cc))
-quiet_append records trees level leaf identifier seed randomizer no_memory next later fault other is not = refl
-
-quiet_seed : (records : List Record) (trees : Trees) (level leaf : ℕ) (identifier : List ℕ) (fields : List (List ℕ)) (fate : Fate)
-    (next : List Record → Outcome (List ℕ)) → ((all : List Record) → IsQuiet all (next all))
-    → IsQuiet records (extended_seed (open_state records) trees level leaf identifier fields fate next)
-quiet_seed records trees level leaf identifier [] fate next later = λ fault other is not. refl
-quiet_seed records trees level leaf identifier (seed ∷ []) fate next later = λ fault other is not. refl
-quiet_seed records trees level leaf identifier (seed ∷ randomizer ∷ []) fate next later =
-    quiet_append records trees level leaf identifier seed randomizer fate next later
-quiet_seed records trees level leaf identifier (seed ∷ randomizer ∷ more ∷ rest) fate next later = λ fault other is not. refl
-
-quiet_identifier : (records : List Record) (trees : Trees) (level leaf : ℕ) (fields : List (List ℕ)) (fate : Fate)
-    (next : List Record → Outcome (List ℕ)) → ((all : List Record) → IsQuiet all (next all))
-    → IsQuiet records (extended_identifier (open_state records) trees level leaf fields fate next)
-quiet_identifier records trees level leaf [] fate next later = λ fault other is not. refl
-quiet_identifier records trees level leaf (identifier ∷ fields) fate next later =
-    kept_choice (IsQuiet records) (has_identifier records identifier) _ _ (λ there fault other is not. refl)
-    (λ new. quiet_seed records trees level leaf identifier fields fate next later)
-
-quiet_extended : (records : List Record) (key : Key) (level : ℕ) (trees : Option Trees) (draw : Draw) (next : List Record → Outcome (List ℕ))
-    → ((all : List Record) → IsQuiet all (next all)) → IsQuiet records (extended (open_state records) key level trees draw next)
-quiet_extended records key level None draw next later = λ fault other is not. refl
-quiet_extended records key level (Some trees) draw next later =
-    quiet_identifier records trees level (next_at key.secret records (level - 1)) draw.fields draw.fate next later
-
-quiet_bound_below : (key : Key) (name : List ℕ) (chance : Chance) (below : ℕ) (draws : List Draw) (records : List Record)
-    → IsQuiet records (bound_trees key name chance below draws records)
-quiet_bound_below key name chance zero draws records =
-    quiet_bound records key name (randomizer_of_fields key.secret chance.bound.fields) chance.given chance.bound.fate
-quiet_bound_below key name chance (suc below) draws records =
-    quiet_extended records key (bottom_of key.secret - below) (trees_of key.secret) (first_draw draws)
-    (bound_trees key name chance below (drop 1 draws)) (quiet_bound_below key name chance below (drop 1 draws))
+quiet_trees : (key : Key) (name : List ℕ) (chance : Chance) (below : ℕ) (draws : List Draw) (records : List Record)
+    (Q : Outcome (List ℕ) → Type 0) → ((outcome : Outcome (List ℕ)) → IsQuiet records outcome → Q outcome)
+    → HoldsOf Q (begin_trees key below draws >> bind key name chance) (open_state records)
+quiet_trees key name chance zero draws records Q leads = (
+  λ none. leads _ (λ fault other is not. refl),
+  λ randomizer some. (
+    λ none. leads _ (λ fault other is not. refl),
+    λ message gave. (
+      λ acked. leads _ (λ fault other is not. absurd (cc)),
+      λ old. leads _ (λ fault other is not. absurd (not (cc))),
+      λ new. leads _ (λ fault other is not. absurd (not (cc))),
+      λ none. leads _ (λ fault other is not. refl),
+    ),
+  ),
+)
+quiet_trees key name chance (suc below) draws records Q leads = (
+  λ none. leads _ (λ fault other is not. refl),
+  λ trees some. (
+    λ none. leads _ (λ fault other is not. refl),
+    λ identifier first. (
+      λ known. leads _ (λ fault other is not. refl),
+      λ new. (
+        λ none. leads _ (λ fault other is not. refl),
+        λ drawn both. (
+          λ acked. quiet_trees key name chance below (drop 1 draws) _ _
+              (λ outcome quiet. leads _ (λ fault other is not.
+              quiet fault other is not ∙ binding_other records _ other refl)),
+          λ old. leads _ (λ fault other is not. absurd (not (cc))),
+          λ new. leads _ (λ fault other is not. absurd (not (cc))),
+          λ none. leads _ (λ fault other is not. refl),
+        ),
+      ),
+    ),
+  ),
+)
 
 pub binds_none : (limit : ℕ) (state : State) (name other : List ℕ) (chance : Chance) (fault : SignFault)
     → (requested limit state name chance).answer ≡ Err fault → fault ≢ StoreFailed
@@ -92,7 +73,10 @@ binds_none limit state name other chance fault is not =
     record { refused_for = λ fault other name named is not. refl; gives = λ signature fault name is not. refl; read = λ outcome quiet. quiet } in
     settled_key quiet limit state name chance settled.refused_for (the_key state.records) refl
     (λ key k bound is. settled_repeated quiet state chance settled key k bound chance.given)
-    (λ key level wants. quiet_bound_below key name chance (bottom_of key.secret - level) chance.trees state.records) fault other is not
+    (λ key level wants. holds quiet (begin_trees key (bottom_of key.secret - level) chance.trees >> bind key name chance)
+    (open_state state.records)
+    (quiet_trees key name chance (bottom_of key.secret - level) chance.trees state.records quiet (λ outcome is. is)))
+    fault other is not
 
 -- ---- retirings
 

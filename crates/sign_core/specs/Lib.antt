@@ -2,6 +2,7 @@ pub mod Ledger
 pub mod Records
 pub mod Trees
 pub mod Textbook
+pub mod Steps
 pub mod World
 pub mod Events
 pub mod Headline

@@ -1,8 +1,8 @@
 -- The world of one key, and what each event does to it: its records, whether a signer is open on them, and what was
 -- handed out.
 use Rattle.std.specs.Prelude.{ℕ, zero, suc, ◌+◌, ◌-◌, Bool, true, false, not, ◌&&◌, List, [], ◌∷◌, ◌++◌, length}
-use Rattle.std.specs.Prelude.{drop, replicate, slice_index_or}
-use Rattle.std.specs.Prelude.{Option, Some, None, option_map, Result, Ok, Err, nat_le, nat_lt, if◌then◌else◌}
+use Rattle.std.specs.Prelude.{drop, replicate, slice_get, slice_index_or}
+use Rattle.std.specs.Prelude.{Option, Some, None, option_map, Result, Ok, nat_le, nat_lt, if◌then◌else◌}
 use Rattle.std.specs.List.{concat}
 use Rattle.std.specs.Option.{option_map_or}
 use Rattle.typecodes.specs.declared.spec.Spec.{Spec}
@@ -24,134 +24,55 @@ use Rattle.state_file.specs.declared.record.Version.{Version}
 use Rattle.sign_core.specs.declared.key.AnyPublic.{AnyPublic}
 use Rattle.sign_core.specs.declared.fault.SignFault.{SignFault}
 use Rattle.sign_core.specs.declared.fault.SignFault.TheVariants.{Changed, Exhausted, RandomFailed, RandomRepeated}
-use Rattle.sign_core.specs.declared.fault.SignFault.TheVariants.{StoreFailed}
-use Rattle.sign_core.specs.declared.fault.SignFault.TheVariants.{Stopped, MessageRead, Damaged, OutOfMemory, LedgerFull}
+use Rattle.sign_core.specs.declared.fault.SignFault.TheVariants.{Stopped, Damaged, OutOfMemory, LedgerFull}
 use Rattle.sign_core.specs.declared.fault.SignFault.TheVariants.{Moved, RetireRange, LongName, NoKey, Illegal, KeyThere}
 use Rattle.sign_core.specs.Records.{are_same, binding_at, can_move, deepest, first_illegal, has_identifier}
 use Rattle.sign_core.specs.Records.{has_moved}
 use Rattle.sign_core.specs.Records.{is_long, the_key, leaves_of_current, next_at, wanted_count}
 use Rattle.sign_core.specs.Textbook.{Trees, damaged_at, digest_at, lms_secret, any_public_of, public_of_key, key_root}
 use Rattle.sign_core.specs.Textbook.{secret_at, textbook_signature, current_at, trees_of}
-
--- ---- states and outcomes
-
-pub record State : Type 0 where
-  pub records : List Record
-  pub is_open : Bool
-
--- What an event leaves and answers, and how far it came. It has the records acknowledged at its end, the one whose
--- append was cut, if any, the drawn bytes, and whether the message was read. The state has the acknowledged records,
--- and perhaps the one that was cut.
-pub record Outcome (A : Type 0) : Type 0 where
-  pub state : State
-  pub answer : Result A SignFault
-  pub acknowledged : List Record
-  pub failed : Option Record
-  pub drawn : List ℕ
-  pub is_read : Bool
-
-abbrev pub refused : {A : Type 0} → State → SignFault → Outcome A
-refused state fault =
-    let records = state.records in
-    record { state = state; answer = Err fault; acknowledged = records; failed = None; drawn = []; is_read = false }
-
-abbrev pub answered : {A : Type 0} → State → A → Outcome A
-answered state a =
-    record { state = state; answer = Ok a; acknowledged = state.records; failed = None; drawn = []; is_read = false }
-
-abbrev pub open_state : List Record → State
-open_state records = record { records = records; is_open = true }
-
-abbrev pub closed_state : List Record → State
-closed_state records = record { records = records; is_open = false }
-
--- The append of a record was cut, and left these records; the signer is closed.
-abbrev pub cut : {A : Type 0} → (acknowledged : List Record) → Record → (left : List Record) → Outcome A
-cut acknowledged entry left =
-    record (refused (closed_state left) StoreFailed) { acknowledged = acknowledged; failed = Some entry }
-
-abbrev pub drawing : {A : Type 0} → List ℕ → Outcome A → Outcome A
-drawing bytes outcome = record outcome { drawn = bytes ++ outcome.drawn }
-
-abbrev pub reading : {A : Type 0} → Outcome A → Outcome A
-reading outcome = record outcome { is_read = true }
-
--- ---- appends
-
--- What becomes of an append: it is acknowledged; it is cut, and leaves the old records, or the new one as well; or
--- memory is refused for it, or just before it for the cache of the tree that it records.
-pub data Fate : Type 0 where
-  acked : Fate
-  cut_old : Fate
-  cut_new : Fate
-  no_memory : Fate
-
--- a record is appended with this fate; where it is acknowledged, `next` goes on with the new records
-abbrev pub appended : {A : Type 0} → State → Record → Fate → (next : List Record → Outcome A) → Outcome A
-appended state entry acked next = next (state.records ++ entry ∷ [])
-appended state entry cut_old next = cut state.records entry state.records
-appended state entry cut_new next = cut state.records entry (state.records ++ entry ∷ [])
-appended state entry no_memory next = refused state OutOfMemory
+pub use Rattle.sign_core.specs.Steps.{Fate, Outcome, State, Steps, acked, answered, appended, closed_state, cut, cut_new}
+pub use Rattle.sign_core.specs.Steps.{cut_old, drawing, event, no_memory, open_state, reading, refused, run_then}
+use Rattle.sign_core.specs.Steps.{◌>>=◌, ◌>>◌, append_record, choose, draw_bytes, give, hold, look, pass, read_message}
+use Rattle.sign_core.specs.Steps.{refuse, take_some}
 
 -- ---- steps
 
--- A step of an event finds a state, and goes on with a value and a state to what comes next; or it ends the event. It
--- gives a value of A, in an event that answers a B.
-abbrev pub Step : (B A : Type 0) → Type 0
-Step B A = State → (A → State → Outcome B) → Outcome B
+abbrev pub the_state : Steps State
+the_state = look give
 
-infixl 10 ◌>>=◌
-abbrev pub ◌>>=◌ : {B A C : Type 0} → Step B A → (A → Step B C) → Step B C
-(first >>= next) state rest = first state (λ a later. next a later rest)
+abbrev pub the_records : Steps (List Record)
+the_records = look (λ state. give state.records)
 
-infixl 10 ◌>>◌
-abbrev pub ◌>>◌ : {B A C : Type 0} → Step B A → Step B C → Step B C
-(first >> next) state rest = first state (λ a later. next later rest)
+abbrev pub some_or : {A : Type 0} → SignFault → Option A → Steps A
+some_or fault found = take_some fault found give
 
--- an event is its steps, and answers what they give
-abbrev pub event : {A : Type 0} → Step A A → State → Outcome A
-event steps state = steps state (λ a later. answered later a)
+abbrev pub refuse_if : SignFault → Bool → Steps (Unit {0})
+refuse_if fault wrong = choose wrong (refuse fault) (give tt)
 
-abbrev pub give : {B A : Type 0} → A → Step B A
-give a state rest = rest a state
+abbrev pub refuse_some : Option SignFault → Steps (Unit {0})
+refuse_some found = pass found (give tt)
 
-abbrev pub the_state : {B : Type 0} → Step B State
-the_state state rest = rest state state
+-- nothing is done where this holds
+abbrev pub unless : Bool → Steps (Unit {0}) → Steps (Unit {0})
+unless done steps = choose done (give tt) steps
 
-abbrev pub the_records : {B : Type 0} → Step B (List Record)
-the_records state rest = rest state.records state
+abbrev pub close : Steps (Unit {0})
+close = hold false (give tt)
 
-abbrev pub some_or : {B A : Type 0} → SignFault → Option A → Step B A
-some_or fault None state rest = refused state fault
-some_or fault (Some a) state rest = rest a state
-
-abbrev pub refuse_if : {B : Type 0} → SignFault → Bool → Step B (Unit {0})
-refuse_if fault wrong state rest = if wrong then refused state fault else rest tt state
-
-abbrev pub answer_if : {B : Type 0} → B → Bool → Step B (Unit {0})
-answer_if answer done state rest = if done then answered state answer else rest tt state
-
-abbrev pub refuse_some : {B : Type 0} → Option SignFault → Step B (Unit {0})
-refuse_some (Some fault) state rest = refused state fault
-refuse_some None state rest = rest tt state
-
-abbrev pub close : {B : Type 0} → Step B (Unit {0})
-close state rest = rest tt (closed_state state.records)
-
-abbrev pub open_signer : {B : Type 0} → Step B (Unit {0})
-open_signer state rest = rest tt (open_state state.records)
+abbrev pub open_signer : Steps (Unit {0})
+open_signer = hold true (give tt)
 
 -- Fields are drawn and made into a value; there is none where the source failed.
-abbrev pub draw : {B A : Type 0} → (made : Option A) → (fields : List (List ℕ)) → Step B A
-draw made fields state rest = drawing (concat fields) (some_or RandomFailed made state rest)
+abbrev pub draw : {A : Type 0} → (made : Option A) → (fields : List (List ℕ)) → Steps A
+draw made fields = draw_bytes (concat fields) (some_or RandomFailed made)
 
-abbrev pub read : {B : Type 0} → Option (List ℕ) → Step B (List ℕ)
-read None state rest = reading (refused state MessageRead)
-read (Some message) state rest = reading (rest message state)
+abbrev pub read : Option (List ℕ) → Steps (List ℕ)
+read given = read_message given give
 
 -- a record is appended, and the signer is open on the new records
-abbrev pub append : {B : Type 0} → Record → Fate → Step B (Unit {0})
-append entry fate state rest = appended state entry fate (λ records. rest tt (open_state records))
+abbrev pub append : Record → Fate → Steps (Unit {0})
+append entry fate = append_record entry fate (give tt)
 
 -- ---- create
 
@@ -176,7 +97,7 @@ abbrev pub new_key : Version → Secret → Key
 new_key version secret = record { version = version; secret = secret; root = key_root secret }
 
 -- The public key of record 0 is answered, and the signer is open; where record 0 is no key, the signer is closed.
-abbrev pub publish : Option AnyPublic → Step AnyPublic AnyPublic
+abbrev pub publish : Option AnyPublic → Steps AnyPublic
 publish public = do
   close
   known ← some_or NoKey public
@@ -184,8 +105,8 @@ publish public = do
   give known
 
 -- A create: it begins a key where no record stands.
-abbrev pub created : State → Spec → Creation → Outcome AnyPublic
-created state spec chance = event (do
+abbrev pub create_steps : Spec → Creation → Steps AnyPublic
+create_steps spec chance = do
   refuse_some chance.failed_load
   records ← the_records
   refuse_if KeyThere (nat_le 1 (length records))
@@ -193,7 +114,10 @@ created state spec chance = event (do
   refuse_if OutOfMemory (not chance.has_room)
   key ← give (new_key chance.version secret)
   append (KeyRecord key) chance.fate
-  publish (any_public_of key)) state
+  publish (any_public_of key)
+
+abbrev pub created : State → Spec → Creation → Outcome AnyPublic
+created state spec chance = event (create_steps spec chance) state
 
 -- ---- open
 
@@ -209,11 +133,14 @@ first_refusal (Some (slot, fault)) None = Some fault
 first_refusal (Some (slot, fault)) (Some k) = Some (if nat_lt k slot then Illegal k else fault)
 
 -- An opening: it goes over the records in their order, and refuses the first that can't be loaded or isn't legal.
-abbrev pub opened : State → Opening → Outcome AnyPublic
-opened state chance = event (do
+abbrev pub open_steps : Opening → Steps AnyPublic
+open_steps chance = do
   records ← the_records
   refuse_some (first_refusal chance (first_illegal records))
-  publish (public_of_key (the_key records))) state
+  publish (public_of_key (the_key records))
+
+abbrev pub opened : State → Opening → Outcome AnyPublic
+opened state chance = event (open_steps chance) state
 
 -- ---- requests
 
@@ -236,7 +163,7 @@ first_draw [] = record { fields = []; fate = acked }
 first_draw (draw ∷ draws) = draw
 
 -- the key that an open signer signs with
-abbrev pub signing_key : {B : Type 0} → Step B Key
+abbrev pub signing_key : Steps Key
 signing_key = do
   state ← the_state
   key ← some_or Stopped (the_key state.records)
@@ -245,7 +172,7 @@ signing_key = do
   give key
 
 -- A name that the record at place k binds: its recorded signature, if the message has the recorded digest.
-abbrev pub repeat : Key → (k : ℕ) → Bound → Chance → Step (List ℕ) (List ℕ)
+abbrev pub repeat : Key → (k : ℕ) → Bound → Chance → Steps (List ℕ)
 repeat key k bound chance = do
   records ← the_records
   message ← read chance.given
@@ -270,19 +197,24 @@ extend_record trees records level secret randomizer leaf =
       root = public.root;
     })
 
-abbrev pub draw_identifier : {B : Type 0} → (fields : List (List ℕ)) → Step B (List ℕ)
-draw_identifier [] state rest = refused state RandomFailed
-draw_identifier (identifier ∷ fields) state rest = drawing identifier (rest identifier state)
+-- I of a new tree
+abbrev pub draw_identifier : (fields : List (List ℕ)) → Steps (List ℕ)
+draw_identifier fields = draw_bytes (slice_index_or fields 0 []) (some_or RandomFailed (slice_get fields 0))
 
 -- SEED of a new tree, and C of the signature of its public key
-abbrev pub draw_seed : {B : Type 0} → (fields : List (List ℕ)) → Step B (List ℕ × List ℕ)
-draw_seed (seed ∷ randomizer ∷ []) state rest = drawing (seed ++ randomizer) (rest (seed, randomizer) state)
-draw_seed fields state rest = drawing (concat fields) (refused state RandomFailed)
+abbrev pub seed_and_randomizer : (fields : List (List ℕ)) → Option (List ℕ × List ℕ)
+seed_and_randomizer (seed ∷ randomizer ∷ []) = Some (seed, randomizer)
+seed_and_randomizer fields = None
+
+abbrev pub draw_seed : (fields : List (List ℕ)) → Steps (List ℕ × List ℕ)
+draw_seed fields =
+    let both = seed_and_randomizer fields in
+    draw_bytes (option_map_or (λ drawn. drawn.0 ++ drawn.1) both (concat fields)) (some_or RandomFailed both)
 
 -- A new tree of a level: I is drawn, which no record may have yet; then SEED and C.
 -- Requirement: RFC 8554 6, independent
 -- Requirement: RFC 8554 7.1, identifier
-abbrev pub begin_tree : {B : Type 0} → Key → (level : ℕ) → Draw → Step B (Unit {0})
+abbrev pub begin_tree : Key → (level : ℕ) → Draw → Steps (Unit {0})
 begin_tree key level chance = do
   records ← the_records
   trees ← some_or RandomFailed (trees_of key.secret)
@@ -294,7 +226,7 @@ begin_tree key level chance = do
   append (extend_record trees records level secret drawn.1 leaf) chance.fate
 
 -- a new tree for each of the lowest levels, this many of them
-abbrev pub begin_trees : {B : Type 0} → Key → (below : ℕ) → List Draw → Step B (Unit {0})
+abbrev pub begin_trees : Key → (below : ℕ) → List Draw → Steps (Unit {0})
 begin_trees key zero draws = give tt
 begin_trees key (suc below) draws = do
   begin_tree key (bottom_of key.secret - below) (first_draw draws)
@@ -308,22 +240,26 @@ randomizer_of_fields (Xmss secret) fields = None
 randomizer_of_fields _ (randomizer ∷ []) = Some randomizer
 randomizer_of_fields _ _ = None
 
+abbrev pub new_bound : (name : List ℕ) → (leaf : ℕ) → (randomizer digest : List ℕ) → Bound
+new_bound name leaf randomizer digest =
+    record { name = name; leaf = leaf; randomizer = randomizer; digest = digest }
+
 -- Requirement: RFC 8554 5.4.1, next
 -- Requirement: RFC 8391 4.1.9, updated
-abbrev pub bind : Key → (name : List ℕ) → Chance → Step (List ℕ) (List ℕ)
+abbrev pub bind : Key → (name : List ℕ) → Chance → Steps (List ℕ)
 bind key name chance = do
   old ← the_records
   randomizer ← draw (randomizer_of_fields key.secret chance.bound.fields) chance.bound.fields
   message ← read chance.given
   leaf ← give (next_at key.secret old (bottom_of key.secret))
   digest ← give (digest_at key old (length old) leaf randomizer message)
-  bound ← give {A = Bound} (record { name = name; leaf = leaf; randomizer = randomizer; digest = digest })
+  bound ← give (new_bound name leaf randomizer digest)
   append (BoundRecord bound) chance.bound.fate
   records ← the_records
   give (textbook_signature key records (length old) bound)
 
 -- A new name: new trees for the levels below the deepest one with a free leaf, and then the binding.
-abbrev pub bind_new_name : (limit : ℕ) → Key → (name : List ℕ) → Chance → Step (List ℕ) (List ℕ)
+abbrev pub bind_new_name : (limit : ℕ) → Key → (name : List ℕ) → Chance → Steps (List ℕ)
 bind_new_name limit key name chance = do
   refuse_if LongName (is_long key name)
   records ← the_records
@@ -335,29 +271,35 @@ bind_new_name limit key name chance = do
   begin_trees key (bottom_of key.secret - level) chance.trees
   bind key name chance
 
-abbrev pub repeat_or_bind : (limit : ℕ) → Key → (name : List ℕ) → Chance → Option (ℕ × Bound) → Step (List ℕ) (List ℕ)
+abbrev pub repeat_or_bind : (limit : ℕ) → Key → (name : List ℕ) → Chance → Option (ℕ × Bound) → Steps (List ℕ)
 repeat_or_bind limit key name chance (Some (k, bound)) = repeat key k bound chance
 repeat_or_bind limit key name chance None = bind_new_name limit key name chance
 
 -- A request to sign a message under a name.
-abbrev pub requested : (limit : ℕ) → State → (name : List ℕ) → Chance → Outcome (List ℕ)
-requested limit state name chance = event (do
+abbrev pub request_steps : (limit : ℕ) → (name : List ℕ) → Chance → Steps (List ℕ)
+request_steps limit name chance = do
   key ← signing_key
   records ← the_records
-  repeat_or_bind limit key name chance (binding_at records name)) state
+  repeat_or_bind limit key name chance (binding_at records name)
+
+abbrev pub requested : (limit : ℕ) → State → (name : List ℕ) → Chance → Outcome (List ℕ)
+requested limit state name chance = event (request_steps limit name chance) state
 
 -- ---- retire
 
 -- The leaves of the current bottom tree below `upto` are retired, by a record, unless they are used already.
-abbrev pub retired : (limit : ℕ) → State → (upto : ℕ) → Fate → Outcome (Unit {0})
-retired limit state upto fate = event (do
+abbrev pub retire_steps : (limit : ℕ) → (upto : ℕ) → Fate → Steps (Unit {0})
+retire_steps limit upto fate = do
   key ← signing_key
   records ← the_records
   bottom ← give (bottom_of key.secret)
   refuse_if RetireRange (nat_lt (leaves_of_current key.secret records bottom) upto)
-  answer_if tt (nat_le upto (next_at key.secret records bottom))
-  refuse_if LedgerFull (nat_lt limit (length records + 1))
-  append (Retire upto) fate) state
+  unless (nat_le upto (next_at key.secret records bottom)) (do
+    refuse_if LedgerFull (nat_lt limit (length records + 1))
+    append (Retire upto) fate)
+
+abbrev pub retired : (limit : ℕ) → State → (upto : ℕ) → Fate → Outcome (Unit {0})
+retired limit state upto fate = event (retire_steps limit upto fate) state
 
 -- ---- whole runs
 

@@ -6,13 +6,14 @@ use Rattle.state_file.specs.declared.record.Record.{Record}
 use Rattle.sign_core.specs.declared.fault.SignFault.TheVariants.{RandomFailed, RandomRepeated}
 use Rattle.sign_core.specs.Records.{has_identifier, next_at}
 use Rattle.sign_core.specs.Textbook.{Trees, lms_secret}
-use Rattle.sign_core.specs.World.{◌>>=◌, ◌>>◌, Chance, Draw, Outcome, State, append, begin_trees, bind, draw_identifier}
-use Rattle.sign_core.specs.World.{draw_seed, event, extend_record, give, open_state, refuse_if, repeat_or_bind, some_or}
+use Rattle.sign_core.specs.Steps.{◌>>=◌, ◌>>◌, give, run_then}
+use Rattle.sign_core.specs.World.{Chance, Draw, Outcome, State, append, begin_trees, bind, draw_identifier}
+use Rattle.sign_core.specs.World.{draw_seed, event, extend_record, open_state, refuse_if, repeat_or_bind, some_or}
 
 -- the key has these trees
 abbrev pub extended : State → Key → (level : ℕ) → Option Trees → Draw → (List Record → Outcome (List ℕ))
     → Outcome (List ℕ)
-extended state key level found chance next = (do
+extended state key level found chance next = run_then (do
   trees ← some_or RandomFailed found
   identifier ← draw_identifier chance.fields
   refuse_if RandomRepeated (has_identifier state.records identifier)

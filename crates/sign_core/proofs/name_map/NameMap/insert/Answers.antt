@@ -1,4 +1,4 @@
-use Rattle.std.proofs.Common.{◌≡◌, ◌<◌, ◌∙◌, ap, arith, cond, length, refl, Some}
+use Rattle.std.proofs.Common.{◌<◌, ◌∙◌, ap, arith, cond, length, refl, Some}
 use Rattle.std.specs.HashMap.{spare}
 use Rattle.sign_core.specs.Records.{are_same}
 use Rattle.sign_core.specs.Ledger.{of_text, short_text}

@@ -1,0 +1,3 @@
+pub mod Holds
+pub mod Settled
+pub mod Turned
