@@ -20,8 +20,8 @@ use Rattle.sign_core.specs.Signing.{IsPrepared, MakesCaches, is_unprepared}
 use Rattle.sign_core.specs.Textbook.{Trees, current_at, made_secret, secret_at, trees_of}
 use Rattle.sign_core.specs.Trees.{with_next}
 use Rattle.sign_core.specs.declared.fault.SignFault.{SignFault}
-use Rattle.sign_core.specs.declared.key_trees.SecretTrees.{SecretTrees}
-use Rattle.sign_core.specs.declared.key_trees.SecretTrees.TheVariants.{Chain, Xmss as XmssTree}
+use Rattle.sign_core.specs.declared.secret_trees.SecretTrees.{SecretTrees}
+use Rattle.sign_core.specs.declared.secret_trees.SecretTrees.TheVariants.{Chain, Xmss as XmssTree}
 use Rattle.sign_core.specs.declared.ledger.Binding.{Binding}
 use Rattle.sign_core.specs.declared.trees.Tree.{Tree}
 use Rattle.sign_core.specs.inner.Caches.{HasOwn, KeepsDownTo}

@@ -14,8 +14,8 @@ use Rattle.state_file.specs.declared.record.Record.{Record}
 use Rattle.state_file.specs.declared.record.Record.TheVariants.{Extend as ExtendRecord}
 use Rattle.state_file.specs.declared.record.Secret.{Secret}
 use Rattle.sign_core.specs.declared.key_trees.KeyTrees.{KeyTrees}
-use Rattle.sign_core.specs.declared.key_trees.SecretTrees.{SecretTrees}
-use Rattle.sign_core.specs.declared.key_trees.SecretTrees.TheVariants.{Chain, Xmss as XmssTree}
+use Rattle.sign_core.specs.declared.secret_trees.SecretTrees.{SecretTrees}
+use Rattle.sign_core.specs.declared.secret_trees.SecretTrees.TheVariants.{Chain, Xmss as XmssTree}
 use Rattle.sign_core.specs.declared.fault.SignFault.{SignFault}
 use Rattle.sign_core.specs.Records.{can_follow, current, free_at, has_identifier, has_moved, is_free, the_key, next_at}
 use Rattle.sign_core.specs.inner.Links.{MakesTrees}

@@ -1,103 +1,29 @@
-//! The trees of a key: under LMS and HSS a chain from the top down to the tree that signs, under XMSS one tree. And the
-//! caches of the current ones.
+//! The LMS trees of a key: a chain from the top down to the tree that signs. And the caches of the current ones.
 
-ghost use Rattle.std.specs.Prelude.{◌≡◌, ◌<◌, ◌+◌, ◌^◌, ◌++◌, Some, None, length, slice_index_or};
+ghost use Rattle.std.specs.Prelude.{◌≡◌, ◌<◌, ◌+◌, ◌^◌, ◌++◌, Some, None, slice_index_or};
 ghost use Rattle.std.specs.Prelude.{IfErr, OnOk, IfOk, OnErr};
 ghost use Rattle.arrayvec.specs.ArrayVec.{array_vec_len};
 ghost use Rattle.typecodes.specs.Types.{height_of};
-ghost use Rattle.state_file.specs.Laws.{levels_of};
-ghost use Rattle.sign_core.specs.Records.{free_at, types_of};
-ghost use Rattle.sign_core.specs.Textbook.{damaged_at, current_at};
+ghost use Rattle.sign_core.specs.Records.{types_of};
+ghost use Rattle.sign_core.specs.Textbook.{damaged_at};
 
 use crate::caches::{Caches, TreeRequest};
 use crate::fault::SignFault;
 use crate::ledger::{Ledger, Made};
 use crate::progress::{KeyProgress, TreeProgress};
+use crate::secret_trees::SecretTrees;
 use arrayvec::ArrayVec;
 use hss::Level;
 use lmots::LmOts;
 use lms::SigningTree;
-use state_file::{Extend, Secret};
-use typecodes::{Levels, LmsPair, LmsSecret, XmssSecret};
+use state_file::Extend;
+use typecodes::{Levels, LmsPair, LmsSecret};
 
 /// The LMS trees of a key: the top tree's secret, and the types of each level's trees.
 #[derive(Drop)]
 pub(crate) struct KeyTrees {
     pub(crate) top: LmsSecret,
     pub(crate) levels: Levels,
-}
-
-/// The trees of a key of any scheme: those of LMS or HSS, or the one tree of XMSS.
-#[derive(Drop)]
-pub(crate) enum SecretTrees {
-    Chain(KeyTrees),
-    Xmss(XmssSecret),
-}
-
-impl SecretTrees {
-    ghost use Rattle.sign_core.specs.inner.Links.{MakesTrees};
-
-    /// The trees of a key. An LMS key has one level.
-    pub(crate) fn of(secret: &Secret) -> Self
-        ensures { MakesTrees secret.now result }
-    {
-        match secret {
-            Secret::Lms(top) => SecretTrees::Chain(KeyTrees {
-                top: *top,
-                levels: Levels::one(top.pair),
-            }),
-            Secret::Hss {
-                levels,
-                identifier,
-                seed,
-            } => SecretTrees::Chain(KeyTrees {
-                top: LmsSecret::new(levels.as_slice()[0], *identifier, *seed),
-                levels: levels.copied(),
-            }),
-            Secret::Xmss(secret) => SecretTrees::Xmss(*secret),
-        }
-    }
-
-    /// Checks that the records of the current trees are sound, down to a level with a free leaf. Or answers the place
-    /// of the first one that isn't.
-    #[inline(never)]
-    pub(crate) fn check_current<P: TreeProgress>(
-        &self,
-        ledger: &Ledger,
-        caches: &mut Caches,
-        level: u8,
-        progress: &KeyProgress<'_, P>,
-    ) -> Result<(), u32>
-        requires trees { MakesTrees ledger.now.key.secret self.now }
-        requires level { level < levels_of ledger.now.key.secret }
-        requires within_limit { level < 8 }
-        requires free { 0 < free_at ledger.now.key.secret ledger.now.records level }
-        requires types { progress.now.spec ≡ types_of ledger.now.key.secret }
-        ensures sound { OnOk result (damaged_at ledger.now.key level ledger.now.records
-            (current_at level ledger.now.records (length ledger.now.records)) ≡ None) }
-        ensures damaged { IfErr result (λ k. damaged_at ledger.now.key level ledger.now.records
-            (current_at level ledger.now.records (length ledger.now.records)) ≡ Some k) }
-        ensures caches { caches.new ≡ caches.old }
-    {
-        let key = ledger.key();
-        let Some(tree) = ledger.current(level) else {
-            unreachable!()
-        };
-        match self {
-            SecretTrees::Chain(trees) => {
-                let (place, leaf) = (tree.place, tree.next);
-                let mut above = ArrayVec::new();
-                trees.chain_to(ledger, caches, level, place, leaf, &mut above, progress)?;
-                Ok(())
-            }
-            SecretTrees::Xmss(secret) => {
-                let mut nodes = [[0; 32]; 20];
-                let path = &mut nodes[..usize::from(secret.tree.height())];
-                let asked = TreeRequest::new(0, *secret, tree.next, progress);
-                caches.xmss_path(asked, &key.root, path)
-            }
-        }
-    }
 }
 
 impl KeyTrees {

@@ -49,6 +49,7 @@ mod migration;
 mod name_map;
 mod progress;
 mod replay;
+mod secret_trees;
 mod serving;
 mod signer;
 mod source;

@@ -14,8 +14,8 @@ use Rattle.state_file.specs.declared.record.Record.TheVariants.{Extend as Extend
 use Rattle.state_file.specs.declared.record.Secret.{Secret}
 use Rattle.state_file.specs.declared.record.Secret.TheVariants.{Xmss}
 use Rattle.sign_core.specs.declared.key_trees.KeyTrees.{KeyTrees}
-use Rattle.sign_core.specs.declared.key_trees.SecretTrees.{SecretTrees}
-use Rattle.sign_core.specs.declared.key_trees.SecretTrees.TheVariants.{Chain, Xmss as XmssTree}
+use Rattle.sign_core.specs.declared.secret_trees.SecretTrees.{SecretTrees}
+use Rattle.sign_core.specs.declared.secret_trees.SecretTrees.TheVariants.{Chain, Xmss as XmssTree}
 use Rattle.sign_core.specs.Textbook.{Trees, secret_at, leaf_signing, trees_of}
 
 abbrev pub chain_trees : KeyTrees → Trees

@@ -1,6 +1,6 @@
 //! `sign`: the steps of a request, and what refuses it at each.
 
-ghost use Rattle.std.specs.Prelude.{◌≡◌, ◌<◌, [], None, Some, length, vec_capacity, IfErr, IsSome, OnErr, OnOk};
+ghost use Rattle.std.specs.Prelude.{◌≡◌, ◌<◌, [], None, Some, length, vec_capacity, IsSome, OnErr, OnOk};
 ghost use Rattle.std.specs.Prelude.{◌≤◌, ◌↔◌};
 ghost use Rattle.typecodes.specs.declared.secret.XmssSecret.{XmssSecret as X};
 ghost use Rattle.sign_core.specs.Caches.{HasAll, HasBegun, HasCurrent};
@@ -11,68 +11,18 @@ ghost use Rattle.sign_core.specs.Progress.{types_of_key};
 ghost use Rattle.sign_core.specs.Signer.{KeepsForRepeat, Signs, is_before_repeat, is_fault};
 ghost use Rattle.sign_core.specs.Signing.{IsXmssKey, KeepsCaches, KeepsCapacity, LeavesCaches};
 ghost use Rattle.sign_core.specs.Signing.{MakesCaches, UnderKey, answered_value};
-ghost use Rattle.typecodes.specs.Message.{Digests};
-ghost use Rattle.sign_core.specs.inner.Signing.{DrawsRandomizer};
 
 use super::Signer;
 use crate::fault::SignFault;
-use crate::key_trees::SecretTrees;
 use crate::ledger::Ledger;
 use crate::progress::{KeyProgress, TreeProgress};
-use crate::source::{Source, draw};
+use crate::secret_trees::SecretTrees;
+use crate::source::Source;
 use lmots::LmOts;
 use merkle::Silent;
 use state_file::Store;
 use typecodes::{Message, Name};
 use xmss::message_digest_from;
-
-impl SecretTrees {
-    ghost use Rattle.std.specs.Prelude.{ℕ};
-    ghost use Rattle.state_file.specs.Laws.{bottom_of};
-    ghost use Rattle.state_file.specs.declared.record.Secret.{Secret};
-    ghost use Rattle.sign_core.specs.Textbook.{digest_at, current_at};
-    ghost use Rattle.sign_core.specs.inner.Links.{MakesTrees};
-
-    // The digest of a message by a leaf of the tree at a place: Q with this C, or M' with the leaf's own randomizer.
-    pub(super) fn digest<M: Message>(
-        &self,
-        ledger: &Ledger,
-        place: u32,
-        leaf: u32,
-        randomizer: &[u8; 32],
-        message: &mut M,
-    ) -> Result<[u8; 32], SignFault>
-        requires { MakesTrees ledger.now.key.secret self.now }
-        ensures digest { (k : ℕ) → current_at (bottom_of ledger.now.key.secret) ledger.now.records k ≡ place →
-            Digests M.transition M.remaining (digest_at ledger.now.key ledger.now.records k leaf randomizer.now) result
-            message.old message.new }
-        ensures fault { IfErr result (λ fault. fault ≡ SignFault.MessageRead) }
-    {
-        let key = ledger.key();
-        let digest = match self {
-            SecretTrees::Chain(trees) => {
-                let identifier = trees.secret_at(ledger, place).identifier;
-                LmOts { identifier, leaf }.message_digest_from(randomizer, message)
-            }
-            SecretTrees::Xmss(secret) => {
-                let randomizer = xmss::randomizer(secret, leaf);
-                message_digest_from(&randomizer, &key.root, leaf, message)
-            }
-        };
-        digest.map_err(|_| SignFault::MessageRead)
-    }
-
-    // C for a binding. Under XMSS nothing is drawn, and zeros are recorded.
-    pub(super) fn draw_randomizer<R: Source>(&self, random: &mut R) -> Result<[u8; 32], SignFault>
-        ensures { (secret : Secret) → MakesTrees secret self.now → DrawsRandomizer secret (R.failures random.old)
-            (R.failures random.new) (R.upcoming random.old) (R.upcoming random.new) result }
-    {
-        match self {
-            SecretTrees::Chain(_) => draw(random),
-            SecretTrees::Xmss(_) => Ok([0; 32]),
-        }
-    }
-}
 
 impl<S: Store, R: Source> Signer<S, R> {
     /// How many leaves the cache of a level's current tree has made, at most `u64::MAX`; None where the level has no

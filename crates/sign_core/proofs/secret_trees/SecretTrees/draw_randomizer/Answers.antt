@@ -1,7 +1,7 @@
 use Rattle.std.proofs.Common.{subst}
 use Rattle.sign_core.specs.inner.Links.{MakesTrees}
 use Rattle.sign_core.proofs.Binding.{chain_randomizer, xmss_randomizer}
-use Rattle.sign_core.proofs.key_trees.SecretTrees.draw_randomizer.Goals as goal
+use Rattle.sign_core.proofs.secret_trees.SecretTrees.draw_randomizer.Goals as goal
 
 pub returns-in-Chain : goal.returns-in-Chain
 returns-in-Chain g c secret trees =

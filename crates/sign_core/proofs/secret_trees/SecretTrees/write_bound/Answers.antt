@@ -16,7 +16,7 @@ use Rattle.sign_core.proofs.Heights.{height_of_xmss}
 use Rattle.sign_core.proofs.LedgerReading.{key_levels}
 use Rattle.sign_core.proofs.LinkParts.{more_made, tree_signs}
 use Rattle.sign_core.proofs.Repeats.{bound_chain, bound_xmss_leaf, links_bound, links_signs, none_made, xmss_bound_chain, xmss_bound_signed}
-use Rattle.sign_core.proofs.key_trees.SecretTrees.write_bound.Goals as goal
+use Rattle.sign_core.proofs.secret_trees.SecretTrees.write_bound.Goals as goal
 
 -- ---- LMS and HSS
 
@@ -123,8 +123,8 @@ returns-in_ok-tree-in-Chain-clause-signature g c k bound is =
 
 -- ---- XMSS
 
-pub new-asked-requires-clause-of_key : goal.new-asked-requires-clause-of_key
-new-asked-requires-clause-of_key g c =
+pub new-request-requires-clause-of_key : goal.new-request-requires-clause-of_key
+new-request-requires-clause-of_key g c =
     height_of_xmss _ _ _ (subst (MakesTrees c.args.ledger.now.key.secret) c.in-Xmss.is c.requires.trees) c.requires.types
 
 pub xmss_path-requires-clause-inside : goal.xmss_path-requires-clause-inside
@@ -132,7 +132,7 @@ xmss_path-requires-clause-inside g c =
     let l = c.args.ledger.now in
     let of_key = subst (MakesTrees l.key.secret) c.in-Xmss.is c.requires.trees in
     let keyed = c.key-key.ensures.first ∙ ap Some c.key-key.ensures.key in
-    subst (λ (p : XmssSecret × ℕ). p.1 < 2 ^ xmss_height_of p.0.tree) (λ i. (sym c.new-asked.ensures.secret i, sym c.new-asked.ensures.leaf i))
+    subst (λ (p : XmssSecret × ℕ). p.1 < 2 ^ xmss_height_of p.0.tree) (λ i. (sym c.new-request.ensures.secret i, sym c.new-request.ensures.leaf i))
     (bound_xmss_leaf l.key l.records _ c.args.binding.now _ c.key-key.ensures.legal keyed of_key (c.requires.kept l.key keyed).1)
 
 pub write_signature-requires-clause-inside : goal.write_signature-requires-clause-inside
@@ -154,7 +154,7 @@ returns-in_err-xmss_path-in-Xmss-clause-damaged g c =
     let of_key = subst (MakesTrees l.key.secret) c.in-Xmss.is c.requires.trees in
     let keyed = c.key-key.ensures.first ∙ ap Some c.key-key.ensures.key in
     let damaged = xmss_bound_chain l.records l.key _ _ c.args.binding.now (λ d. d ≡ Some c.in_err-xmss_path-in-Xmss.field-0.0) keyed of_key (c.requires.kept l.key keyed).1
-    (λ rest. c.in_err-xmss_path-in-Xmss.ensures.damaged l.key rest (of_key ∙ ap Xmss (sym c.new-asked.ensures.secret)) (ap (λ own. own.root) (sym c.key-key.ensures.key))) in
+    (λ rest. c.in_err-xmss_path-in-Xmss.ensures.damaged l.key rest (of_key ∙ ap Xmss (sym c.new-request.ensures.secret)) (ap (λ own. own.root) (sym c.key-key.ensures.key))) in
     search (rules, damaged)
 
 pub returns-in_ok-xmss_path-in-Xmss-clause-sound : goal.returns-in_ok-xmss_path-in-Xmss-clause-sound
@@ -163,10 +163,10 @@ returns-in_ok-xmss_path-in-Xmss-clause-sound g c =
     let of_key = subst (MakesTrees l.key.secret) c.in-Xmss.is c.requires.trees in
     let keyed = c.key-key.ensures.first ∙ ap Some c.key-key.ensures.key in
     xmss_bound_chain l.records l.key _ _ c.args.binding.now (λ d. d ≡ None) keyed of_key (c.requires.kept l.key keyed).1
-    (λ rest. c.in_ok-xmss_path-in-Xmss.ensures.sound l.key rest (of_key ∙ ap Xmss (sym c.new-asked.ensures.secret)) (ap (λ own. own.root) (sym c.key-key.ensures.key)))
+    (λ rest. c.in_ok-xmss_path-in-Xmss.ensures.sound l.key rest (of_key ∙ ap Xmss (sym c.new-request.ensures.secret)) (ap (λ own. own.root) (sym c.key-key.ensures.key)))
 
 pub returns-in_ok-xmss_path-in-Xmss-clause-signature : goal.returns-in_ok-xmss_path-in-Xmss-clause-signature
 returns-in_ok-xmss_path-in-Xmss-clause-signature g c k bound is =
     let l = c.args.ledger.now in
     let of_key = subst (MakesTrees l.key.secret) c.in-Xmss.is c.requires.trees in
-    xmss_bound_signed l.records l.key _ k bound c.args.binding.now _ of_key is (c.write_signature.ensures.textbook (c.xmss_path.ensures.path ∙ (λ i. leaf_path (c.new-asked.ensures.secret i) (c.new-asked.ensures.leaf i))))
+    xmss_bound_signed l.records l.key _ k bound c.args.binding.now _ of_key is (c.write_signature.ensures.textbook (c.xmss_path.ensures.path ∙ (λ i. leaf_path (c.new-request.ensures.secret i) (c.new-request.ensures.leaf i))))

@@ -3,8 +3,8 @@ use Rattle.typecodes.specs.Message.{Digests}
 use Rattle.sign_core.specs.Textbook.{digest_at}
 use Rattle.sign_core.specs.inner.Links.{MakesTrees}
 use Rattle.sign_core.proofs.ChainParts.{tree_digest, xmss_tree_digest}
-use Rattle.sign_core.proofs.key_trees.SecretTrees.digest.Goals.{in-Chain, in-Xmss}
-use Rattle.sign_core.proofs.key_trees.SecretTrees.digest.Goals as goal
+use Rattle.sign_core.proofs.secret_trees.SecretTrees.digest.Goals.{in-Chain, in-Xmss}
+use Rattle.sign_core.proofs.secret_trees.SecretTrees.digest.Goals as goal
 
 pub returns-clause-digest : goal.returns-clause-digest
 returns-clause-digest g c k at =

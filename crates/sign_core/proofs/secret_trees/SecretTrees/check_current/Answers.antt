@@ -8,7 +8,7 @@ use Rattle.sign_core.proofs.ChainParts.{key_chain}
 use Rattle.sign_core.proofs.CurrentChain.{has_free, leaf_inside, not_free, tree_stands}
 use Rattle.sign_core.proofs.Heights.{height_of_xmss}
 use Rattle.sign_core.proofs.Signs.{is_none}
-use Rattle.sign_core.proofs.key_trees.SecretTrees.check_current.Goals as goal
+use Rattle.sign_core.proofs.secret_trees.SecretTrees.check_current.Goals as goal
 
 pub unreachable-requires : goal.unreachable-requires
 unreachable-requires g c =
