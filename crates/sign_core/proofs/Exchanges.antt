@@ -29,7 +29,7 @@ use Rattle.sign_core.specs.inner.Serving.{Asks, Finishes}
 use Rattle.sign_core.specs.Serving.{AnswersBy, AnswersInTurn, AreFrames, Closes, Exchange, Serves, SettlesReply, SignsGiven, Turn}
 use Rattle.sign_core.specs.inner.Serving.{Turns, WritesReply, is_unread}
 use Rattle.sign_core.specs.Serving.{reply_bytes, reply_frame, reply_of}
-use Rattle.sign_core.specs.Signer.{IsRead, KeepsForRepeat, Signs, View, is_before_repeat, is_fault, state_of}
+use Rattle.sign_core.specs.Signer.{IsRead, IsSigner, KeepsForRepeat, Signs, View, is_before_repeat, is_fault, state_of}
 use Rattle.sign_core.specs.Signing.{KeepsCapacity}
 use Rattle.sign_core.specs.World.{Outcome}
 use Rattle.sign_core.proofs.InputReading.{IsPart, part_cut, part_done, reads_close, reads_none, reads_then}
@@ -55,6 +55,7 @@ pub record AnswersFrame {S R I : Type 0} (g : store.Ghosts S) (r : source.Ghosts
   pub room_kept : KeepsCapacity old.records capacity room
   pub answers : AnswersBy g r result.0 signature request old new capacity
   pub caches : SettlesReply result.0 request.name old new room
+  pub is_signer : IsSigner g new
 
 -- ---- heads
 
@@ -324,9 +325,10 @@ module _ {S R P M : Type 0} (g : store.Ghosts S) (r : source.Ghosts R) (p : mess
       (λ is. reported.unread (answered ∙ is)) (λ known none. sym answered ∙ reported.reported known none) says said finishes
 
   pub answered_frame : (reply : Reply) (whole : Bool) (room : ℕ) → left_of before < 2 ^ 32 → KeepsCapacity old.records capacity room
-      → SettlesReply reply name old new room → Asks g r p name old new before middle capacity signature reply
+      → SettlesReply reply name old new room → IsSigner g new
+      → Asks g r p name old new before middle capacity signature reply
       → Finishes p (is_unread reply) middle after whole → AnswersFrame g r m (name, left_of before) old new (input_of before) (input_of after) capacity room signature (reply, whole)
-  answered_frame Signed whole room bound kept settles (is_name, signs, repeat) finishes =
+  answered_frame Signed whole room bound kept settles signer (is_name, signs, repeat) finishes =
       let to = signed_to (Ok signature) false whole bound signs (λ is. absurd (cc)) (λ is. absurd (cc)) finishes in
       let request = request_of name (left_of before) to.text whole in
       record {
@@ -339,8 +341,9 @@ module _ {S R P M : Type 0} (g : store.Ghosts S) (r : source.Ghosts R) (p : mess
         room_kept = kept;
         answers = (is_name, signs_given g r p old new name before middle capacity (Ok signature) (given_message request) signs repeat to.given_is);
         caches = settles;
+        is_signer = signer;
       }
-  answered_frame (Refused e) whole room bound kept settles (is_name, signs, repeat) finishes =
+  answered_frame (Refused e) whole room bound kept settles signer (is_name, signs, repeat) finishes =
       let to = signed_to (Err e) (is_unread (Refused e)) whole bound signs (says_unread e) (is_said e) finishes in
       let request = request_of name (left_of before) to.text whole in
       record {
@@ -353,8 +356,9 @@ module _ {S R P M : Type 0} (g : store.Ghosts S) (r : source.Ghosts R) (p : mess
         room_kept = kept;
         answers = (is_name, signs_given g r p old new name before middle capacity (Err e) (given_message request) signs repeat to.given_is);
         caches = settles;
+        is_signer = signer;
       }
-  answered_frame BadName whole room bound kept settles (no_name, same, stays) finishes =
+  answered_frame BadName whole room bound kept settles signer (no_name, same, stays) finishes =
       let to : ReadTo m name (left_of before) false None (input_of before) (input_of after) whole =
       read_to p m input_of left_of is name false None before middle after (Err fault.Changed) false whole bound stays (λ is. absurd (cc)) (λ known none. absurd (cc))
       (λ is. absurd (cc)) (λ is. absurd (cc)) finishes in
@@ -368,6 +372,7 @@ module _ {S R P M : Type 0} (g : store.Ghosts S) (r : source.Ghosts R) (p : mess
         room_kept = kept;
         answers = (no_name, same);
         caches = settles;
+        is_signer = signer;
       }
 
 -- ---- the end of a message
@@ -417,6 +422,7 @@ answered_at g r m said name announced old new before after reader capacity room 
   room_kept = frame.room_kept;
   answers = frame.answers;
   caches = frame.caches;
+  is_signer = frame.is_signer;
 }
 
 -- ---- turns
@@ -458,7 +464,7 @@ taken_frame g r m found old new before middle after capacity room signature repl
       exchanges = exchange ∷ [];
       turn = turn_of exchange front frame.ending whole (subst (λ x. Spells head x front) said spelled) frame.comes;
       reads = reads_then m front request.message frame.ending before middle after reads frame.reads;
-      answers = (new, room, (frame.room_kept, frame.answers, frame.caches), (refl, refl));
+      answers = (new, room, (frame.room_kept, frame.answers, frame.caches, frame.is_signer), (refl, refl));
     }
   where
     pair_of : (a b : List ℕ) (x y : ℕ) → a ≡ b → x ≡ y → ◌≡◌ {A = List ℕ × ℕ} (a, x) (b, y)

@@ -46,6 +46,7 @@ pub mod Stops
 pub mod SoundChains
 pub mod Opened
 pub mod Calls
+pub mod ServedCalls
 pub mod SignerCalls
 pub mod Acknowledged
 pub mod Sound

@@ -45,5 +45,5 @@ pub exchanges_keep : {S R : Type 0} (g : store.Ghosts S) (r : source.Ghosts R) (
     → types_of_key (the_key old.records) ≡ Some spec → types_of_key (the_key new.records) ≡ Some spec
 exchanges_keep {S = S} {R = R} g r [] old new capacity after spec (same, room) types =
     ap (λ (w : View S R). types_of_key (the_key w.records)) same ∙ types
-exchanges_keep g r (first ∷ later) old new capacity after spec (next, room, (grows, answers, caches), rest) types =
+exchanges_keep g r (first ∷ later) old new capacity after spec (next, room, (grows, answers, caches, signer), rest) types =
     exchanges_keep g r later next new room after spec rest (reply_keeps g r first.reply first.signature first.request old next capacity spec answers types)

@@ -22,7 +22,7 @@ use Rattle.sign_core.specs.Frames.{CutsField, Ending, IsCut, IsFrame, IsWholeMes
 use Rattle.sign_core.specs.Frames.{ended, given_message, going, head}
 use Rattle.sign_core.specs.Caches.{Cached, HasAll, HasBegun}
 use Rattle.sign_core.specs.Records.{binding_at}
-use Rattle.sign_core.specs.Signer.{AnswersRequest, KeepsForRepeat, View, is_before_repeat, is_fault}
+use Rattle.sign_core.specs.Signer.{AnswersRequest, IsSigner, KeepsForRepeat, View, is_before_repeat, is_fault}
 use Rattle.sign_core.specs.Signing.{KeepsCaches, KeepsCapacity, LeavesCaches, MakesCaches, UnderKey}
 
 -- ---- replies
@@ -88,13 +88,15 @@ SettlesReply (Refused fault) name old new room =
     SettlesCaches old.records new.records (binding_at old.records name) old.cached new.cached room (Err fault)
 SettlesReply BadName name old new room = new.cached ≡ old.cached
 
--- The output keeps its capacity, which grows no further than the signature takes. The caches are settled.
+-- The output keeps its capacity, which grows no further than the signature takes. The caches are settled. The signer
+-- keeps its invariant.
 abbrev pub AnswersExchange : {S R : Type 0} → store.Ghosts S → source.Ghosts R → Exchange → (old new : View S R)
     → (capacity after : ℕ) → Type 0
 AnswersExchange g r exchange old new capacity after =
     KeepsCapacity old.records capacity after
     × AnswersBy g r exchange.reply exchange.signature exchange.request old new capacity
     × SettlesReply exchange.reply exchange.request.name old new after
+    × IsSigner g new
 
 abbrev pub AnswersInTurn : {S R : Type 0} → store.Ghosts S → source.Ghosts R → List Exchange → (old new : View S R)
     → (capacity after : ℕ) → Type 0

@@ -17,14 +17,17 @@ use Rattle.state_file.specs.declared.store.file_store.FileStore.{FileStore}
 use Rattle.state_file.specs.Disk.{MayLeave}
 use Rattle.state_file.specs.File.{HasNoKey}
 use Rattle.state_file.specs.FileStore.{FindsRecords, PreparesDisk, disk_of, disk_of_result}
+use Rattle.sign_core.specs.declared.fault.ServeFault.{ServeFault}
 use Rattle.sign_core.specs.declared.fault.SignFault.{SignFault}
 use Rattle.sign_core.specs.declared.fault.SignFault.TheVariants.{Moved, Stopped}
 use Rattle.sign_core.specs.declared.key.AnyPublic.{AnyPublic}
+use Rattle.sign_core.specs.declared.serving.Reply.{Reply}
+use Rattle.sign_core.specs.declared.serving.Reply.TheVariants.{BadName, Refused as RefusedReply, Signed}
 use Rattle.sign_core.specs.declared.source.Source as source
 use Rattle.sign_core.specs.Lives.{IsAtStart}
 use Rattle.sign_core.specs.Migration.{Migrates}
 use Rattle.sign_core.specs.Records.{binding_at, the_key}
-use Rattle.sign_core.specs.Serving.{SignsGiven}
+use Rattle.sign_core.specs.Serving.{Exchange, Serves, SignsGiven}
 use Rattle.sign_core.specs.Signer.{Creates, IsRead, IsSigner, KeepsForRepeat, Opens, OpensReplayed, Retires, Signs}
 use Rattle.sign_core.specs.Signer.{View, is_before_repeat, is_fault}
 use Rattle.sign_core.specs.Textbook.{public_of_key}
@@ -41,7 +44,7 @@ abbrev pub store_held : {S R : Type 0} → Holder S R → S
 store_held (without_signer store) = store
 store_held (with_signer view) = view.store
 
--- A signer keeps its invariant.
+-- A signer has its invariant, as `Signer::keeps_invariant` says.
 abbrev pub HoldsSigner : {S R : Type 0} → store.Ghosts S → Holder S R → Type 0
 HoldsSigner g (without_signer store) = Unit {0}
 HoldsSigner g (with_signer view) = IsSigner g view
@@ -135,6 +138,35 @@ RequestLaw {S} {R} {M} g r m = (old new : View S R) (name : List ℕ) (before la
     (answer : Result (List ℕ) SignFault) → Signs g r m old new name before later capacity answer
     → (IsSome (binding_at old.records name) → KeepsForRepeat old new (is_fault is_before_repeat answer))
     → IsRequest g r m old new name before later capacity answer
+
+-- ---- the requests of a serve
+
+-- what a reply hands out: after 0 the signature, for the request's text
+abbrev pub handed_of_reply : Reply → (name message signature : List ℕ) → List Handed
+handed_of_reply Signed name message signature = record { name = name; message = message; signature = signature } ∷ []
+handed_of_reply (RefusedReply fault) name message signature = []
+handed_of_reply BadName name message signature = []
+
+abbrev pub handed_of_exchanges : List Exchange → List Handed
+handed_of_exchanges [] = []
+handed_of_exchanges (exchange ∷ later) =
+    let request = exchange.request in
+    handed_of_reply exchange.reply request.name request.message exchange.signature ++ handed_of_exchanges later
+
+-- Exchanges are calls one after the other: of the requests whose names are names, since for others the signer isn't
+-- asked. These hand out the signatures of the replies, and no others.
+pub record AreCallsOf {S R : Type 0} (g : store.Ghosts S) (r : source.Ghosts R) (exchanges : List Exchange)
+    (old new : View S R) : Type 0 where
+  pub calls : List (SignerCall S R)
+  pub each : AreCallsFrom g r (with_signer old) calls
+  pub last : last_holder (with_signer old) calls ≡ with_signer new
+  pub handed : handed_of calls ≡ handed_of_exchanges exchanges
+
+-- So are the exchanges of each serve, by its contract.
+abbrev pub ServeLaw : {S R I : Type 0} → store.Ghosts S → source.Ghosts R → message.Ghosts I → Type 0
+ServeLaw {S} {R} {I} g r m = (old new : View S R) (before later : I) (contents left : Option (List ℕ))
+    (result : Result ℕ ServeFault) → (serves : Serves g r m old new before later contents left result)
+    → AreCallsOf g r serves.exchanges old new
 
 -- ---- lives of a disk
 

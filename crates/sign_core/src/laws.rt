@@ -27,7 +27,7 @@ ghost use Rattle.sign_core.specs.Moves.{MovesLaw};
 ghost use Rattle.sign_core.specs.NotEmpty.{NotEmptyLaw, RefusesWrongAnswers, RefusesWrongSigners};
 ghost use Rattle.sign_core.specs.Opened.{OpenedLaw};
 ghost use Rattle.sign_core.specs.RefusalOrder.{RefusalLaw};
-ghost use Rattle.sign_core.specs.Sessions.{RequestLaw};
+ghost use Rattle.sign_core.specs.Sessions.{RequestLaw, ServeLaw};
 ghost use Rattle.sign_core.specs.Signer.{View};
 ghost use Rattle.sign_core.specs.SignerCalls.{SignerLaw};
 ghost use Rattle.sign_core.specs.World.{Handed};
@@ -257,10 +257,12 @@ pub fn moves_law<D: Disk + Drop, E: Disk + Drop>()
 /// So all calls of one signer from its create or opening on, whatever they answer, are a chain of calls for
 /// `stopped_law`, and each of them lasts, as `lives_law` requires.
 ///
-/// `requests`: a call of `sign` is a request of `headline_law`, whose text its message gave to the end.
+/// `requests`: a call of `sign` is a request of `headline_law`, whose text its message gave to the end. `serves`: a
+/// serve is a chain of such requests, which hand out exactly the signatures of its replies.
 pub fn signer_law<S: Store, R: Source, M: Message>()
     ensures signer { SignerLaw S.Store R.Source M.Message }
     ensures requests { RequestLaw S.Store R.Source M.Message }
+    ensures serves { ServeLaw S.Store R.Source M.Message }
 {}
 
 /// The headline, of all calls over one store: creates, openings, signings, requests of a serve and retirings, one after
@@ -293,8 +295,9 @@ pub fn session_law<S: Store, R: Source, M: Message>()
 ///
 /// So it is, too, where the key was moved and the calls go on over the new disk, of all signatures of both (`moved`).
 /// They go on after an Ok. After any other answer, or a crash in the migration, they go on once all that a crash may
-/// leave at the new place has the key. The premises are the calls' own contracts. `specs/HeadlineOfCalls.antt` says it,
-/// and `specs/Sessions.antt` has the calls and the lives.
+/// leave at the new place has the key. The premises are the calls' own contracts, and the signer's invariant after each
+/// call (`Signer::keeps_invariant`). `specs/HeadlineOfCalls.antt` says it, and `specs/Sessions.antt` has the calls and
+/// the lives.
 pub fn headline_law<D: Disk + Drop, E: Disk + Drop, R: Source, M: Message>()
     ensures calls { HeadlineOfCalls D.Disk E.Disk ⟦<FileStore<D> as Store>⟧ R.Source }
     ensures moved { HeadlineOfMoved D.Disk E.Disk ⟦<FileStore<D> as Store>⟧ ⟦<FileStore<E> as Store>⟧ R.Source }

@@ -118,6 +118,8 @@ fn take_turn<S: Store, R: Source, I: Message, W: Write, P: TreeProgress>(
     };
     let name = head.name.as_slice();
     let reply = ask(signer, name, &mut message, signature, progress);
+    // For the prover: after each request the signer has its invariant.
+    signer.keeps_invariant();
     let is_whole = finish(&mut message, &reply);
     let written = write_answer(&message, writer, &reply, signature);
     let NextBytes { input, .. } = message;

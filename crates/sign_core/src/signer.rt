@@ -223,7 +223,7 @@ impl<S: Store, R: Source> Signer<S, R> {
     ghost use Rattle.sign_core.specs.Textbook.{public_of_key};
     ghost use Rattle.sign_core.specs.inner.Signer.{Adds, HoldsParts, AreBottomLeaves};
     ghost use Rattle.sign_core.specs.Signer.{Creates, Opens, OpensReplayed, Retires, is_before_caches};
-    ghost use Rattle.sign_core.specs.Signer.{is_before_repeat};
+    ghost use Rattle.sign_core.specs.Signer.{IsSigner, is_before_repeat};
     ghost use Rattle.sign_core.specs.Signing.{is_unprepared};
     ghost use Rattle.sign_core.specs.Ledger.{TakesMemory};
     ghost use Rattle.state_file.specs.Slot.{FitsVersion, file_version};
@@ -337,6 +337,17 @@ impl<S: Store, R: Source> Signer<S, R> {
                 given: (store, random),
             }),
         }
+    }
+
+    /// A signer keeps its invariant, whatever its calls answer. Its records are legal. While it is open they are its
+    /// store's, which runs; where it is closed its store has stopped.
+    ///
+    /// It does nothing. Chains of calls (`headline_law`) have this of the signer after each call.
+    pub fn keeps_invariant(&self)
+        ensures { IsSigner S.Store self.now }
+    {
+        // For the prover: reading a field shows the invariant.
+        let _ = &self.store;
     }
 
     /// The types of the key's trees.

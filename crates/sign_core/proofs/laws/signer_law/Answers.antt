@@ -1,4 +1,5 @@
 use Rattle.sign_core.proofs.laws.signer_law.Goals as goal
+use Rattle.sign_core.proofs.ServedCalls.{serve_law}
 use Rattle.sign_core.proofs.Sessions.{request_law}
 use Rattle.sign_core.proofs.SignerCalls.{signer_law}
 
@@ -8,3 +9,6 @@ returns-clause-signer c = λ call.
 
 pub returns-clause-requests : goal.returns-clause-requests
 returns-clause-requests c = λ call. request_law c.S.Store c.R.Source c.M.Message
+
+pub returns-clause-serves : goal.returns-clause-serves
+returns-clause-serves c = λ call. serve_law c.S.Store c.R.Source c.M.Message

@@ -28,7 +28,8 @@ returns-in_err-written g c =
     let finished = finish_stays (record { remaining = _; transition = _; request = λ old room outcome new. Unit {0} }) (λ part. part.input.ghost_name)
     (λ old outcome new step. step.0) _ _ _ _ c.finish-is_whole.ensures in
     let part = answered_frame g.S.Store g.R.Source _ g.I.Message (λ part. part.input.now) (λ part. part.left) (record { part = λ old outcome new step. step.1 })
-    _ _ _ _ _ _ _ _ c.ask-reply.result c.finish-is_whole.result _ (search rules) c.ask-reply.ensures.capacity c.ask-reply.ensures.caches c.ask-reply.ensures.asks c.finish-is_whole.ensures in
+    _ _ _ _ _ _ _ _ c.ask-reply.result c.finish-is_whole.result _ (search rules) c.ask-reply.ensures.capacity c.ask-reply.ensures.caches
+    c.keeps_invariant.ensures c.ask-reply.ensures.asks c.finish-is_whole.ensures in
     let frame = answered_at g.S.Store g.R.Source g.I.Message (head_fields c.in-Ok-Some.head) _ _ _ _ _ c.finish-is_whole.new.message.input.now _ _ _ _ _
     c.as_slice-name.ensures.value refl (search rules) part in
     frame_lost g.S.Store g.R.Source g.I.Message c.in-Ok-Some.head _ _ _ _ _ _ _ _ c.ask-reply.new.signature.items c.ask-reply.result
@@ -44,7 +45,8 @@ returns-then-not-is_whole g c =
     let finished = finish_stays (record { remaining = _; transition = _; request = λ old room outcome new. Unit {0} }) (λ part. part.input.ghost_name)
     (λ old outcome new step. step.0) _ _ _ _ c.finish-is_whole.ensures in
     let part = answered_frame g.S.Store g.R.Source _ g.I.Message (λ part. part.input.now) (λ part. part.left) (record { part = λ old outcome new step. step.1 })
-    _ _ _ _ _ _ _ _ c.ask-reply.result c.finish-is_whole.result _ (search rules) c.ask-reply.ensures.capacity c.ask-reply.ensures.caches c.ask-reply.ensures.asks c.finish-is_whole.ensures in
+    _ _ _ _ _ _ _ _ c.ask-reply.result c.finish-is_whole.result _ (search rules) c.ask-reply.ensures.capacity c.ask-reply.ensures.caches
+    c.keeps_invariant.ensures c.ask-reply.ensures.asks c.finish-is_whole.ensures in
     let frame = answered_at g.S.Store g.R.Source g.I.Message (head_fields c.in-Ok-Some.head) _ _ _ _ _ c.finish-is_whole.new.message.input.now _ _ _ _ _
     c.as_slice-name.ensures.value refl (search rules) part in
     frame_cut g.S.Store g.R.Source g.I.Message c.in-Ok-Some.head _ _ _ _ _ _ _ _ c.ask-reply.new.signature.items c.ask-reply.result
@@ -60,7 +62,8 @@ returns g c =
     let finished = finish_stays (record { remaining = _; transition = _; request = λ old room outcome new. Unit {0} }) (λ part. part.input.ghost_name)
     (λ old outcome new step. step.0) _ _ _ _ c.finish-is_whole.ensures in
     let part = answered_frame g.S.Store g.R.Source _ g.I.Message (λ part. part.input.now) (λ part. part.left) (record { part = λ old outcome new step. step.1 })
-    _ _ _ _ _ _ _ _ c.ask-reply.result c.finish-is_whole.result _ (search rules) c.ask-reply.ensures.capacity c.ask-reply.ensures.caches c.ask-reply.ensures.asks c.finish-is_whole.ensures in
+    _ _ _ _ _ _ _ _ c.ask-reply.result c.finish-is_whole.result _ (search rules) c.ask-reply.ensures.capacity c.ask-reply.ensures.caches
+    c.keeps_invariant.ensures c.ask-reply.ensures.asks c.finish-is_whole.ensures in
     let frame = answered_at g.S.Store g.R.Source g.I.Message (head_fields c.in-Ok-Some.head) _ _ _ _ _ c.finish-is_whole.new.message.input.now _ _ _ _ _
     c.as_slice-name.ensures.value refl (search rules) part in
     frame_goes g.S.Store g.R.Source g.I.Message c.in-Ok-Some.head _ _ _ _ _ _ _ _ c.ask-reply.new.signature.items c.ask-reply.result
