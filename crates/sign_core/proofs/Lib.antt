@@ -78,6 +78,7 @@ pub mod Lives
 pub mod Unbound
 pub mod Answered
 pub mod Damage
+pub mod Left
 pub mod RefusalOrder
 pub mod Reported
 pub mod InputReading

@@ -29,6 +29,7 @@ pub mod Sessions
 pub mod HeadlineOfCalls
 pub mod BoundNames
 pub mod NotEmpty
+pub mod Left
 pub mod RefusalOrder
 pub mod AfterRefusal
 pub mod Caches

@@ -18,6 +18,7 @@ ghost use Rattle.sign_core.specs.Headline.{HeadlineLaw, IsBoundTo, IsValidUnder}
 ghost use Rattle.sign_core.specs.HeadlineOfCalls.{HeadlineOfCalls, HeadlineOfMoved, SessionLaw};
 ghost use Rattle.sign_core.specs.Key.{KeyVerdict};
 ghost use Rattle.sign_core.specs.Lasting.{LastingLaw};
+ghost use Rattle.sign_core.specs.Left.{LeftLaw};
 ghost use Rattle.sign_core.specs.Once.{OnceLaw};
 ghost use Rattle.sign_core.specs.Sound.{SoundLaw};
 ghost use Rattle.sign_core.specs.AfterRefusal.{AfterRefusalLaw};
@@ -320,6 +321,18 @@ pub fn bound_law<D: Disk + Drop, E: Disk + Drop, R: Source, M: Message>()
     signer_law::<FileStore<D>, R, M>();
     signer_law::<FileStore<E>, R, M>();
 }
+
+/// `left` counts the signatures that are still to be had, for each request to `sign` or to a serve.
+///
+/// A free leaf of the bottom level signs a name, and one above it a new tree of the next level with all of its leaves.
+/// `signatures_left` in `specs/Left.antt` adds up the counts that `Signer::left` gives in this way.
+///
+/// - A new name that a file of the key's version can hold is answered 22 exactly where the sum is 0.
+/// - A new name that is signed takes one, also where new trees are made for it.
+/// - A refused name takes none, and neither does a bound one.
+pub fn left_law<S: Store, R: Source>()
+    ensures left { LeftLaw S.Store R.Source }
+{}
 
 /// Signatures are handed out: the laws over all runs aren't empty.
 ///

@@ -62,7 +62,7 @@ pub use crate::fault::{ServeFault, SignFault};
 pub use crate::key::{AnyPublic, KeyFault, verify_any};
 pub use crate::laws::{
     after_refusal_law, bound_law, calls_law, cut_law, headline_law, lasting_law, ledger_laws,
-    lives_law, moves_law, not_empty_law, once_law, opened_law, refusal_law, session_law,
+    left_law, lives_law, moves_law, not_empty_law, once_law, opened_law, refusal_law, session_law,
     signer_law, sound_law, stop_law, stopped_law, textbook_laws, wrong_signers_law,
 };
 pub use crate::ledger::{Ledger, LedgerFault};
