@@ -1,9 +1,11 @@
 -- For every spec some run of the world hands out a signature, and the headline's clauses are false of wrong signers.
 use Rattle.std.proofs.Common.{◌≡◌, ◌≢◌, ◌∙◌, refl, sym, ap, subst, ℕ, zero, suc, ◌+◌, ◌-◌, ◌<◌, ◌≤◌, inl, inr, true, List, [], ◌∷◌, ◌++◌, length}
 use Rattle.std.proofs.Common.{Option, Some, None, Result, Ok, Err, replicate, arith, get_or, false, true≢false}
+use Rattle.std.proofs.Common.{append-nil, length-append, take}
 use Rattle.std.specs.Prelude.{slice_get, Contains}
-use Rattle.std.specs.List.{AllByRecursion}
-use Rattle.std.proofs.lemmas.Bool.{cases_order}
+use Rattle.std.specs.List.{AllByRecursion, concat}
+use Rattle.std.specs.Option.{option_to_list}
+use Rattle.std.proofs.lemmas.Bool.{cases_lt, cases_order}
 use Rattle.std.proofs.lemmas.List.{get_or-replicate, get_or_past, length-replicate}
 use Rattle.std.proofs.lemmas.Option.{none-some, same_Some, slice_get_within}
 use Rattle.typecodes.specs.declared.spec.Spec.{Spec}
@@ -16,30 +18,42 @@ use Rattle.state_file.specs.Slot.{name_most}
 use Rattle.state_file.specs.declared.record.Extend.{Extend}
 use Rattle.state_file.specs.declared.record.Key.{Key}
 use Rattle.state_file.specs.declared.record.Record.{Record}
-use Rattle.state_file.specs.declared.record.Record.TheVariants.{Extend as ExtendRecord, Key as KeyRecord}
+use Rattle.state_file.specs.declared.record.Record.TheVariants.{Bound as BoundRecord, Extend as ExtendRecord, Key as KeyRecord}
 use Rattle.state_file.specs.declared.record.Secret.{Secret}
 use Rattle.state_file.specs.declared.record.Secret.TheVariants.{Lms, Hss, Xmss}
 use Rattle.state_file.specs.declared.record.Version.{Version}
+use Rattle.state_file.specs.Disk.{Counts, LeavesOnly}
 use Rattle.sign_core.specs.declared.key.AnyPublic.{AnyPublic}
 use Rattle.sign_core.specs.declared.fault.SignFault.{SignFault}
 use Rattle.sign_core.specs.declared.fault.SignFault.TheVariants.{Changed, Exhausted, MessageRead, OutOfMemory, RandomRepeated, Stopped}
 use Rattle.sign_core.specs.declared.fault.SignFault.TheVariants.{Moved as MovedAway}
 use Rattle.sign_core.specs.AfterRefusal.{LeavesRecords, LeavesRequested}
-use Rattle.sign_core.specs.Events.{AreFields, key_sizes, randomizer_sizes, tree_sizes}
+use Rattle.sign_core.specs.declared.source.Source as source
+use Rattle.sign_core.specs.Source.{Provides}
+use Rattle.sign_core.specs.Cuts.{IsBeginning, reached}
+use Rattle.sign_core.specs.Events.{AllEvents, AreDrawsOf, AreFields, key_sizes, randomizer_sizes, tree_sizes}
 use Rattle.sign_core.specs.HeadlineOfCalls.{AnswersAgain, BottomDigests}
-use Rattle.sign_core.specs.NotEmpty.{IsSignedInRun, NotEmptyLaw, RefusesWrongAnswers, RefusesWrongSigners}
+use Rattle.sign_core.specs.NotEmpty.{InMemory, IsSignedByCalls, IsSignedInRun, NotEmptyLaw, NotEmptyOfCalls, RefusesWrongAnswers}
+use Rattle.sign_core.specs.NotEmpty.{RefusesWrongSigners, in_memory, without_records}
 use Rattle.sign_core.specs.Once.{IsOnce}
-use Rattle.sign_core.specs.Records.{deepest, free_at, has_moved}
-use Rattle.sign_core.specs.Requests.{AreComplete, IsComplete}
-use Rattle.sign_core.specs.Signer.{View}
+use Rattle.sign_core.specs.Progress.{types_of_key}
+use Rattle.sign_core.specs.Records.{deepest, free_at, has_moved, the_key, types_of}
+use Rattle.sign_core.specs.Requests.{AreComplete, IsComplete, IsSigned}
+use Rattle.sign_core.specs.Serving.{SignsGiven}
+use Rattle.sign_core.specs.Signer.{Creates, IsSigner, KeepsStore, RefusesMemory, View, is_store_failed}
 use Rattle.sign_core.specs.SignerCalls.{world_of}
-use Rattle.sign_core.specs.Textbook.{lms_secret}
-use Rattle.sign_core.specs.World.{Chance, Creation, Draw, Handed, Outcome, World, acked, after, beginning, create, new_key, open_state}
+use Rattle.sign_core.specs.Textbook.{lms_secret, textbook_signature}
+use Rattle.sign_core.specs.World.{Chance, Creation, Draw, Handed, Outcome, State, World, acked, after, answered, beginning, create, drawing}
+use Rattle.sign_core.specs.World.{new_key, open_state}
 use Rattle.sign_core.specs.World.{request, requested, secret_of_fields}
+use Rattle.sign_core.proofs.Acknowledged.{open_acknowledged}
 use Rattle.sign_core.proofs.AfterRefusal.{after_refusal_law}
+use Rattle.sign_core.proofs.Append.{take_of_longer}
 use Rattle.sign_core.proofs.Bindings.{identifier_stands}
+use Rattle.sign_core.proofs.Events.{kept_by_run}
 use Rattle.sign_core.proofs.Leaves.{none_free}
 use Rattle.sign_core.proofs.Lives.{no_run, run_once}
+use Rattle.sign_core.proofs.OnceKept.{IsKept, sound_with}
 use Rattle.sign_core.proofs.Requests.{free_anew}
 
 -- ---- fields of one byte
@@ -123,6 +137,12 @@ levels_made (LmsSpec pair) can = (omega arith, omega arith)
 levels_made (HssSpec levels) can = can
 levels_made (XmssSpec tree) can = (omega arith, omega arith)
 
+types_made : (spec : Spec) → types_of (made_secret spec) ≡ spec
+unfolding made_secret
+types_made (LmsSpec pair) = refl
+types_made (HssSpec levels) = refl
+types_made (XmssSpec tree) = refl
+
 bound_draw : Spec → Draw
 bound_draw (LmsSpec pair) = record { fields = replicate 32 0 ∷ []; fate = acked }
 bound_draw (HssSpec levels) = record { fields = replicate 32 0 ∷ []; fate = acked }
@@ -204,6 +224,60 @@ stands_not spec version count begun (suc j) left entry identifier are longer at 
     let within : j < length are.trees = slice_get_within are.trees j entry there in
     omega (arith, same, within, longer, ap length are.are)
 
+-- what is drawn, for XMSS without a C
+bound_drawn_of : (spec : Spec) → AreFields (randomizer_sizes (made_secret spec)) (bound_draw spec).fields
+unfolding bound_draw made_secret
+bound_drawn_of (LmsSpec pair) = (length-replicate {A = ℕ} 32 0, same_bytes 32 0 (omega arith), tt)
+bound_drawn_of (HssSpec levels) = (length-replicate {A = ℕ} 32 0, same_bytes 32 0 (omega arith), tt)
+bound_drawn_of (XmssSpec tree) = tt
+
+-- ---- a store in memory
+
+abbrev in_store : List Record → (most : ℕ) → (loads : List ℕ) → InMemory
+in_store records most loads = record { records = records; most = most; loads = loads }
+
+abbrev view_on : {R : Type 0} → (random : R) → (most : ℕ) → List Record → View InMemory R
+view_on random most records = record {
+  store = in_store records most (0 ∷ []);
+  random = random;
+  records = records;
+  is_open = true;
+  spare = 9;
+  cached = record { levels = []; xmss = None };
+}
+
+memory_leaves : (old more all : List Record) (most : ℕ) (loads later : List ℕ) → all ≡ old ++ more
+    → LeavesOnly in_memory.moment in_memory.left_since (in_store old most loads) (in_store (old ++ more) most later)
+    (IsBeginning (length old) all)
+memory_leaves old more all most loads later is =
+    let longer : length old ≤ length (old ++ more) = omega (arith, length-append old more) in
+    record {
+      later = longer;
+      each = λ left (k, enough, within, same). record { count = k; enough = enough; beginning = same ∙ ap (take k) (sym is) };
+      before = λ t left early (k, enough, within, same). elim (cases_lt k (length old)) [
+        | inl below ↦ inl (k, enough, omega (arith, below), same ∙ take_of_longer old more k (omega (arith, below)))
+        | inr beyond ↦ inr (record { count = k; enough = beyond; beginning = same ∙ ap (take k) (sym is) })
+      ];
+      keeps = λ t left early (k, enough, within, same).
+          (k, enough, omega (arith, within, longer), same ∙ sym (take_of_longer old more k within));
+    }
+
+signer_on : {R : Type 0} (random : R) (most : ℕ) (records : List Record) (handed : List Handed) (key : Key) → IsKept records handed
+    → the_key records ≡ Some key → IsSigner in_memory (view_on random most records)
+signer_on random most records handed key kept keyed =
+    let sound = sound_with records handed key kept keyed in
+    record {
+      legal = sound.legal;
+      sizes = kept.sizes;
+      tied = λ opened. record { running = refl; same_length = refl; same = λ honest. refl };
+      shut = λ closed. absurd (true≢false closed);
+    }
+
+-- a source whose next bytes aren't known gives any
+gives_unknown : (upcoming : Option (List ℕ)) (bytes : List ℕ) → upcoming ≡ None → Provides upcoming bytes upcoming
+gives_unknown None bytes is = refl
+gives_unknown (Some known) bytes is = absurd (none-some known (sym is))
+
 -- ---- the run
 
 module _ (spec : Spec) (version : Version) (name message : List ℕ) (limit : ℕ) (can : IsSpec spec) where
@@ -263,35 +337,244 @@ module _ (spec : Spec) (version : Version) (name message : List ℕ) (limit : �
       stands_not spec version below drew.begun k outcome.state.records entry drew.identifier begun drew.longer at own
       (fields_head (1 + drew.begun) drew.draw drew.identifier drew.later made drew.fields)
 
-  by_answer : (below : ℕ) (signature : List ℕ) → IsName name → below ≤ 8
-      → (requested limit first_world.state name (chance_for below)).answer ≡ Ok signature → IsSignedInRun limit name message
-  unfolding chance_for
-  by_answer below signature named few is =
-      let chance = chance_for below in
-      let x : Handed = record { name = name; message = message; signature = signature } in
-      record {
-        events = create spec creation ∷ request name chance ∷ [];
-        possible = ((can, unfolded_drawn), ((named, record { trees = are_tree_draws below 1 (omega (arith, few)); bound = bound_drawn spec }), tt));
-        signature = signature;
-        handed = subst (λ (w : World). Contains (after limit w (request name chance)).handed x) (sym leads_first)
-            (first_once.requests.counted name message signature chance refl is);
-      }
+  abbrev NewSigned : (level : ℕ) → Type 0
+  NewSigned level =
+      let chance = chance_for (bottom_of (made_secret spec) - level) in
+      IsSigned key (KeyRecord key ∷ []) level name message chance (requested limit first_world.state name chance)
 
-  signed_in_run : IsName name → length name ≤ name_most version → 9 ≤ limit → IsSignedInRun limit name message
+  signed_new : length name ≤ name_most version → 9 ≤ limit → (level : ℕ) × NewSigned level
   unfolding chance_for key first_world
-  signed_in_run named short large =
+  signed_new short large =
       let (level, level_is) = deepest_found (deepest (made_secret spec) (KeyRecord key ∷ [])) refl in
       let below = bottom_of (made_secret spec) - level in
-      let chance = chance_for below in
       let few = (levels_made spec can).1 in
-      let answers = first_once.requests.fresh key level name message chance refl refl refl refl short level_is (omega (arith, few, large)) refl (complete below) in
-      elim answers as (λ u. IsSignedInRun limit name message) [
+      let answers = first_once.requests.fresh key level name message (chance_for below) refl refl refl refl short level_is
+      (omega (arith, few, large)) refl (complete below) in
+      elim answers as (λ u. (level : ℕ) × NewSigned level) [
         | inl again ↦ absurd (not_again below again)
-        | inr signed ↦ by_answer below _ named (omega (arith, few)) signed.answer
+        | inr signed ↦ (level, signed)
       ]
+
+  -- ---- the calls
+
+  creates_in : {R : Type 0} (r : source.Ghosts R) (random : R) → r.upcoming random ≡ None
+      → Creates in_memory r version spec (without_records limit) random (Ok (view_on random limit (KeyRecord key ∷ [])))
+  unfolding key creation
+  creates_in r random unknown =
+      let begins = (run_once limit beginning (no_run limit beginning)).openings.begins spec (made_secret spec) creation can refl refl (is_made spec) refl refl in
+      record {
+        chance = creation;
+        of_version = refl;
+        outcome = drawing (concat creation.fields) (answered (open_state (KeyRecord key ∷ [])) begins.public);
+        step = begins.begins;
+        answer = (begins.public, refl, begins.is_public, refl, refl);
+        store = record {
+          list = record { more = KeyRecord key ∷ []; list = refl; records = refl };
+          moments = λ honest running. memory_leaves [] (KeyRecord key ∷ []) (KeyRecord key ∷ []) limit [] (0 ∷ []) refl;
+          failures = refl;
+          honest = refl;
+          most = refl;
+        };
+        stopped = refl;
+        load = refl;
+        possible = key_drawn spec;
+        source = gives_unknown (r.upcoming random) _ unknown;
+        leaves = tt;
+        failures = refl;
+        room = refl;
+        refusals = refl;
+        unreadable = refl;
+        asked = refl;
+        stays = λ stopped. absurd (true≢false (sym stopped));
+      }
+
+  module _ (level : ℕ) (signed : NewSigned level) where
+    chance : Chance
+    chance = chance_for (bottom_of (made_secret spec) - level)
+
+    signature : List ℕ
+    signature = textbook_signature key ((KeyRecord key ∷ []) ++ signed.trees ++ BoundRecord signed.bound ∷ [])
+        (length ((KeyRecord key ∷ []) ++ signed.trees)) signed.bound
+
+    more : List Record
+    more = signed.trees ++ BoundRecord signed.bound ∷ []
+
+    outcome : Outcome (List ℕ)
+    outcome = requested limit (open_state (KeyRecord key ∷ [])) name chance
+
+    state_is : outcome.state ≡ open_state ((KeyRecord key ∷ []) ++ more)
+    unfolding outcome more chance first_world
+    state_is = signed.state
+
+    answer_is : outcome.answer ≡ Ok signature
+    unfolding outcome signature chance first_world
+    answer_is = signed.answer
+
+    uncut : outcome.failed ≡ None
+    unfolding outcome chance first_world
+    uncut = signed.uncut
+
+    acknowledged_is : outcome.acknowledged ≡ (KeyRecord key ∷ []) ++ more
+    unfolding outcome
+    acknowledged_is =
+        open_acknowledged limit (world_of (open_state (KeyRecord key ∷ [])) []) (request name chance)
+        (ap (λ (s : State). s.is_open) state_is) ∙ ap (λ (s : State). s.records) state_is
+
+    reached_is : reached outcome ≡ (KeyRecord key ∷ []) ++ more
+    reached_is = ap (λ failed. outcome.acknowledged ++ option_to_list failed) uncut
+        ∙ append-nil outcome.acknowledged ∙ acknowledged_is
+
+    longer : 1 < length ((KeyRecord key ∷ []) ++ more)
+    unfolding more
+    longer = omega (arith, length-append signed.trees (BoundRecord signed.bound ∷ []))
+
+    abbrev before : {R : Type 0} → R → View InMemory R
+    before random = view_on random limit (KeyRecord key ∷ [])
+
+    abbrev after_it : {R : Type 0} → R → View InMemory R
+    after_it random = view_on random limit ((KeyRecord key ∷ []) ++ more)
+
+    keeps_store : KeepsStore in_memory (in_store (KeyRecord key ∷ []) limit (0 ∷ [])) (in_store ((KeyRecord key ∷ []) ++ more) limit (0 ∷ []))
+        (KeyRecord key ∷ []) outcome
+    keeps_store = record {
+      list = record { more = more; list = refl; records = ap (λ (s : State). s.records) state_is };
+      moments = λ honest running. memory_leaves (KeyRecord key ∷ []) more (reached outcome) limit (0 ∷ []) (0 ∷ []) reached_is;
+      failures = subst (Counts is_store_failed 0 0) (sym answer_is) refl;
+      honest = refl;
+      most = refl;
+    }
+
+    possible : AreDrawsOf (made_secret spec) chance
+    unfolding chance chance_for
+    possible = record {
+      trees = are_tree_draws (bottom_of (made_secret spec) - level) 1 (let few = (levels_made spec can).1 in omega (arith, few));
+      bound = bound_drawn_of spec;
+    }
+
+    has_room : chance.has_room ≡ true
+    unfolding chance chance_for
+    has_room = refl
+
+    given_is : chance.given ≡ Some message
+    unfolding chance chance_for
+    given_is = refl
+
+    of_key : key.secret ≡ made_secret spec
+    unfolding key
+    of_key = refl
+
+    signs_in : {R : Type 0} (r : source.Ghosts R) (random : R) → r.upcoming random ≡ None
+        → SignsGiven in_memory r (before random) (after_it random) name (Some message) 0 (Ok signature)
+    unfolding outcome
+    signs_in r random unknown = record {
+      answers = record {
+        key = key;
+        keyed = refl;
+        chance = chance;
+        outcome = outcome;
+        step = refl;
+        ends = record {
+          answer_is = answer_is;
+          records = sym acknowledged_is;
+          is_open = sym (ap (λ (s : State). s.is_open) state_is);
+          store = keeps_store;
+          unreadable = refl;
+          asked = refl;
+        };
+        possible = subst (λ s. AreDrawsOf s chance) (sym of_key) possible;
+        source = gives_unknown (r.upcoming random) outcome.drawn unknown;
+        failures = refl;
+        room = λ none. absurd (true≢false (sym has_room ∙ none));
+        refusals = subst (λ room. RefusesMemory {A = List ℕ} room (Ok signature) 0 0) (sym has_room) (inl refl);
+        memory = omega (arith, longer);
+        keeps = record {
+          at_once = λ is. absurd (true≢false (sym is));
+          caches = λ is. refl;
+          unprepared = λ none. absurd (true≢false (sym has_room ∙ none));
+          lacks_tree = λ room is same. absurd (cc);
+          store = λ same quiet. absurd (omega (arith, longer, ap length same));
+        };
+      };
+      message = λ is. given_is;
+      repeat = λ bound. absurd (cc);
+    }
+
+    possible_events : IsName name → AllEvents (create spec creation ∷ request name chance ∷ [])
+    unfolding chance chance_for
+    possible_events named = (
+      (can, unfolded_drawn),
+      (
+        (
+          named,
+          record {
+            trees = are_tree_draws (bottom_of (made_secret spec) - level) 1 (let few = (levels_made spec can).1 in omega (arith, few));
+            bound = bound_drawn spec;
+          },
+        ),
+        tt,
+      ),
+    )
+
+    kept_first : IsKept (KeyRecord key ∷ []) []
+    unfolding first_world
+    kept_first = subst (λ (w : World). IsKept w.state.records w.handed) leads_first
+        (kept_by_run limit (create spec creation ∷ []) ((can, unfolded_drawn), tt))
+
+    kept_then : IsName name → (handed : List Handed) × IsKept ((KeyRecord key ∷ []) ++ more) handed
+    unfolding outcome first_world
+    kept_then named =
+        let kept = subst (λ (w : World). IsKept (after limit w (request name chance)).state.records (after limit w (request name chance)).handed)
+        leads_first (kept_by_run limit (create spec creation ∷ request name chance ∷ []) (possible_events named)) in
+        (_, subst (λ (s : State). IsKept s.records (after limit first_world (request name chance)).handed) state_is kept)
+
+    key_typed : types_of_key (Some key) ≡ Some spec
+    unfolding key
+    key_typed = ap Some (types_made spec)
+
+    in_run : IsName name → IsSignedInRun limit spec name message
+    unfolding outcome first_world
+    in_run named =
+        let event = request name chance in
+        let x : Handed = record { name = name; message = message; signature = signature } in
+        record {
+          events = create spec creation ∷ event ∷ [];
+          possible = possible_events named;
+          of_spec = subst (λ (w : World). types_of_key (the_key (after limit w event).state.records) ≡ Some spec) (sym leads_first)
+              (ap (λ (s : State). types_of_key (the_key s.records)) state_is ∙ key_typed);
+          signature = signature;
+          handed = subst (λ (w : World). Contains (after limit w event).handed x) (sym leads_first)
+              (first_once.requests.counted name message signature chance given_is answer_is);
+        }
+
+    by_calls : {R : Type 0} (r : source.Ghosts R) (random : R) → IsName name → r.upcoming random ≡ None
+        → IsSignedByCalls r random spec version name message limit
+    by_calls r random named unknown =
+        let (handed, kept) = kept_then named in
+        record {
+          made = before random;
+          new = after_it random;
+          signature = signature;
+          calls = (
+            (can, creates_in r random unknown),
+            signer_on random limit (KeyRecord key ∷ []) [] key kept_first refl,
+            ((named, signs_in r random unknown), signer_on random limit ((KeyRecord key ∷ []) ++ more) handed key kept refl, tt),
+          );
+        }
+
+  signed_in_run : IsName name → length name ≤ name_most version → 9 ≤ limit → IsSignedInRun limit spec name message
+  signed_in_run named short large = let (level, signed) = signed_new short large in in_run level signed named
+
+  signed_by_calls : {R : Type 0} (r : source.Ghosts R) (random : R) → IsName name → length name ≤ name_most version → 9 ≤ limit
+      → r.upcoming random ≡ None → IsSignedByCalls r random spec version name message limit
+  signed_by_calls r random named short large unknown =
+      let (level, signed) = signed_new short large in by_calls level signed r random named unknown
 
 pub not_empty_law : NotEmptyLaw
 not_empty_law spec version name message limit can named short large = signed_in_run spec version name message limit can named short large
+
+pub not_empty_of_calls : {R : Type 0} (r : source.Ghosts R) → NotEmptyOfCalls r
+not_empty_of_calls r random spec version name message limit can named short large unknown =
+    signed_by_calls spec version name message limit can r random named short large unknown
 
 -- ---- wrong signers
 

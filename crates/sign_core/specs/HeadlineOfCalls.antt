@@ -1,6 +1,6 @@
 -- The headline, of the calls that were made, whatever they answered: creates, openings, signings, requests of a serve
 -- and retirings over a disk that keeps what was synced, in all its lives, with crashes between calls and inside them;
--- and migrations. That some run of the world hands out a signature stands in `NotEmpty.antt`, what requests get under
+-- and migrations. That some runs and some calls hand out a signature stands in `NotEmpty.antt`, what requests get under
 -- names that a crash left bound in `BoundNames.antt`.
 --
 -- | words | field or premise | definition |

@@ -25,7 +25,7 @@ ghost use Rattle.sign_core.specs.AfterRefusal.{AfterRefusalLaw};
 ghost use Rattle.sign_core.specs.Calls.{CallsLaw, StoppedLaw};
 ghost use Rattle.sign_core.specs.Lives.{LivesLaw};
 ghost use Rattle.sign_core.specs.Moves.{MovesLaw};
-ghost use Rattle.sign_core.specs.NotEmpty.{NotEmptyLaw, RefusesWrongAnswers, RefusesWrongSigners};
+ghost use Rattle.sign_core.specs.NotEmpty.{NotEmptyLaw, NotEmptyOfCalls, RefusesWrongAnswers, RefusesWrongSigners};
 ghost use Rattle.sign_core.specs.Opened.{OpenedLaw};
 ghost use Rattle.sign_core.specs.RefusalOrder.{RefusalLaw};
 ghost use Rattle.sign_core.specs.Sessions.{RequestLaw, ServeLaw};
@@ -337,9 +337,11 @@ pub fn left_law<S: Store, R: Source>()
 /// Signatures are handed out: the laws over all runs aren't empty.
 ///
 /// For every spec, and any name that a file of the key's version can hold, some run of the world hands out a signature
-/// under this name, for any message: a create, and then the request. The store takes nine records.
-pub fn not_empty_law()
+/// under this name, for any message: a create, and then the request. The store takes nine records. So do two calls by
+/// their contracts, over a store in memory and any source whose next bytes aren't known (`calls`).
+pub fn not_empty_law<R: Source>()
     ensures runs { NotEmptyLaw }
+    ensures calls { NotEmptyOfCalls R.Source }
 {}
 
 /// The headline's clauses are false of signers that go wrong, whatever their contracts are.
