@@ -1,17 +1,21 @@
 -- What records show doesn't depend on their secrets.
 use Rattle.std.proofs.Common.{◌≡◌, ◌∙◌, ℕ, zero, suc, ◌+◌, ◌-◌, List, [], ◌∷◌, Option, Some, None, refl, ap, ap₂, sym, map, take}
-use Rattle.std.specs.Prelude.{fold, max, if◌then◌else◌, is_some}
+use Rattle.std.proofs.Common.{Bool, length}
+use Rattle.std.specs.Prelude.{fold, max, if◌then◌else◌, is_some, option_map, slice_get}
 use Rattle.std.specs.List.{range_with_len}
-use Rattle.std.proofs.lemmas.List.{take-map}
+use Rattle.std.proofs.lemmas.List.{length-map, take-map}
+use Rattle.std.proofs.lemmas.Option.{none-some, same_Some, slice_get-map}
 use Rattle.state_file.specs.declared.record.Key.{Key}
 use Rattle.state_file.specs.declared.record.Record.{Record}
 use Rattle.state_file.specs.declared.record.Record.TheVariants as entry
 use Rattle.state_file.specs.declared.record.Secret.{Secret}
 use Rattle.state_file.specs.declared.record.Secret.TheVariants.{Lms, Hss, Xmss}
-use Rattle.state_file.specs.Laws.{bottom_of, leaves_at, levels_of}
-use Rattle.sign_core.specs.Records.{current, free_at, free_counts, in_tree, last_extend, makes, reached_number, reached_numbers, reaches, same_tree, under, types_of}
+use Rattle.state_file.specs.Laws.{bottom_of, has_moved, is_moved, leaves_at, levels_of}
+use Rattle.sign_core.specs.declared.key.AnyPublic.{AnyPublic}
+use Rattle.sign_core.specs.Textbook.{any_public, public_of_key}
+use Rattle.sign_core.specs.Records.{current, free_at, free_counts, in_tree, last_extend, makes, reached_number, reached_numbers, reaches, same_tree, the_key, under, types_of}
 use Rattle.sign_core.proofs.Found.{next_of}
-use Rattle.key_audit.specs.Listing.{ListingLaw, entry_of, shown_of_records, shown_of, without_secret, without_seeds}
+use Rattle.key_audit.specs.Listing.{ListingLaw, ReportLaw, Shown, entry_of, shown_of_records, shown_of, without_secret, without_seeds}
 
 -- ---- a secret
 
@@ -140,3 +144,59 @@ shown_kept (entry.Moved ∷ rest) = refl
 
 pub listing_law : ListingLaw
 listing_law a b same = sym (shown_kept a) ∙ ap shown_of_records same ∙ shown_kept b
+
+-- ---- what an audit reports
+
+public_of_secret : (secret : Secret) (root : List ℕ) → any_public (without_seeds secret) root ≡ any_public secret root
+public_of_secret (Lms secret) root = refl
+public_of_secret (Hss [] identifier seed) root = refl
+public_of_secret (Hss (pair ∷ rest) identifier seed) root = refl
+public_of_secret (Xmss secret) root = refl
+
+public_kept : (records : List Record)
+    → public_of_key (the_key (map without_secret records)) ≡ public_of_key (the_key records)
+public_kept [] = refl
+public_kept (entry.Key key ∷ rest) = public_of_secret key.secret key.root
+public_kept (entry.Extend extend ∷ rest) = refl
+public_kept (entry.Bound bound ∷ rest) = refl
+public_kept (entry.Retire upto ∷ rest) = refl
+public_kept (entry.Moved ∷ rest) = refl
+
+moved_record : (found : Option Record) → is_moved (option_map without_secret found) ≡ is_moved found
+moved_record None = refl
+moved_record (Some (entry.Key key)) = refl
+moved_record (Some (entry.Extend extend)) = refl
+moved_record (Some (entry.Bound bound)) = refl
+moved_record (Some (entry.Retire upto)) = refl
+moved_record (Some entry.Moved) = refl
+
+moved_kept : (records : List Record) → has_moved (map without_secret records) ≡ has_moved records
+moved_kept records =
+    ap (λ n. is_moved (slice_get (map without_secret records) (n - 1))) (length-map records without_secret)
+    ∙ ap is_moved (slice_get-map without_secret records (length records - 1))
+    ∙ moved_record (slice_get records (length records - 1))
+
+key_there : (found : Option Key) (public : AnyPublic) → public_of_key found ≡ Some public → (key : Key) × (found ≡ Some key)
+key_there (Some key) public is = (key, refl)
+key_there None public is = absurd (none-some public is)
+
+pub report_law : ReportLaw
+report_law a b one other same first second =
+    let (key, keyed) = key_there (the_key a) one.public first.public_is in
+    let (own, owned) = key_there (the_key b) other.public second.public_is in
+    let publics : Some one.public ≡ Some other.public =
+    sym first.public_is ∙ sym (public_kept a) ∙ ap (λ l. public_of_key (the_key l)) same ∙ public_kept b ∙ second.public_is in
+    let counts : length a ≡ length b =
+    sym (length-map a without_secret) ∙ ap length same ∙ length-map b without_secret in
+    let shown : Some (shown_of a key) ≡ Some (shown_of b own) =
+    sym (ap (λ found. option_map (shown_of a) found) keyed) ∙ listing_law a b same
+    ∙ ap (λ found. option_map (shown_of b) found) owned in
+    let moved : has_moved a ≡ has_moved b = sym (moved_kept a) ∙ ap has_moved same ∙ moved_kept b in
+    record {
+      public = same_Some one.public other.public publics;
+      records = first.count ∙ counts ∙ sym second.count;
+      left = first.left_are key keyed
+          ∙ ap (λ (s : Shown). s.left) (same_Some (shown_of a key) (shown_of b own) shown)
+          ∙ sym (second.left_are own owned);
+      moved = first.moved_is ∙ ap (λ (m : Bool). if m then Some 2 else None) moved ∙ sym second.moved_is;
+    }

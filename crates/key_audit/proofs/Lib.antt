@@ -1,5 +1,6 @@
 pub mod AuditLaw
 pub mod Audits
+pub mod Counting
 pub mod Hiding
 pub mod Judging
 pub mod LeafIndex

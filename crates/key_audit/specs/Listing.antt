@@ -18,7 +18,8 @@ use Rattle.key_audit.specs.declared.listing.Entry.{Entry}
 use Rattle.key_audit.specs.declared.listing.Entry.TheVariants.{Key as KeyEntry, Tree, Name, Retired, Moved}
 use Rattle.key_audit.specs.declared.listing.Listing.{Listing}
 use Rattle.key_audit.specs.declared.report.AuditFault.{AuditFault}
-use Rattle.key_audit.specs.Audit.{Judges, ReadsStore}
+use Rattle.key_audit.specs.declared.report.Report.{Report}
+use Rattle.key_audit.specs.Audit.{Judges, ReadsStore, Reports}
 
 -- ---- what records show
 
@@ -113,3 +114,15 @@ without_secret entry.Moved = entry.Moved
 -- Lists of records that differ only in secrets show the same.
 abbrev pub ListingLaw : Type 0
 ListingLaw = (a b : List Record) → map without_secret a ≡ map without_secret b → shown_of_records a ≡ shown_of_records b
+
+-- Two reports say the same, their tags aside.
+pub record SayTheSame (one other : Report) : Type 0 where
+  pub public : one.public ≡ other.public
+  pub records : one.records ≡ other.records
+  pub left : one.left.items ≡ other.left.items
+  pub moved : one.moved ≡ other.moved
+
+-- So do an audit's reports of them, and with these the public keys. A tag is a hash of whole slots.
+abbrev pub ReportLaw : Type 0
+ReportLaw = (a b : List Record) (one other : Report) → map without_secret a ≡ map without_secret b → Reports a one
+    → Reports b other → SayTheSame one other

@@ -1,13 +1,17 @@
 -- How many new names a key can still sign, by what a listing shows.
-use Rattle.std.specs.Prelude.{ℕ, ◌+◌, ◌-◌, ◌*◌, ◌^◌, List, [], ◌∷◌, length, slice_get, Bool, true, false}
+use Rattle.std.specs.Prelude.{◌≡◌, ℕ, ◌+◌, ◌-◌, ◌*◌, ◌^◌, List, [], ◌∷◌, length, slice_get, Bool, true, false}
 use Rattle.std.specs.Prelude.{Option, Some, None, if◌then◌else◌, nat_lt}
 use Rattle.typecodes.specs.declared.spec.Spec.{Spec}
 use Rattle.typecodes.specs.declared.spec.Spec.TheVariants.{Lms, Hss, Xmss}
 use Rattle.typecodes.specs.declared.types.LmsPair.{LmsPair}
 use Rattle.typecodes.specs.Types.{height_of, xmss_height_of}
+use Rattle.state_file.specs.Laws.{has_moved}
+use Rattle.state_file.specs.declared.record.Key.{Key}
+use Rattle.state_file.specs.declared.record.Record.{Record}
+use Rattle.sign_core.specs.Left.{signatures_left}
 use Rattle.key_audit.specs.declared.listing.Entry.{Entry}
 use Rattle.key_audit.specs.declared.listing.Entry.TheVariants.{Moved}
-use Rattle.key_audit.specs.Listing.{Shown}
+use Rattle.key_audit.specs.Listing.{Shown, shown_of}
 
 -- how many leaves this pair's tree has; 1 without a pair
 abbrev pub pair_leaves : Option LmsPair → ℕ
@@ -39,6 +43,11 @@ ends_moved entries = is_moved_entry (slice_get entries (length entries - 1))
 -- records go on elsewhere signs none. A file also takes 2^31 records at most.
 abbrev pub signatures_of : Shown → ℕ
 signatures_of shown = if ends_moved shown.entries then 0 else names_left shown.spec 0 0 shown.left
+
+-- It is the number that the signer's requests take from, one for each new name (`left_law` of `sign_core`).
+abbrev pub CountLaw : Type 0
+CountLaw = (records : List Record) (key : Key) → signatures_of (shown_of records key)
+    ≡ (if has_moved records then 0 else signatures_left key.secret records)
 
 -- the number, if it is less than 2^64
 abbrev pub below_2_64 : ℕ → Option ℕ

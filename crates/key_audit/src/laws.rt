@@ -2,8 +2,9 @@
 //! about every list of records, or about all calls of a signer.
 
 ghost use Rattle.key_audit.specs.Audit.{AuditLaw};
-ghost use Rattle.key_audit.specs.Listing.{ListingLaw};
+ghost use Rattle.key_audit.specs.Listing.{ListingLaw, ReportLaw};
 ghost use Rattle.key_audit.specs.Runs.{MovedRunsLaw, RunsLaw};
+ghost use Rattle.key_audit.specs.Signatures.{CountLaw};
 ghost use Rattle.key_audit.specs.Tags.{TagLaw};
 
 use sign_core::{Source, headline_law};
@@ -33,6 +34,18 @@ pub fn audit_laws()
 // Requirement: RFC 8554 6, private
 pub fn listing_law()
     ensures { ListingLaw }
+{}
+
+/// An audit reports the same of lists of records that differ only in seeds, but for the tag, which is a hash of whole
+/// slots. So the public key that it shows depends on no secret but by the recorded root.
+pub fn report_law()
+    ensures { ReportLaw }
+{}
+
+/// `count_signatures` counts what the signer's requests take from: one for each new name that is signed, and none
+/// otherwise. A new name is answered 22 exactly where it is 0 (`sign_core::left_law`).
+pub fn count_law()
+    ensures { CountLaw }
 {}
 
 /// What one signer handed out passes every check: `check_given` refuses it for want of memory alone (46).

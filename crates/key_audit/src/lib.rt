@@ -47,7 +47,7 @@ mod uses;
 pub use crate::file::audit::{audit, audit_replayed};
 pub use crate::file::list::{ListReplay, list, list_replayed};
 pub use crate::given::{Given, GivenFault, check_given};
-pub use crate::laws::{audit_laws, listing_law, runs_law, tag_laws};
+pub use crate::laws::{audit_laws, count_law, listing_law, report_law, runs_law, tag_laws};
 pub use crate::listed_name::ListedName;
 pub use crate::listing::{Entry, Listing, count_names};
 pub use crate::report::{Anchor, AuditFault, Report};
