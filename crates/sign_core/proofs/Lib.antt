@@ -93,5 +93,6 @@ pub mod MigrateKey
 pub mod Moves
 pub mod Told
 pub mod Sessions
+pub mod TwoSources
 pub mod HeadlineOfCalls
 pub mod NotEmpty

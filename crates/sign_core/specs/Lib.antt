@@ -26,6 +26,7 @@ pub mod Signer
 pub mod Key
 pub mod Lives
 pub mod Sessions
+pub mod TwoSources
 pub mod HeadlineOfCalls
 pub mod BoundNames
 pub mod NotEmpty

@@ -31,6 +31,7 @@ ghost use Rattle.sign_core.specs.RefusalOrder.{RefusalLaw};
 ghost use Rattle.sign_core.specs.Sessions.{RequestLaw, ServeLaw};
 ghost use Rattle.sign_core.specs.Signer.{View};
 ghost use Rattle.sign_core.specs.SignerCalls.{SignerLaw};
+ghost use Rattle.sign_core.specs.TwoSources.{SourcesLaw, either};
 ghost use Rattle.sign_core.specs.World.{Handed};
 ghost use Rattle.sign_core.specs.Textbook.{AllHaveSizes, AreSound, any_public_of, current_at, damaged_at};
 ghost use Rattle.sign_core.specs.Textbook.{IsTreeChain, textbook_signature, tree_chain};
@@ -302,6 +303,21 @@ pub fn session_law<S: Store, R: Source, M: Message>()
 pub fn headline_law<D: Disk + Drop, E: Disk + Drop, R: Source, M: Message>()
     ensures calls { HeadlineOfCalls D.Disk E.Disk ⟦<FileStore<D> as Store>⟧ R.Source }
     ensures moved { HeadlineOfMoved D.Disk E.Disk ⟦<FileStore<D> as Store>⟧ ⟦<FileStore<E> as Store>⟧ R.Source }
+{
+    signer_law::<FileStore<D>, R, M>();
+    signer_law::<FileStore<E>, R, M>();
+}
+
+/// The headline, where signers have sources of two types, as those of `sign` and `retire` may.
+///
+/// A source of either type is one of a type that has both (`specs/TwoSources.antt`). With it a signer's calls are the
+/// same: each meets its contract, hands out the same signatures and gives the same public key (`same`). And the
+/// headline holds of all these calls in any order (`calls`, `moved`). So more types are covered, two by two.
+pub fn two_sources_law<D: Disk + Drop, E: Disk + Drop, R: Source, Q: Source, M: Message>()
+    ensures same { SourcesLaw ⟦<FileStore<D> as Store>⟧ R.Source Q.Source }
+    ensures calls { HeadlineOfCalls D.Disk E.Disk ⟦<FileStore<D> as Store>⟧ (either R.Source Q.Source) }
+    ensures moved { HeadlineOfMoved D.Disk E.Disk ⟦<FileStore<D> as Store>⟧ ⟦<FileStore<E> as Store>⟧
+        (either R.Source Q.Source) }
 {
     signer_law::<FileStore<D>, R, M>();
     signer_law::<FileStore<E>, R, M>();

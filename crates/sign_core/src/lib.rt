@@ -63,7 +63,8 @@ pub use crate::key::{AnyPublic, KeyFault, verify_any};
 pub use crate::laws::{
     after_refusal_law, bound_law, calls_law, cut_law, headline_law, lasting_law, ledger_laws,
     left_law, lives_law, moves_law, not_empty_law, once_law, opened_law, refusal_law, session_law,
-    signer_law, sound_law, stop_law, stopped_law, textbook_laws, wrong_signers_law,
+    signer_law, sound_law, stop_law, stopped_law, textbook_laws, two_sources_law,
+    wrong_signers_law,
 };
 pub use crate::ledger::{Ledger, LedgerFault};
 pub use crate::migration::{migrate_key, migrate_key_telling};
