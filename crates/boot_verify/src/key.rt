@@ -57,7 +57,7 @@ impl Key {
     {
         match self {
             Key::Lms(key) => lms::root_by(&OneByOne, key, message, signature),
-            Key::Hss(key) => hss::root_by(&OneByOne, key, message, signature),
+            Key::Hss(key) => root_of_levels(key, message, signature),
             Key::Xmss(key) => xmss::root_by(&OneByOne, key, message, signature),
         }
     }
@@ -96,6 +96,15 @@ impl Key {
             Key::Xmss(key) => Ok(lay(room, &xmss::message_prefix(key, signature)?)),
         }
     }
+}
+
+// The root of a key of HSS. It stays a function of its own, so that LMS and XMSS take no stack for eight levels.
+#[inline(never)]
+fn root_of_levels(key: &HssPublic, message: &[u8], signature: &[u8]) -> Result<[u8; 32], Refusal>
+    ensures root { KeyGivesRoot (Key.Hss key.now) message.now signature.now result }
+    ensures read { result ≢ Err Refusal.MessageRead }
+{
+    hss::root_by(&OneByOne, key, message, signature)
 }
 
 // Copies bytes to the front of `room`, and returns their number.
