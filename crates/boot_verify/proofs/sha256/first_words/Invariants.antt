@@ -1,6 +1,0 @@
-use Rattle.std.proofs.Common.{◌≡◌, ℕ, ◌<◌, length, slice_index, ◌*◌}
-use Rattle.sha2.specs.Sha256.{word_at}
-use Rattle.boot_verify.proofs.sha256.first_words.Given as goal
-
-abbrev pub invariant-load : goal.invariant-load
-invariant-load l = (length l.w ≡ 16) × ((k : ℕ) → k < l.i → slice_index l.w k ≡ word_at l.block (4 * k))
