@@ -19,6 +19,11 @@ uint64_t hbs_proved_end(const hbs_message *, const uint8_t *, uint64_t, const ui
 /* The proved calls have this layout of hbs_message. */
 typedef char hbs_message_has_240_bytes[sizeof(hbs_message) == 240 ? 1 : -1];
 
+#if defined(__arm__)
+/* No call passes a floating-point number, so programs of either float ABI may link this (Tag_ABI_VFP_args). */
+__asm__(".eabi_attribute 28, 3");
+#endif
+
 const uint32_t hbs_version = HBS_VERSION;
 
 uint64_t hbs_verify(const uint8_t *public_key, size_t public_key_length, const uint8_t *message, size_t message_length,

@@ -74,6 +74,8 @@ OUTSIDE = [re.compile(form) for form in (
     rf"declare void {INTRINSIC}{PARAMETERS}(?: #\d+)?",
     r"\}",
 )]
+# On Arm: no form has a floating-point number, so programs of either float ABI may link it (Tag_ABI_VFP_args).
+EITHER_FLOAT_ABI = 'module asm ".eabi_attribute 28, 3"\n'
 LABEL = re.compile(r"[\w.]+:(?: +; (?:preds = .*|No predecessors!))?")
 
 
@@ -134,4 +136,6 @@ def module_for(text, said):
     text = re.sub(r"^target triple = .*$", f'target triple = "{name}"', text, flags=re.M)
     text = re.sub(r' "(?:target-cpu|probe-stack|stack-probe-size)"="[^"]*"', "", text)
     text = re.sub(r"^(  %[\w.]+ = alloca \[\d+ x i8\], align) [124]$", r"\1 8", text, flags=re.M)
+    if name.startswith(("arm", "thumb")):
+        text += EITHER_FLOAT_ABI
     return text if pointer == 8 else narrowed(text)
