@@ -1,14 +1,16 @@
-//! The files of a machine: how they are opened, read and written.
+//! The files of a machine: which of them are opened, read and written, and in which order.
 
 ghost use Rattle.std.specs.Prelude.{◌≡◌, ◌++◌, ◌∷◌, [], List, None, IfErr, IfOk, ⊤};
-ghost use Rattle.std.specs.Io.{ReadsAtMost};
 ghost use Rattle.command.specs.FileDisk.{file_of};
 ghost use Rattle.command.specs.StateFile.{IsOpenedAt};
 ghost use Rattle.command.specs.Trace.{Happening, opening};
 
+mod file;
+mod target;
+
 use crate::file_disk::FileDisk;
 use crate::file_id::{FileId, KeptFiles};
-use crate::files::{Folder, LineFiles, NewContent, OpenFile, Outlet, SignerFolder};
+use crate::files::{Folder, LineFiles, NewContent, Outlet, SignerFolder};
 use crate::key_start::has_key;
 use crate::random_file::RandomFile;
 use crate::refusal::Refusal;
@@ -17,11 +19,12 @@ use crate::state::{StateAlarm, StateFile};
 use crate::system_file::{Access, SystemFile};
 use crate::target::{NotReplaced, Target, replace};
 use crate::trace::{Event, Role, Trace, Traced};
+pub use file::MachineFile;
 use sign_core::RngSource;
-use std::fs::{File, Files, OpenOptions, TryLockError};
-use std::io::Read;
+use std::fs::{File, Files};
 use std::marker::Model;
 use std::{fs, io};
+use target::MachineTarget;
 
 /// The files of a machine. Contracts don't know their content.
 ///
@@ -41,169 +44,6 @@ impl<'a, R> Model for Machine<'a, R> {
     ghost Value = { List Happening };
 
     ghost view = { λ machine. machine.trace.events };
-}
-
-/// A file of a machine, open for reading. Standard error says what failed.
-#[derive(Drop)]
-pub struct MachineFile<'a> {
-    role: Role,
-    path: &'a str,
-    file: File,
-    standard: &'a Standard,
-}
-
-impl OpenFile for MachineFile<'_> {
-    ghost role = { λ file. file.role };
-
-    ghost remaining = { λ _. None };
-}
-
-impl MachineFile<'_> {
-    fn read_told(&mut self, buffer: &mut [u8]) -> io::Result<usize>
-        ensures bound { ReadsAtMost result buffer.new }
-        ensures role { self.new.role ≡ self.old.role }
-    {
-        let answer = self.file.read(buffer);
-        match &answer {
-            // Nobody looks for the end of random bytes, so it is a failure.
-            Ok(0) if self.role == Role::Random => {
-                let reason = "it ended before the bytes that are wanted";
-                self.standard
-                    .tell_reason(self.path, "can't be read", reason);
-            }
-            Ok(_) => {}
-            Err(error) => self.standard.tell(self.path, "can't be read", error),
-        }
-        answer
-    }
-}
-
-impl Read for MachineFile<'_> {
-    ghost remaining = { λ _. None };
-
-    fn read(&mut self, buffer: &mut [u8]) -> io::Result<usize> {
-        self.read_told(buffer)
-    }
-}
-
-/// A file of a machine, open for writing. Standard error says what failed.
-#[derive(Drop)]
-struct MachineTarget<'a, R> {
-    rt: &'a R,
-    standard: &'a Standard,
-    path: &'a str,
-    file: File,
-    id: FileId,
-    is_regular: bool,
-    trace: Trace,
-}
-
-impl<'a, R: Files<File = File>> MachineTarget<'a, R> {
-    // Makes the file if there is none. Its content stays.
-    fn open(rt: &'a R, standard: &'a Standard, path: &'a str) -> Result<Self, Refusal>
-        ensures { IfErr result (λ refusal. refusal ≡ Refusal.FileFailed) }
-    {
-        let opened = OpenOptions::new().write(true).create(true).open(rt, path);
-        let file = standard.told(path, "can't be opened", opened)?;
-        let found = standard.told(path, "can't be opened", file.metadata())?;
-        Ok(MachineTarget {
-            rt,
-            standard,
-            path,
-            file,
-            id: FileId::of(&found),
-            is_regular: found.is_file(),
-            trace: Trace::new(),
-        })
-    }
-
-    // The lock is taken first, and held until the file is closed: no other process makes a key in it meanwhile. A
-    // process that holds the lock may be making a key. Where the file system has no locks, no state file can be locked
-    // either.
-    fn holds_key(&self) -> Result<bool, Refusal> {
-        let locked = self.file.try_lock();
-        if self.begins_as_a_state_file()? {
-            return Ok(true);
-        }
-        if let Err(TryLockError::WouldBlock) = locked {
-            self.standard.tell_reason(self.path, "isn't written", "another process has locked it");
-            return Err(Refusal::FileFailed);
-        }
-        Ok(false)
-    }
-
-    // Opens the file again, for reading. An empty file, such as one that was made just now, isn't opened.
-    fn begins_as_a_state_file(&self) -> Result<bool, Refusal> {
-        let found = self
-            .standard
-            .told(self.path, "can't be opened", self.file.metadata())?;
-        if found.len() == 0 {
-            return Ok(false);
-        }
-        let opened = fs::open(self.rt, self.path);
-        let file = self
-            .standard
-            .told(self.path, "can't be opened to be read", opened)?;
-        let again = self
-            .standard
-            .told(self.path, "can't be opened to be read", file.metadata())?;
-        if FileId::of(&again) != self.id {
-            self.standard.tell_reason(
-                self.path,
-                "isn't written",
-                "another file came to stand there",
-            );
-            return Err(Refusal::FileFailed);
-        }
-        self.standard
-            .told(self.path, "can't be read", has_key(&file))
-    }
-}
-
-impl<R: Files<File = File>> Target for MachineTarget<'_, R> {
-    ghost id = { λ target. target.id };
-
-    ghost is_regular = { λ target. target.is_regular };
-
-    ghost acts = { λ target. target.trace.events };
-
-    fn id(&self) -> FileId {
-        self.id
-    }
-
-    fn is_regular(&self) -> bool {
-        self.is_regular
-    }
-
-    fn has_key(&mut self) -> Result<bool, Refusal> {
-        let answer = self.holds_key();
-        self.trace.note(&match answer {
-            Ok(has_key) => Event::Looked(has_key),
-            Err(_) => Event::NotLooked,
-        });
-        answer
-    }
-
-    fn cut(&mut self) -> Result<(), Refusal> {
-        let answer = self
-            .standard
-            .told(self.path, "can't be cut", self.file.set_len(0));
-        self.trace.note(&match answer {
-            Ok(()) => Event::Cut,
-            Err(_) => Event::NotCut,
-        });
-        answer
-    }
-
-    fn write_all(&mut self, bytes: &[u8]) -> Result<(), Refusal> {
-        let written = typecodes::write_all(&mut self.file, bytes);
-        let answer = self.standard.told(self.path, "can't be written", written);
-        self.trace.note(&match answer {
-            Ok(()) => Event::Wrote(bytes),
-            Err(_) => Event::NotWrote,
-        });
-        answer
-    }
 }
 
 impl<'a, R: Files<File = File>> Machine<'a, R> {
@@ -270,9 +110,9 @@ impl<'a, R: Files<File = File>> Machine<'a, R> {
         match replace(&mut target, &self.opened, bytes) {
             Ok(()) => return Ok(()),
             Err(NotReplaced::Kept) => {
-                let reason = if self.standard.output.is(target.id) {
+                let reason = if self.standard.output.is(target.id()) {
                     "it is the standard output"
-                } else if self.standard.errors.is(target.id) {
+                } else if self.standard.errors.is(target.id()) {
                     "it is the standard error"
                 } else {
                     "it is a file of this line"
