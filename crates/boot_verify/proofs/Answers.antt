@@ -19,7 +19,7 @@ use Rattle.xmss.specs.Verification.{prefix_of as xmss_prefix_of}
 use Rattle.xmss.proofs.Verdicts as xmss
 use Rattle.boot_verify.specs.declared.key.Key.{Key}
 use Rattle.boot_verify.specs.declared.key.Key.TheVariants.{Lms, Hss, Xmss}
-use Rattle.boot_verify.specs.Key.{KeyHasPrefix, KeyIsDigest, KeyVerdict, Signs, SpellsKey}
+use Rattle.boot_verify.specs.Key.{KeyHasPrefix, KeyIsDigest, KeyVerdict, IsSignature, SpellsKey}
 use Rattle.boot_verify.specs.Answer.{Answers, IsDigest, IsEarly, IsSigned, RefusesKey, packed, refusal_detail, verdict_answer}
 use Rattle.boot_verify.proofs.Keys.{no_fault, not_none, one_key}
 
@@ -50,13 +50,13 @@ refused_spells_none public answer key (inl (not_lms, not_hss, not_xmss, _)) spel
 refused_spells_none public answer key (inr (fault, faulty, _)) spelled = no_fault key public fault spelled faulty
 
 -- an accepting verdict means a valid signature
-accepts : (key : Key) (message bytes : List ℕ) (x : Unit {0}) → KeyVerdict key message bytes (Ok x) → Signs key message bytes
+accepts : (key : Key) (message bytes : List ℕ) (x : Unit {0}) → KeyVerdict key message bytes (Ok x) → IsSignature key message bytes
 accepts (Lms key) message bytes x verdict = verdict
 accepts (Hss key) message bytes x verdict = verdict
 accepts (Xmss key) message bytes x verdict = verdict
 
 accepted : (key : Key) (message bytes : List ℕ) (verdict : Result (Unit {0}) Refusal) → KeyVerdict key message bytes verdict → verdict ≢ Err MessageRead
-    → Signs key message bytes → IsOk verdict
+    → IsSignature key message bytes → IsOk verdict
 accepted (Lms key) message bytes verdict is read (s, spelled, valid) = lms.accepted key message bytes verdict is read s spelled valid
 accepted (Hss key) message bytes verdict is read (s, spelled, valid) = hss.accepted key message bytes verdict is read s spelled valid
 accepted (Xmss key) message bytes verdict is read (s, spelled, valid) = xmss.accepted key message bytes verdict is read s spelled valid
@@ -77,7 +77,7 @@ answered : (public message bytes : List ℕ) (answer : ℕ) → Answers public m
 answered public message bytes answer (inl refused) (key, spelled, signs) = absurd (refused_spells_none public answer key refused spelled)
 answered public message bytes answer (inr (other, verdict, spelled, is, read, answer_is)) (key, spelled_too, signs) =
     let same = one_key key other public spelled_too spelled in
-    answer_is ∙ zero_of_ok verdict (accepted other message bytes verdict is read (subst (λ key. Signs key message bytes) same signs))
+    answer_is ∙ zero_of_ok verdict (accepted other message bytes verdict is read (subst (λ key. IsSignature key message bytes) same signs))
 
 pub valid_exactly : (public message bytes : List ℕ) (answer : ℕ) → Answers public message bytes answer → (answer ≡ 0) ↔ IsSigned public message bytes
 valid_exactly public message bytes answer answers = (signed public message bytes answer answers, answered public message bytes answer answers)

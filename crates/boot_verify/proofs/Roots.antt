@@ -20,7 +20,7 @@ use Rattle.xmss.specs.Key.{public_key as xmss_public_key}
 use Rattle.xmss.proofs.After.{after_root, after_seed, after_tree}
 use Rattle.boot_verify.specs.declared.key.Key.{Key}
 use Rattle.boot_verify.specs.declared.key.Key.TheVariants.{Lms, Hss, Xmss}
-use Rattle.boot_verify.specs.Key.{Signs, SpellsKey}
+use Rattle.boot_verify.specs.Key.{IsSignature, SpellsKey}
 use Rattle.boot_verify.specs.inner.Key.{KeyGivesRoot, key_root}
 use Rattle.boot_verify.specs.Answer.{GivesExactly, GivesRoot, IsSigned, RefusesKey, ready, root_of, verdict_answer}
 use Rattle.boot_verify.proofs.Answers.{refused_spells_none}
@@ -87,20 +87,20 @@ root_is (Xmss key) public spelled = at_length public 68 (size-xmss_key key publi
 
 -- ---- what a computed root tells
 
-of_key : (key : Key) (message bytes root : List ℕ) → KeyGivesRoot key message bytes (Ok root) → (root ≡ key_root key) ↔ Signs key message bytes
+of_key : (key : Key) (message bytes root : List ℕ) → KeyGivesRoot key message bytes (Ok root) → (root ≡ key_root key) ↔ IsSignature key message bytes
 of_key (Lms key) message bytes root exact = exact
 of_key (Hss key) message bytes root exact = exact
 of_key (Xmss key) message bytes root exact = exact
 
-of_no_root : (key : Key) (message bytes : List ℕ) (refusal : Refusal) → KeyGivesRoot key message bytes (Err refusal) → Signs key message bytes → ⊥
+of_no_root : (key : Key) (message bytes : List ℕ) (refusal : Refusal) → KeyGivesRoot key message bytes (Err refusal) → IsSignature key message bytes → ⊥
 of_no_root (Lms key) message bytes refusal never = never
 of_no_root (Hss key) message bytes refusal never = never
 of_no_root (Xmss key) message bytes refusal never = never
 
 -- what is signed under the key of these bytes is signed under the key that they spell
-by_key : (key : Key) (public message bytes : List ℕ) → SpellsKey key public → IsSigned public message bytes → Signs key message bytes
+by_key : (key : Key) (public message bytes : List ℕ) → SpellsKey key public → IsSigned public message bytes → IsSignature key message bytes
 by_key key public message bytes spelled (other, spelled_too, signs) =
-    subst (λ key. Signs key message bytes) (one_key other key public spelled_too spelled) signs
+    subst (λ key. IsSignature key message bytes) (one_key other key public spelled_too spelled) signs
 
 -- a computed root is the key's exactly where the signature is valid
 exact_root : (key : Key) (public message bytes root : List ℕ) → SpellsKey key public → KeyGivesRoot key message bytes (Ok root)

@@ -9,7 +9,7 @@ use Rattle.typecodes.specs.declared.refusal.Refusal.TheVariants.{RootMismatch, M
 use Rattle.typecodes.specs.Fault.{cause_number}
 use Rattle.typecodes.specs.Refusal.{refusal_number}
 use Rattle.boot_verify.specs.declared.key.Key.{Key}
-use Rattle.boot_verify.specs.Key.{KeyHasFault, KeyHasPrefix, KeyIsDigest, KeyVerdict, Signs, SpellsKey, prefix_length}
+use Rattle.boot_verify.specs.Key.{KeyHasFault, KeyHasPrefix, KeyIsDigest, KeyVerdict, IsSignature, SpellsKey, prefix_length}
 
 -- a number in the lower 32 bits, its detail in the upper ones
 abbrev pub packed : ℕ → ℕ → ℕ
@@ -48,7 +48,7 @@ Answers public message bytes answer = RefusesKey public answer
 
 -- The bytes spell a key, and a signature that is valid for the message under it.
 abbrev pub IsSigned : List ℕ → List ℕ → List ℕ → Type 0
-IsSigned public message bytes = (key : Key) × SpellsKey key public × Signs key message bytes
+IsSigned public message bytes = (key : Key) × SpellsKey key public × IsSignature key message bytes
 
 -- The digest of the message, after the prefix of the key that these bytes spell.
 abbrev pub IsDigest : List ℕ → List ℕ → List ℕ → List ℕ → Type 0

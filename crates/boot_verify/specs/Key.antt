@@ -26,10 +26,10 @@ KeyHasFault bytes fault = ((length bytes ≡ 56) × HasFault lms_public_key byte
     ⊎ ((length bytes ≡ 68) × HasFault xmss_public_key bytes 0 fault)
 
 -- The bytes spell a signature that is valid for the message under the key (RFC 8554 5.4.2 and 6.3, RFC 8391 4.1.10).
-abbrev pub Signs : Key → List ℕ → List ℕ → Type 0
-Signs (Lms key) message bytes = lms.Signs key message bytes
-Signs (Hss key) message bytes = hss.Signs key message bytes
-Signs (Xmss key) message bytes = xmss.Signs key message bytes
+abbrev pub IsSignature : Key → List ℕ → List ℕ → Type 0
+IsSignature (Lms key) message bytes = lms.IsSignature key message bytes
+IsSignature (Hss key) message bytes = hss.IsSignature key message bytes
+IsSignature (Xmss key) message bytes = xmss.IsSignature key message bytes
 
 -- Verification answers what the key's scheme says.
 abbrev pub KeyVerdict : {A : Type 0} → Key → List ℕ → List ℕ → Result A Refusal → Type 0

@@ -14,7 +14,7 @@ use crate::signing;
 use key_audit::{Anchor, AuditFault, ListReplay, Listing, Report};
 use sign_core::{
     Alarm, KeyProgress, Replay, ServeFault, SignFault, Signer, Source, TapeSource, TreeProgress,
-    serve_telling, tell_behind,
+    serve_telling, warn_behind,
 };
 use state_file::{Disk, FileStore, MigrateFault, Refused, Store, Version};
 use std::alloc::Global;
@@ -50,7 +50,7 @@ pub fn open_signer<D: Disk + Drop, R: Source + Drop, A: Alarm>(
     let mut replay = Replay::new(alloc);
     match FileStore::open_into(disk, &mut replay) {
         Ok(store) => {
-            tell_behind(&store, alarm);
+            warn_behind(&store, alarm);
             match Signer::open_replayed(store, random, replay) {
                 Ok(signer) => Ok(signer),
                 Err(refused) => Err(handed_back(refused)),
@@ -201,7 +201,7 @@ pub fn audit<D: Disk + Drop, A: Alarm>(
     match FileStore::open_into(disk, &mut replay) {
         Ok(store) => {
             let mut store = store;
-            tell_behind(&store, alarm);
+            warn_behind(&store, alarm);
             let audited = reported(key_audit::audit_replayed(&mut store, replay, anchor));
             (store.into_disk(), audited)
         }
@@ -221,7 +221,7 @@ pub fn list<D: Disk + Drop, A: Alarm>(
     let mut replay = ListReplay::new(alloc);
     match FileStore::open_into(disk, &mut replay) {
         Ok(store) => {
-            tell_behind(&store, alarm);
+            warn_behind(&store, alarm);
             let listed = reported(key_audit::list_replayed(&store, replay));
             (store.into_disk(), listed)
         }

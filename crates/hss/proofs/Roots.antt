@@ -10,7 +10,7 @@ use Rattle.lms.specs.Verification.{IsValid as IsLmsValid, LevelGivesRoot}
 use Rattle.lms.specs.Writing.{public_bytes}
 use Rattle.hss.specs.Signature.{Signature, key_at, level_count, message_at, signature, signature_at}
 use Rattle.hss.specs.declared.key.HssPublic.{HssPublic}
-use Rattle.hss.specs.Verification.{GivesRoot, IsValid, IsValidAt, Signs}
+use Rattle.hss.specs.Verification.{GivesRoot, IsValid, IsValidAt, IsSignature}
 use Rattle.hss.specs.inner.Verification.{AreValid, GivesTopRoot}
 use Rattle.hss.proofs.Verifying.{message_at-above}
 
@@ -58,7 +58,7 @@ all_valid top message s below valid j inside =
     ]
 
 -- a valid signature that the bytes spell is the one that was decoded
-pub signs_decoded : (key : HssPublic) (message bytes : List ℕ) (s : Signature) → Spells signature s bytes → Signs key message bytes → IsValid key message s
+pub signs_decoded : (key : HssPublic) (message bytes : List ℕ) (s : Signature) → Spells signature s bytes → IsSignature key message bytes → IsValid key message s
 signs_decoded key message bytes s spelled (t, spelled_too, valid) =
     subst (IsValid key message) (one_value signature t s bytes spelled_too spelled) valid
 

@@ -138,7 +138,7 @@ level_number-read low high bytes place x found =
     ]
 
 -- what is read of a signature, part by part
-pub record IsRead (s : Signature) (bytes : List ℕ) : Type 0 where
+pub record IsDecoded (s : Signature) (bytes : List ℕ) : Type 0 where
   pub number : length s.signed ≡ big_number 4 (take 4 bytes)
   pub at_most_7 : length s.signed ≤ 7
   pub at_least_4 : 4 ≤ length bytes
@@ -148,7 +148,7 @@ pub record IsRead (s : Signature) (bytes : List ℕ) : Type 0 where
 
 -- the parts that were read one after the other
 is_read-parts : (s : Signature) (bytes : List ℕ) (n four end last : ℕ) (keys : List SignedKey) (bottom : LmsSignature) → read (level_number 0 7) bytes 0 ≡ Ok (n, four)
-    → read (signed_keys n) bytes four ≡ Ok (keys, end) → read lms_signature bytes end ≡ Ok (bottom, last) → ◌≡◌ {A = Signature × ℕ} (record { signed = keys; bottom = bottom }, last) (s, length bytes) → IsRead s bytes
+    → read (signed_keys n) bytes four ≡ Ok (keys, end) → read lms_signature bytes end ≡ Ok (bottom, last) → ◌≡◌ {A = Signature × ℕ} (record { signed = keys; bottom = bottom }, last) (s, length bytes) → IsDecoded s bytes
 is_read-parts s bytes n four end last keys bottom n_found keys_found bottom_found same =
     let keys_are : keys ≡ s.signed = ap (λ p. p.0.signed) same in
     let bottom_is : bottom ≡ s.bottom = ap (λ p. p.0.bottom) same in
@@ -165,7 +165,7 @@ is_read-parts s bytes n four end last keys bottom n_found keys_found bottom_foun
       bottom = bottom_found ∙ ap₂ (λ b at. Ok (b, at)) bottom_is last_is;
     }
 
-pub is_read : (s : Signature) (bytes : List ℕ) → read signature bytes 0 ≡ Ok (s, length bytes) → IsRead s bytes
+pub is_read : (s : Signature) (bytes : List ℕ) → read signature bytes 0 ≡ Ok (s, length bytes) → IsDecoded s bytes
 unfolding signature
 is_read s bytes found =
     let after_keys : List SignedKey → Layout Signature = λ signed. lms_signature >>= λ bottom. done (record { signed = signed; bottom = bottom }) in
@@ -182,7 +182,7 @@ starts s i within =
     ap (λ front. 4 + sum_by signed_key_size front) (sym (take-map (λ signed. signed.signature) i s.signed) ∙ sym (take-append-le i above (s.bottom ∷ []) within_limit))
 
 -- i signed keys stand before level i
-pub above_read : (s : Signature) (bytes : List ℕ) (i : ℕ) → IsRead s bytes → i ≤ length s.signed → read (signed_keys i) bytes 4 ≡ Ok (take i s.signed, start_at s i)
+pub above_read : (s : Signature) (bytes : List ℕ) (i : ℕ) → IsDecoded s bytes → i ≤ length s.signed → read (signed_keys i) bytes 4 ≡ Ok (take i s.signed, start_at s i)
 above_read s bytes i parts within =
     let (middle, front, back) = keys-prefix i (length s.signed) bytes 4 parts.end s.signed within parts.keys in
     let ends = keys-end i bytes 4 middle (take i s.signed) parts.at_least_4 front in
@@ -228,7 +228,7 @@ signed_read-parts s bytes i top middle next first rest within at inside keys_are
     )
 
 -- a signature above the bottom stands where its level begins, and after it the next level's key
-pub signed_read : (s : Signature) (bytes : List ℕ) (i : ℕ) (top : LmsPublic) → IsRead s bytes → i < length s.signed
+pub signed_read : (s : Signature) (bytes : List ℕ) (i : ℕ) (top : LmsPublic) → IsDecoded s bytes → i < length s.signed
     → (read lms_signature bytes (start_at s i) ≡ Ok (signature_at s i, start_at s i + lms_signature_len_of (signature_at s i).pair))
     × (read lms_public_key bytes (start_at s i + lms_signature_len_of (signature_at s i).pair) ≡ Ok (key_at top s (i + 1), start_at s (i + 1)))
 signed_read s bytes i top parts within =
@@ -240,7 +240,7 @@ signed_read s bytes i top parts within =
     signed_read-parts s bytes i top middle next first rest within (ends.1 ∙ starts s i (omega arith)) ends.2 keys_are first_found
 
 -- the bottom one stands after all signed keys
-pub bottom_read : (s : Signature) (bytes : List ℕ) → IsRead s bytes
+pub bottom_read : (s : Signature) (bytes : List ℕ) → IsDecoded s bytes
     → read lms_signature bytes (start_at s (length s.signed)) ≡ Ok (signature_at s (length s.signed), length bytes)
 bottom_read s bytes parts =
     let n = length s.signed in
@@ -251,7 +251,7 @@ bottom_read s bytes parts =
     ap (λ at. read lms_signature bytes at) (sym at) ∙ parts.bottom ∙ ap (λ b. Ok (b, length bytes)) bottom_is
 
 -- So every level's signature stands where its level begins, and is as long as its types say.
-pub level_read : (s : Signature) (bytes : List ℕ) (i : ℕ) → IsRead s bytes → i < level_count s
+pub level_read : (s : Signature) (bytes : List ℕ) (i : ℕ) → IsDecoded s bytes → i < level_count s
     → read lms_signature bytes (start_at s i) ≡ Ok (signature_at s i, start_at s i + lms_signature_len_of (signature_at s i).pair)
 level_read s bytes i parts within =
     let n = length s.signed in

@@ -75,11 +75,11 @@ LeavesMessage transition remaining key text old new (Err (RootMismatch i)) =
     ((i + 1 ≡ key.levels) × ReadWhole transition remaining text old new) ⊎ ((i + 1 ≢ key.levels) × (new ≡ old))
 
 -- The bytes spell a signature that is valid for the message.
-abbrev pub Signs : HssPublic → List ℕ → List ℕ → Type 0
-Signs key message bytes = (s : Signature) × Spells signature s bytes × IsValid key message s
+abbrev pub IsSignature : HssPublic → List ℕ → List ℕ → Type 0
+IsSignature key message bytes = (s : Signature) × Spells signature s bytes × IsValid key message s
 
 -- The root to which a signature's bytes lead is the key's exactly where they spell a valid signature. Where they lead
 -- to none, they spell no valid one.
 abbrev pub GivesRoot : HssPublic → List ℕ → List ℕ → Result (List ℕ) Refusal → Type 0
-GivesRoot key message bytes (Ok root) = (root ≡ key.top.root) ↔ Signs key message bytes
-GivesRoot key message bytes (Err refusal) = Signs key message bytes → ⊥
+GivesRoot key message bytes (Ok root) = (root ≡ key.top.root) ↔ IsSignature key message bytes
+GivesRoot key message bytes (Err refusal) = IsSignature key message bytes → ⊥

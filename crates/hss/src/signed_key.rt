@@ -2,7 +2,7 @@
 
 ghost use Rattle.std.specs.Prelude.{◌≡◌, ◌≢◌, ◌+◌, ◌<◌, ◌≤◌, ◌^◌, Ok, Err, IfOk, OnOk, drop, length, take};
 ghost use Rattle.lms.specs.Key.{public_key as lms_public_key};
-ghost use Rattle.typecodes.specs.Cursor.{Gives, Keeps, read};
+ghost use Rattle.typecodes.specs.Cursor.{Gives, KeepsCursor, read};
 ghost use Rattle.lms.specs.Writing.{public_bytes};
 ghost use Rattle.lms.specs.Verification.{LevelVerdict};
 ghost use Rattle.lms.specs.View.{signature_of as lms_signature_of};
@@ -34,7 +34,7 @@ impl<'a> SignedKeyView<'a> {
         ensures read { Gives (λ view. (signed_key_of view, cursor.new.place)) result
             (read signed_key cursor.old.bytes.now cursor.old.place) }
         ensures at_most_9380 { OnOk result (cursor.new.place ≤ cursor.old.place + 9380) }
-        ensures keeps { Keeps result cursor.old cursor.new }
+        ensures keeps { KeepsCursor result cursor.old cursor.new }
         ensures part { IfOk result (λ view. BeginsAt cursor.old.place cursor.old.bytes.now view) }
     {
         let mut rest = *cursor;

@@ -1,7 +1,7 @@
 //! The signed keys of a signature, as views of their bytes.
 
 ghost use Rattle.std.specs.Prelude.{◌≡◌, ◌+◌, ◌*◌, ◌<◌, ◌≤◌, ◌^◌, IfOk, OnOk};
-ghost use Rattle.typecodes.specs.Cursor.{Gives, Keeps, read};
+ghost use Rattle.typecodes.specs.Cursor.{Gives, KeepsCursor, read};
 ghost use Rattle.hss.specs.SignedKey.{StandInTurn, shown_keys, signed_keys, slot};
 ghost use Rattle.hss.specs.inner.SignedKey.{AreFirst};
 
@@ -29,7 +29,7 @@ impl<'a> SignedKeys<'a> {
         ensures count { IfOk result (λ keys. keys.count ≡ count) }
         ensures stand { IfOk result (λ keys. StandInTurn cursor.old.place cursor.old.bytes.now keys.slots) }
         ensures at_most_9380_each { OnOk result (cursor.new.place ≤ cursor.old.place + 9380 * count) }
-        ensures keeps { Keeps result cursor.old cursor.new }
+        ensures keeps { KeepsCursor result cursor.old cursor.new }
     {
         let mut rest = *cursor;
         let mut slots = [None; 7];

@@ -12,7 +12,7 @@ use Rattle.lms.specs.declared.key.LmsPublic.{LmsPublic}
 use Rattle.typecodes.specs.declared.refusal.Refusal.{Refusal}
 use Rattle.typecodes.specs.declared.refusal.Refusal.TheVariants.{Unreadable, TypeMismatch, LevelMismatch, RootMismatch, MessageRead}
 use Rattle.lms.specs.Signature.{Signature, signature}
-use Rattle.lms.specs.Verification.{GivesRoot, IsValid, IsValidFor, LeadsTo, LeavesMessage, LevelGivesRoot, LevelVerdict, Signs, Verdict, digest_of}
+use Rattle.lms.specs.Verification.{GivesRoot, IsValid, IsValidFor, LeadsTo, LeavesMessage, LevelGivesRoot, LevelVerdict, IsSignature, Verdict, digest_of}
 
 -- the answer for a message's digest is the answer for the message
 pub level_of_digest : {A : Type 0} (key : LmsPublic) (message digest : List ℕ) (s : Signature) (i : ℕ) (result : Result A Refusal)
@@ -79,7 +79,7 @@ root_of_level key message digest root s same types chains leaf height leads only
 )
 
 -- a valid signature that the bytes spell is the one that was decoded
-signs_decoded : (key : LmsPublic) (message bytes : List ℕ) (s : Signature) → Spells signature s bytes → Signs key message bytes → IsValid key message s
+signs_decoded : (key : LmsPublic) (message bytes : List ℕ) (s : Signature) → Spells signature s bytes → IsSignature key message bytes → IsValid key message s
 signs_decoded key message bytes s spelled (t, spelled_too, valid) =
     subst (λ s. IsValid key message s) (one_value signature t s bytes spelled_too spelled) valid
 

@@ -78,14 +78,14 @@ LevelVerdict key message s i (Err (RootMismatch level)) =
     (level ≡ i) × (s.pair ≡ key.pair) × (IsValid key message s → ⊥)
 
 -- The bytes spell a signature that is valid for the message.
-abbrev pub Signs : LmsPublic → List ℕ → List ℕ → Type 0
-Signs key message bytes = (s : Signature) × Spells signature s bytes × IsValid key message s
+abbrev pub IsSignature : LmsPublic → List ℕ → List ℕ → Type 0
+IsSignature key message bytes = (s : Signature) × Spells signature s bytes × IsValid key message s
 
 -- The root to which a signature's bytes lead is the key's exactly where they spell a valid signature. Where they lead
 -- to none, they spell no valid one.
 abbrev pub GivesRoot : LmsPublic → List ℕ → List ℕ → Result (List ℕ) Refusal → Type 0
-GivesRoot key message bytes (Ok root) = (root ≡ key.root) ↔ Signs key message bytes
-GivesRoot key message bytes (Err refusal) = Signs key message bytes → ⊥
+GivesRoot key message bytes (Ok root) = (root ≡ key.root) ↔ IsSignature key message bytes
+GivesRoot key message bytes (Err refusal) = IsSignature key message bytes → ⊥
 
 -- The same of a decoded signature, as level i of an HSS signature.
 abbrev pub LevelGivesRoot : LmsPublic → List ℕ → Signature → ℕ → Result (List ℕ) Refusal → Type 0

@@ -5,7 +5,7 @@ ghost use Rattle.std.specs.Prelude.{[], length, take, drop, slice_index_or};
 ghost use Rattle.byteorder.specs.Endian.{big_number};
 ghost use Rattle.typecodes.specs.Layout.{Spells};
 ghost use Rattle.typecodes.specs.Fields.{first_values};
-ghost use Rattle.typecodes.specs.Cursor.{Gives, Keeps, Reads, read};
+ghost use Rattle.typecodes.specs.Cursor.{Gives, KeepsCursor, Reads, read};
 ghost use Rattle.typecodes.specs.Types.{chains_of, height_of, lms_signature_len_of, signature_len_of};
 ghost use Rattle.lms.specs.Signature.{signature, whole_signature};
 
@@ -44,7 +44,7 @@ impl<'a> LmsSigView<'a> {
         ensures read { Gives (λ view. (signature_of view, cursor.new.place)) result
             (read signature cursor.old.bytes.now cursor.old.place) }
         ensures len { IfOk result (λ view. cursor.new.place ≡ cursor.old.place + lms_signature_len_of (pair_of view)) }
-        ensures keeps { Keeps result cursor.old cursor.new }
+        ensures keeps { KeepsCursor result cursor.old cursor.new }
         ensures part { IfOk result (λ view. bytes_of view
             ≡ take (cursor.new.place - cursor.old.place) (drop cursor.old.place cursor.old.bytes.now)) }
     {

@@ -5,7 +5,7 @@ ghost use Rattle.std.specs.Prelude.{if◌then◌else◌};
 ghost use Rattle.merkle.specs.Cache.{KeepsNodes, block_height};
 ghost use Rattle.merkle.specs.Tree.{path_at, root_of};
 
-use crate::nodes::{fill, fill_around, read_path};
+use crate::nodes::{make_around, make_nodes, read_path};
 use crate::out_of_memory::{OutOfMemory, Untold};
 use crate::progress::{Progress, Silent, Told};
 use crate::tree::TreeHash;
@@ -111,9 +111,9 @@ impl<T: TreeHash> PathCache<T> {
         let kept_index = block_of(height, q);
         let leaves = 2u64.pow(u32::from(height));
         let mut told = Told::new(tree, progress, leaves);
-        fill(&mut told, 0, block_height, kept_index, &mut block);
+        make_nodes(&mut told, 0, block_height, kept_index, &mut block);
         let block_root = block[block.len() - 1];
-        fill_around(
+        make_around(
             &mut told,
             block_height,
             height - block_height,
@@ -152,14 +152,14 @@ impl<T: TreeHash> PathCache<T> {
     {
         let block_height = self.height / 2;
         let index = block_of(self.height, q);
-        self.keep(index);
+        self.make_block(index);
         let (lower, upper) = into.split_at_mut(usize::from(block_height));
         read_path(&self.block, q, lower);
         read_path(&self.upper, index, upper);
     }
 
     // Makes and keeps a block, unless it is the kept one.
-    fn keep(&mut self, index: u32)
+    fn make_block(&mut self, index: u32)
         requires { index < 2 ^ (self.old.height - block_height self.old.height) }
         ensures counted { T.made self.new.tree
             ≡ T.made self.old.tree + (if index == self.old.kept_index then 0 else 2 ^ block_height self.old.height) }
@@ -173,7 +173,7 @@ impl<T: TreeHash> PathCache<T> {
         let block_height = self.height / 2;
         let made = 2u64.pow(u32::from(block_height));
         let leaves = self.leaves.saturating_add(made);
-        fill(&mut self.tree, 0, block_height, index, &mut self.block);
+        make_nodes(&mut self.tree, 0, block_height, index, &mut self.block);
         (self.kept_index, self.leaves) = (index, leaves);
     }
 

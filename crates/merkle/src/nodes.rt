@@ -9,7 +9,7 @@ use crate::tree::{LANES, LANES_HEIGHT, NodeHash, TreeHash, node_at, node_over};
 
 /// Writes the nodes from node `index` of height `base + depth` down to height `base`: `2^(depth + 1) - 1` in all.
 /// Nothing below height `base` is kept. Leaves are made in lanes if eight or more stand under node `index`.
-pub(crate) fn fill<T: TreeHash>(
+pub(crate) fn make_nodes<T: TreeHash>(
     tree: &mut T,
     base: u8,
     depth: u8,
@@ -27,7 +27,7 @@ pub(crate) fn fill<T: TreeHash>(
 {
     if base + depth == LANES_HEIGHT {
         let leaves = tree.leaves_in_lanes(LANES as u32 * index);
-        fill_from_leaves(tree, base, depth, index, &leaves, into);
+        make_from_leaves(tree, base, depth, index, &leaves, into);
         return;
     }
     if depth == 0 {
@@ -38,13 +38,13 @@ pub(crate) fn fill<T: TreeHash>(
     let half = into.len() / 2;
     let (left, rest) = into.split_at_mut(half);
     let (right, top) = rest.split_at_mut(half);
-    fill(tree, base, below, 2 * index, left);
-    fill(tree, base, below, 2 * index + 1, right);
+    make_nodes(tree, base, below, 2 * index, left);
+    make_nodes(tree, base, below, 2 * index + 1, right);
     top[0] = tree.join(base + below, index, &left[half - 1], &right[half - 1]);
 }
 
-/// As `fill`, from leaves that are made already.
-fn fill_from_leaves<T: NodeHash>(
+/// As `make_nodes`, from leaves that are made already.
+fn make_from_leaves<T: NodeHash>(
     tree: &T,
     base: u8,
     depth: u8,
@@ -69,13 +69,13 @@ fn fill_from_leaves<T: NodeHash>(
     let half = into.len() / 2;
     let (left, rest) = into.split_at_mut(half);
     let (right, top) = rest.split_at_mut(half);
-    fill_from_leaves(tree, base, below, 2 * index, first, left);
-    fill_from_leaves(tree, base, below, 2 * index + 1, second, right);
+    make_from_leaves(tree, base, below, 2 * index, first, left);
+    make_from_leaves(tree, base, below, 2 * index + 1, second, right);
     top[0] = tree.join(base + below, index, &left[half - 1], &right[half - 1]);
 }
 
-/// As `fill`, where one node of height `base` is known, and its leaves aren't made again.
-pub(crate) fn fill_around<T: TreeHash>(
+/// As `make_nodes`, where one node of height `base` is known, and its leaves aren't made again.
+pub(crate) fn make_around<T: TreeHash>(
     tree: &mut T,
     base: u8,
     depth: u8,
@@ -106,17 +106,18 @@ pub(crate) fn fill_around<T: TreeHash>(
     // The index of the child over the known node.
     let over = known_index / 2u32.pow(u32::from(below));
     if over == 2 * index {
-        fill_around(tree, base, below, 2 * index, known_index, known, left);
-        fill(tree, base, below, 2 * index + 1, right);
+        make_around(tree, base, below, 2 * index, known_index, known, left);
+        make_nodes(tree, base, below, 2 * index + 1, right);
         top[0] = tree.join(base + below, index, &left[half - 1], &right[half - 1]);
     } else {
-        fill(tree, base, below, 2 * index, left);
-        fill_around(tree, base, below, 2 * index + 1, known_index, known, right);
+        make_nodes(tree, base, below, 2 * index, left);
+        make_around(tree, base, below, 2 * index + 1, known_index, known, right);
         top[0] = tree.join(base + below, index, &left[half - 1], &right[half - 1]);
     }
 }
 
-/// Reads the siblings of the lowest node `i` and of the nodes over it from a list that `fill` wrote, the lowest first.
+/// Reads the siblings of the lowest node `i` and of the nodes over it from a list that `make_nodes` wrote, the lowest
+/// first.
 pub(crate) fn read_path(nodes: &[[u8; 32]], i: u32, into: &mut [[u8; 32]])
     requires at_most_25 { length into.old ≤ 25 }
     requires whole { length nodes.now + 1 ≡ 2 ^ (length into.old + 1) }

@@ -34,27 +34,27 @@ use Rattle.sign_core.proofs.Stays.{key_stays, last_is}
 -- ---- a draw of a new tree
 
 -- A draw, for anything that comes after it: the tree is recorded, and this comes; or it is refused.
-pub data Draws (records : List Record) (comes : (List Record → Outcome (List ℕ)) → Outcome (List ℕ)) : Type 0 where
+pub data ComesOfDraw (records : List Record) (comes : (List Record → Outcome (List ℕ)) → Outcome (List ℕ)) : Type 0 where
   recorded : (extend : Extend) (bytes : List ℕ)
       → ((next : List Record → Outcome (List ℕ)) → comes next ≡ drawing bytes (next (records ++ ExtendRecord extend ∷ [])))
-      → Draws records comes
+      → ComesOfDraw records comes
   ended : (fault : SignFault) (outcome : Outcome (List ℕ)) → outcome.answer ≡ Err fault → outcome.acknowledged ≡ records → outcome.is_read ≡ false
-      → ((next : List Record → Outcome (List ℕ)) → comes next ≡ outcome) → Draws records comes
+      → ((next : List Record → Outcome (List ℕ)) → comes next ≡ outcome) → ComesOfDraw records comes
 
 by_fate : (records : List Record) (extend : Extend) (bytes : List ℕ) (fate : Fate)
-    → Draws records (λ next. drawing bytes (appended (open_state records) (ExtendRecord extend) fate next))
+    → ComesOfDraw records (λ next. drawing bytes (appended (open_state records) (ExtendRecord extend) fate next))
 by_fate records extend bytes acked = recorded extend bytes (λ next. refl)
 by_fate records extend bytes cut_old = ended StoreFailed _ refl refl refl (λ next. refl)
 by_fate records extend bytes cut_new = ended StoreFailed _ refl refl refl (λ next. refl)
 by_fate records extend bytes no_memory = ended OutOfMemory _ refl refl refl (λ next. refl)
 
 along : (records : List Record) (comes others : (List Record → Outcome (List ℕ)) → Outcome (List ℕ)) → ((next : List Record → Outcome (List ℕ)) → others next ≡ comes next)
-    → Draws records comes → Draws records others
+    → ComesOfDraw records comes → ComesOfDraw records others
 along records comes others same (recorded extend bytes is) = recorded extend bytes (λ next. same next ∙ is next)
 along records comes others same (ended fault outcome answer kept unread is) = ended fault outcome answer kept unread (λ next. same next ∙ is next)
 
 by_fields : (records : List Record) (trees : Trees) (level leaf : ℕ) (identifier : List ℕ) (fields : List (List ℕ)) (fate : Fate)
-    → Draws records (λ next. drawing identifier (extended_seed (open_state records) trees level leaf identifier fields fate next))
+    → ComesOfDraw records (λ next. drawing identifier (extended_seed (open_state records) trees level leaf identifier fields fate next))
 by_fields records trees level leaf identifier [] fate = ended RandomFailed _ refl refl refl (λ next. refl)
 by_fields records trees level leaf identifier (seed ∷ []) fate = ended RandomFailed _ refl refl refl (λ next. refl)
 by_fields records trees level leaf identifier (seed ∷ randomizer ∷ []) fate =
@@ -62,19 +62,19 @@ by_fields records trees level leaf identifier (seed ∷ randomizer ∷ []) fate 
 by_fields records trees level leaf identifier (seed ∷ randomizer ∷ other ∷ rest) fate = ended RandomFailed _ refl refl refl (λ next. refl)
 
 by_fresh : (records : List Record) (trees : Trees) (level leaf : ℕ) (identifier : List ℕ) (fields : List (List ℕ)) (fate : Fate) (stands : Bool)
-    → Draws records (λ next. drawing identifier (if stands then refused (open_state records) RandomRepeated
+    → ComesOfDraw records (λ next. drawing identifier (if stands then refused (open_state records) RandomRepeated
     else extended_seed (open_state records) trees level leaf identifier fields fate next))
 by_fresh records trees level leaf identifier fields fate true = ended RandomRepeated _ refl refl refl (λ next. refl)
 by_fresh records trees level leaf identifier fields fate false = by_fields records trees level leaf identifier fields fate
 
 by_first : (records : List Record) (trees : Trees) (level leaf : ℕ) (fields : List (List ℕ)) (fate : Fate)
-    → Draws records (λ next. extended_identifier (open_state records) trees level leaf fields fate next)
+    → ComesOfDraw records (λ next. extended_identifier (open_state records) trees level leaf fields fate next)
 by_first records trees level leaf [] fate = ended RandomFailed _ refl refl refl (λ next. refl)
 by_first records trees level leaf (identifier ∷ fields) fate =
     by_fresh records trees level leaf identifier fields fate (has_identifier records identifier)
 
 pub by_trees : (records : List Record) (key : Key) (level : ℕ) (found : Option Trees) (draw : Draw)
-    → Draws records (extended (open_state records) key level found draw)
+    → ComesOfDraw records (extended (open_state records) key level found draw)
 by_trees records key level None draw = ended RandomFailed _ refl refl refl (λ next. refl)
 by_trees records key level (Some trees) draw = by_first records trees level (next_at key.secret records (level - 1)) draw.fields draw.fate
 
@@ -226,7 +226,7 @@ pub binds_below_after : {S R M : Type 0} (g : store.Ghosts S) (r : source.Ghosts
 binds_below_after {S = S} {R = R} {M = M} g r m name key below level old mid new before after answer at running first second =
     by_draw (by_trees old.records key level (trees_of key.secret) first.draw)
   where
-    by_draw : Draws old.records (extended (open_state old.records) key level (trees_of key.secret) first.draw)
+    by_draw : ComesOfDraw old.records (extended (open_state old.records) key level (trees_of key.secret) first.draw)
         → BindsBelow g r m name (suc below) old new before after answer key
     by_draw (ended fault outcome fails kept unread same) =
         absurd (ok≢err [] fault (sym first.ends.answer_is ∙ ap (λ o. o.answer) (sym first.step ∙ same _) ∙ fails))
@@ -263,7 +263,7 @@ pub is_recorded : {S R : Type 0} (g : store.Ghosts S) (r : source.Ghosts R) (lev
     → Extends g r level old mid (Ok []) key → Recorded g old mid
 is_recorded {S = S} {R = R} g r level old mid key first = by_draw (by_trees old.records key level (trees_of key.secret) first.draw)
   where
-    by_draw : Draws old.records (extended (open_state old.records) key level (trees_of key.secret) first.draw) → Recorded g old mid
+    by_draw : ComesOfDraw old.records (extended (open_state old.records) key level (trees_of key.secret) first.draw) → Recorded g old mid
     by_draw (ended fault outcome fails kept unread same) =
         absurd (ok≢err [] fault (sym first.ends.answer_is ∙ ap (λ o. o.answer) (sym first.step ∙ same _) ∙ fails))
     by_draw (recorded extend bytes comes) =
@@ -302,7 +302,7 @@ pub binds_below_refused : {S R M : Type 0} (g : store.Ghosts S) (r : source.Ghos
 binds_below_refused {S = S} {R = R} {M = M} g r m name key below level old new unread fault at first =
     by_draw (by_trees old.records key level (trees_of key.secret) first.draw)
   where
-    by_draw : Draws old.records (extended (open_state old.records) key level (trees_of key.secret) first.draw)
+    by_draw : ComesOfDraw old.records (extended (open_state old.records) key level (trees_of key.secret) first.draw)
         → BindsBelow g r m name (suc below) old new unread unread (Err fault) key
     by_draw (recorded extend bytes comes) =
         absurd (ok≢err [] fault (ap (λ o. o.answer) (sym (comes _) ∙ first.step) ∙ first.ends.answer_is))

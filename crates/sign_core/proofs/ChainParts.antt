@@ -23,7 +23,7 @@ use Rattle.state_file.specs.declared.record.Secret.{Secret}
 use Rattle.state_file.specs.declared.record.Secret.TheVariants.{Lms, Hss, Xmss}
 use Rattle.hss.specs.declared.secret.Level.{Level}
 use Rattle.sign_core.specs.Records.{current, the_key}
-use Rattle.sign_core.specs.inner.Links.{IsTreeAt, signings_of}
+use Rattle.sign_core.specs.inner.KeyTrees.{IsTreeAt, signings_of}
 use Rattle.sign_core.specs.Signing.{IsXmssKey}
 use Rattle.sign_core.specs.inner.Signing.{pairs_of}
 use Rattle.sign_core.specs.Textbook.{Trees, damaged_at, digest_at, any_digest, secret_at, made_secret, textbook_signature, any_signature}

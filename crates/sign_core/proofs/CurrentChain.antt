@@ -11,7 +11,7 @@ use Rattle.state_file.specs.declared.record.Secret.{Secret}
 use Rattle.sign_core.specs.declared.trees.Tree.{Tree}
 use Rattle.sign_core.specs.Records.{current, free_at, the_key, next_at}
 use Rattle.sign_core.proofs.Found.{next_of}
-use Rattle.sign_core.specs.inner.Links.{IsTreeAt}
+use Rattle.sign_core.specs.inner.KeyTrees.{IsTreeAt}
 use Rattle.sign_core.specs.Trees.{tree_at, with_next}
 use Rattle.sign_core.specs.Textbook.{Trees, secret_at, trees_of}
 use Rattle.sign_core.proofs.Keys.{key_stands}

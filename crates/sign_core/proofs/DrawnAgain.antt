@@ -118,8 +118,8 @@ module _ (Q : Outcome (List ℕ) → Type 0) (limit : ℕ) (state : State) (name
 -- ---- 24
 
 -- Where the answer is 24, an I was drawn again.
-abbrev Repeats : (before : List Record) → (draws : List Draw) → Outcome (List ℕ) → Type 0
-Repeats before draws outcome =
+abbrev RepeatsDrawn : (before : List Record) → (draws : List Draw) → Outcome (List ℕ) → Type 0
+RepeatsDrawn before draws outcome =
     outcome.answer ≡ Err RandomRepeated → DrewAgain before draws outcome.state.records outcome.drawn
 
 repeats_bound : (state : State) (key : Key) (name : List ℕ) (randomizer given : Option (List ℕ)) (fate : Fate)
@@ -152,8 +152,8 @@ one_more records entry draw draws identifier seed randomizer left drawn are agai
 
 repeats_append : (records : List Record) (entry : Record) (fate : Fate) (draw : Draw) (draws : List Draw)
     (identifier seed randomizer : List ℕ) (next : List Record → Outcome (List ℕ))
-    → draw.fields ≡ identifier ∷ seed ∷ randomizer ∷ [] → ((all : List Record) → Repeats all draws (next all))
-    → Repeats records (draw ∷ draws)
+    → draw.fields ≡ identifier ∷ seed ∷ randomizer ∷ [] → ((all : List Record) → RepeatsDrawn all draws (next all))
+    → RepeatsDrawn records (draw ∷ draws)
     (drawing identifier (drawing (seed ++ randomizer) (appended (open_state records) entry fate next)))
 repeats_append records entry acked draw draws identifier seed randomizer next are later is =
     let rest = next (records ++ entry ∷ []) in
@@ -165,8 +165,8 @@ repeats_append records entry no_memory draw draws identifier seed randomizer nex
 
 repeats_seed : (records : List Record) (trees : Trees) (level leaf : ℕ) (identifier : List ℕ) (fields : List (List ℕ))
     (fate : Fate) (draw : Draw) (draws : List Draw) (next : List Record → Outcome (List ℕ))
-    → draw.fields ≡ identifier ∷ fields → ((all : List Record) → Repeats all draws (next all))
-    → Repeats records (draw ∷ draws)
+    → draw.fields ≡ identifier ∷ fields → ((all : List Record) → RepeatsDrawn all draws (next all))
+    → RepeatsDrawn records (draw ∷ draws)
     (drawing identifier (extended_seed (open_state records) trees level leaf identifier fields fate next))
 repeats_seed records trees level leaf identifier [] fate draw draws next are later is = absurd (cc)
 repeats_seed records trees level leaf identifier (seed ∷ []) fate draw draws next are later is = absurd (cc)
@@ -176,11 +176,11 @@ repeats_seed records trees level leaf identifier (seed ∷ randomizer ∷ more �
     absurd (cc)
 
 repeats_identifier : (records : List Record) (trees : Trees) (level leaf : ℕ) (fields : List (List ℕ)) (draw : Draw) (draws : List Draw)
-    (next : List Record → Outcome (List ℕ)) → draw.fields ≡ fields → ((all : List Record) → Repeats all draws (next all))
-    → Repeats records (draw ∷ draws) (extended_identifier (open_state records) trees level leaf fields draw.fate next)
+    (next : List Record → Outcome (List ℕ)) → draw.fields ≡ fields → ((all : List Record) → RepeatsDrawn all draws (next all))
+    → RepeatsDrawn records (draw ∷ draws) (extended_identifier (open_state records) trees level leaf fields draw.fate next)
 repeats_identifier records trees level leaf [] draw draws next are later = λ is. absurd (cc)
 repeats_identifier records trees level leaf (identifier ∷ fields) draw draws next are later =
-    kept_choice (λ outcome. Repeats records (draw ∷ draws) (drawing identifier outcome))
+    kept_choice (λ outcome. RepeatsDrawn records (draw ∷ draws) (drawing identifier outcome))
     (has_identifier records identifier) (refused (open_state records) RandomRepeated)
     (extended_seed (open_state records) trees level leaf identifier fields draw.fate next)
     (λ there is. record {
@@ -197,8 +197,8 @@ repeats_identifier records trees level leaf (identifier ∷ fields) draw draws n
     (λ new. repeats_seed records trees level leaf identifier fields draw.fate draw draws next are later)
 
 repeats_extended : (records : List Record) (key : Key) (level : ℕ) (trees : Option Trees) (draw : Draw) (draws : List Draw)
-    (next : List Record → Outcome (List ℕ)) → ((all : List Record) → Repeats all draws (next all))
-    → Repeats records (draw ∷ draws) (extended (open_state records) key level trees draw next)
+    (next : List Record → Outcome (List ℕ)) → ((all : List Record) → RepeatsDrawn all draws (next all))
+    → RepeatsDrawn records (draw ∷ draws) (extended (open_state records) key level trees draw next)
 repeats_extended records key level None draw draws next later = λ is. absurd (cc)
 repeats_extended records key level (Some trees) draw draws next later =
     repeats_identifier records trees level (next_at key.secret records (level - 1)) draw.fields draw draws next refl later
@@ -210,7 +210,7 @@ undrawn records key level None next is = cc
 undrawn records key level (Some trees) next is = cc
 
 repeats_bound_below : (key : Key) (name : List ℕ) (chance : Chance) (below : ℕ) (draws : List Draw) (records : List Record)
-    → Repeats records draws (bound_trees key name chance below draws records)
+    → RepeatsDrawn records draws (bound_trees key name chance below draws records)
 repeats_bound_below key name chance zero draws records = λ is.
     absurd (repeats_bound (open_state records) key name (randomizer_of_fields key.secret chance.bound.fields) chance.given chance.bound.fate is)
 repeats_bound_below key name chance (suc below) [] records = λ is.
@@ -223,7 +223,7 @@ pub drawn_again : (limit : ℕ) (state : State) (name : List ℕ) (chance : Chan
     → DrewAgain state.records chance.trees (requested limit state name chance).state.records
     (requested limit state name chance).drawn
 drawn_again limit state name chance =
-    let all = Repeats state.records chance.trees in
+    let all = RepeatsDrawn state.records chance.trees in
     let settled : IsSettled all state =
     record { refused_for = λ fault other is. absurd (other (cc)); gives = λ signature is. absurd (cc); read = λ outcome again. again } in
     settled_key all limit state name chance settled.refused_for (the_key state.records) refl
@@ -318,46 +318,46 @@ drawn_most limit state key name chance keyed drawn =
 
 -- ---- what is signed was read
 
-abbrev IsRead : (given : Option (List ℕ)) → Outcome (List ℕ) → Type 0
-IsRead given outcome = (signature : List ℕ) → outcome.answer ≡ Ok signature → IsSome given × (outcome.is_read ≡ true)
+abbrev HasMessage : (given : Option (List ℕ)) → Outcome (List ℕ) → Type 0
+HasMessage given outcome = (signature : List ℕ) → outcome.answer ≡ Ok signature → IsSome given × (outcome.is_read ≡ true)
 
 read_append : (given : Option (List ℕ)) (state : State) (entry : Record) (fate : Fate) (next : List Record → Outcome (List ℕ))
-    → ((all : List Record) → IsRead given (next all)) → IsRead given (appended state entry fate next)
+    → ((all : List Record) → HasMessage given (next all)) → HasMessage given (appended state entry fate next)
 read_append given state entry acked next later = later (state.records ++ entry ∷ [])
 read_append given state entry cut_old next later = λ signature is. absurd (cc)
 read_append given state entry cut_new next later = λ signature is. absurd (cc)
 read_append given state entry no_memory next later = λ signature is. absurd (cc)
 
 read_bound : (state : State) (key : Key) (name : List ℕ) (randomizer given : Option (List ℕ)) (fate : Fate)
-    → IsRead given (bound_message state key name randomizer given fate)
+    → HasMessage given (bound_message state key name randomizer given fate)
 read_bound state key name None given fate signature is = absurd (cc)
 read_bound state key name (Some randomizer) None fate signature is = absurd (cc)
 read_bound state key name (Some randomizer) (Some message) fate signature is = (refl, refl)
 
 read_seed : (given : Option (List ℕ)) (state : State) (trees : Trees) (level leaf : ℕ) (identifier : List ℕ) (fields : List (List ℕ)) (fate : Fate)
-    (next : List Record → Outcome (List ℕ)) → ((all : List Record) → IsRead given (next all))
-    → IsRead given (extended_seed state trees level leaf identifier fields fate next)
+    (next : List Record → Outcome (List ℕ)) → ((all : List Record) → HasMessage given (next all))
+    → HasMessage given (extended_seed state trees level leaf identifier fields fate next)
 read_seed given state trees level leaf identifier [] fate next later = λ signature is. absurd (cc)
 read_seed given state trees level leaf identifier (seed ∷ []) fate next later = λ signature is. absurd (cc)
 read_seed given state trees level leaf identifier (seed ∷ randomizer ∷ []) fate next later = read_append given state _ fate next later
 read_seed given state trees level leaf identifier (seed ∷ randomizer ∷ more ∷ rest) fate next later = λ signature is. absurd (cc)
 
 read_identifier : (given : Option (List ℕ)) (state : State) (trees : Trees) (level leaf : ℕ) (fields : List (List ℕ)) (fate : Fate)
-    (next : List Record → Outcome (List ℕ)) → ((all : List Record) → IsRead given (next all))
-    → IsRead given (extended_identifier state trees level leaf fields fate next)
+    (next : List Record → Outcome (List ℕ)) → ((all : List Record) → HasMessage given (next all))
+    → HasMessage given (extended_identifier state trees level leaf fields fate next)
 read_identifier given state trees level leaf [] fate next later = λ signature is. absurd (cc)
 read_identifier given state trees level leaf (identifier ∷ fields) fate next later =
-    kept_choice (IsRead given) (has_identifier state.records identifier) _ _ (λ there signature is. absurd (cc))
+    kept_choice (HasMessage given) (has_identifier state.records identifier) _ _ (λ there signature is. absurd (cc))
     (λ new. read_seed given state trees level leaf identifier fields fate next later)
 
 read_extended : (given : Option (List ℕ)) (state : State) (key : Key) (level : ℕ) (trees : Option Trees) (draw : Draw)
-    (next : List Record → Outcome (List ℕ)) → ((all : List Record) → IsRead given (next all)) → IsRead given (extended state key level trees draw next)
+    (next : List Record → Outcome (List ℕ)) → ((all : List Record) → HasMessage given (next all)) → HasMessage given (extended state key level trees draw next)
 read_extended given state key level None draw next later = λ signature is. absurd (cc)
 read_extended given state key level (Some trees) draw next later =
     read_identifier given state trees level (next_at key.secret state.records (level - 1)) draw.fields draw.fate next later
 
 read_bound_below : (key : Key) (name : List ℕ) (chance : Chance) (below : ℕ) (draws : List Draw) (records : List Record)
-    → IsRead chance.given (bound_trees key name chance below draws records)
+    → HasMessage chance.given (bound_trees key name chance below draws records)
 read_bound_below key name chance zero draws records =
     read_bound (open_state records) key name (randomizer_of_fields key.secret chance.bound.fields) chance.given chance.bound.fate
 read_bound_below key name chance (suc below) draws records =
@@ -365,14 +365,14 @@ read_bound_below key name chance (suc below) draws records =
     (bound_trees key name chance below (drop 1 draws)) (read_bound_below key name chance below (drop 1 draws))
 
 read_repeated : (state : State) (key : Key) (k : ℕ) (bound : Bound) (chance : Chance) (given : Option (List ℕ))
-    → IsRead given (repeated state key k bound chance given)
+    → HasMessage given (repeated state key k bound chance given)
 read_repeated state key k bound chance None signature is = absurd (cc)
 read_repeated state key k bound chance (Some message) signature is = (refl, refl)
 
 pub signed_read : (limit : ℕ) (state : State) (name signature : List ℕ) (chance : Chance) → (requested limit state name chance).answer ≡ Ok signature
     → IsSome chance.given × ((requested limit state name chance).is_read ≡ true)
 signed_read limit state name signature chance =
-    settled_key (IsRead chance.given) limit state name chance (λ fault other given is. absurd (cc))
+    settled_key (HasMessage chance.given) limit state name chance (λ fault other given is. absurd (cc))
     (the_key state.records) refl (λ key k bound is. read_repeated state key k bound chance chance.given)
     (λ key level wants.
     read_bound_below key name chance (bottom_of key.secret - level) chance.trees state.records) signature

@@ -11,7 +11,7 @@ use Rattle.sign_core.specs.Events.{AreFields, tree_sizes}
 use Rattle.sign_core.specs.Records.{can_move, next_leaf}
 use Rattle.sign_core.specs.Textbook.{Trees, digest_at, secret_at, chain_signings}
 use Rattle.sign_core.specs.World.{Draw, Migration, State, closed_state, migrated_list}
-use Rattle.sign_core.specs.inner.Links.{signing_of_bound}
+use Rattle.sign_core.specs.inner.KeyTrees.{signing_of_bound}
 
 abbrev pub next_of : Secret → List Record → (tree : Option ℕ) → ℕ
 next_of secret records tree = unwrap_or (option_map (next_leaf secret records) tree) 0

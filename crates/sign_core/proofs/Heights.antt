@@ -17,7 +17,7 @@ use Rattle.sign_core.specs.Progress.{types_of_key}
 use Rattle.sign_core.specs.Records.{current, the_key, types_of}
 use Rattle.sign_core.specs.Textbook.{Trees, secret_at, trees_of}
 use Rattle.sign_core.specs.Trees.{tree_at, with_next}
-use Rattle.sign_core.specs.inner.Links.{IsTreeAt}
+use Rattle.sign_core.specs.inner.KeyTrees.{IsTreeAt}
 use Rattle.sign_core.specs.inner.Progress.{height_at}
 use Rattle.sign_core.proofs.CurrentChain.{tree_stands}
 use Rattle.sign_core.proofs.Keys.{key_stands, legal_key}

@@ -25,7 +25,7 @@ use Rattle.sign_core.specs.declared.secret_trees.SecretTrees.TheVariants.{Chain,
 use Rattle.sign_core.specs.declared.ledger.Binding.{Binding}
 use Rattle.sign_core.specs.declared.trees.Tree.{Tree}
 use Rattle.sign_core.specs.inner.Caches.{HasOwn, KeepsDownTo}
-use Rattle.sign_core.specs.inner.Links.{IsTreeAt, MakesTrees, chain_trees}
+use Rattle.sign_core.specs.inner.KeyTrees.{IsTreeAt, MakesTrees, chain_trees}
 use Rattle.sign_core.specs.inner.Signing.{IsBindingOf}
 use Rattle.sign_core.proofs.Append.{current_above, current_new}
 use Rattle.sign_core.proofs.Lists.{slice_get_new}

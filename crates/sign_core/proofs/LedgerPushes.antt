@@ -19,14 +19,14 @@ use Rattle.state_file.specs.declared.record.Secret.{Secret}
 use Rattle.state_file.specs.declared.record.Secret.TheVariants.{Lms, Hss, Xmss}
 use Rattle.state_file.specs.Laws.{bottom_of, leaves_at, tree_leaves_at, levels_of}
 use Rattle.sign_core.specs.Records.{are_same, binding_at, can_follow, can_follow_legal, current, has_identifier, has_moved, has_randomizer, is_free}
-use Rattle.sign_core.specs.Ledger.{ByPlace, ByText, IsTableOf, bound_at, made_at, made_entry, of_place, of_text}
+use Rattle.sign_core.specs.Ledger.{ByPlace, ByText, IsTableOf, bound_at, recorded_at, recorded_entry, of_place, of_text}
 use Rattle.sign_core.specs.inner.Trees.{FollowsExtend, place_of}
 use Rattle.sign_core.proofs.Kept.{FollowsBound}
 use Rattle.sign_core.specs.Trees.{HasTrees, with_next}
 use Rattle.sign_core.specs.Trees.{kept_at as tree_kept}
 use Rattle.sign_core.specs.Textbook.{HasSizes, current_at}
 use Rattle.sign_core.specs.declared.name_map.NameMap.{NameMap}
-use Rattle.sign_core.specs.declared.ledger.Made.{Made}
+use Rattle.sign_core.specs.declared.ledger.RecordedTree.{RecordedTree}
 use Rattle.sign_core.specs.declared.trees.Tree.{Tree}
 use Rattle.sign_core.proofs.Follow.{follower_name, free_means, key_stays}
 use Rattle.sign_core.proofs.Keys.{key_stands}
@@ -114,7 +114,7 @@ tree_of_end secret records levels level has within =
 
 -- ---- a Bound
 
-pub grown_bound : (records : List Record) (key : Key) (made : ByPlace Made) (bindings : NameMap) (identifiers : ByText ℕ)
+pub grown_bound : (records : List Record) (key : Key) (made : ByPlace RecordedTree) (bindings : NameMap) (identifiers : ByText ℕ)
     (levels : List (Option Tree)) (count : ℕ) (moved : Bool) → IsTableOf records key made bindings identifiers levels count moved
     → (bound : Bound) (bottom tree : ℕ) → can_follow (Some key) records (BoundRecord bound) ≡ true → HasSizes (BoundRecord bound)
     → bottom ≡ bottom_of key.secret → bottom < 8 → tree ≡ place_of (tree_kept levels bottom)
@@ -141,7 +141,7 @@ grown_bound records key made bindings identifiers levels count moved old bound b
       moved_is = old.moved_is ∙ stays ∙ moved_last records (BoundRecord bound);
       trees_are = trees key.secret records key bound place (key_stands records key old.keyed) (sym last) refl
           (ap (λ l. current l records) last ∙ at) old.trees_are;
-      made_are = λ k. old.made_are k ∙ sym (made_other records (BoundRecord bound) k (λ n. refl));
+      recorded_are = λ k. old.recorded_are k ∙ sym (made_other records (BoundRecord bound) k (λ n. refl));
       bindings_are = λ name.
           bound_is name
           ∙ (λ i. cond (are_same (named i) name)
@@ -155,18 +155,18 @@ grown_bound records key made bindings identifiers levels count moved old bound b
 
 -- an Extend is kept at its place, with the tree that was current above it
 made_grown : (records : List Record) (extend : Extend) (place : ℕ)
-    → made_at (records ++ ExtendRecord extend ∷ []) place
-    ≡ cond (nat_eq (length records) place) (made_entry records (length records) (Some (ExtendRecord extend))) (made_at records place)
+    → recorded_at (records ++ ExtendRecord extend ∷ []) place
+    ≡ cond (nat_eq (length records) place) (recorded_entry records (length records) (Some (ExtendRecord extend))) (recorded_at records place)
 made_grown records extend place = elim (cases_eq (length records) place) [
   | inl same ↦
-      sym (ap (made_at (records ++ ExtendRecord extend ∷ [])) same) ∙ made_here records (ExtendRecord extend)
-      ∙ sym (ap (λ b. cond b (made_entry records (length records) (Some (ExtendRecord extend))) (made_at records place)) (eq-eqb (length records) place same))
+      sym (ap (recorded_at (records ++ ExtendRecord extend ∷ [])) same) ∙ made_here records (ExtendRecord extend)
+      ∙ sym (ap (λ b. cond b (recorded_entry records (length records) (Some (ExtendRecord extend))) (recorded_at records place)) (eq-eqb (length records) place same))
   | inr apart ↦
       by apart
-      ∙ sym (ap (λ b. cond b (made_entry records (length records) (Some (ExtendRecord extend))) (made_at records place)) (ne_eqb (length records) place apart))
+      ∙ sym (ap (λ b. cond b (recorded_entry records (length records) (Some (ExtendRecord extend))) (recorded_at records place)) (ne_eqb (length records) place apart))
 ]
   where
-    by : (length records ≡ place → ⊥) → made_at (records ++ ExtendRecord extend ∷ []) place ≡ made_at records place
+    by : (length records ≡ place → ⊥) → recorded_at (records ++ ExtendRecord extend ∷ []) place ≡ recorded_at records place
     by apart = elim (cases_lt place (length records)) [
       | inl below ↦ made_before records (ExtendRecord extend) place below
       | inr beyond ↦ made_after records (ExtendRecord extend) place (omega (arith, beyond, apart))
@@ -177,12 +177,12 @@ some_or true place None = refl
 some_or true place (Some other) = refl
 some_or false place found = sym (or_none (is_some found))
 
-pub grown_extend : (records : List Record) (key : Key) (made : ByPlace Made) (bindings : NameMap) (identifiers : ByText ℕ)
+pub grown_extend : (records : List Record) (key : Key) (made : ByPlace RecordedTree) (bindings : NameMap) (identifiers : ByText ℕ)
     (levels : List (Option Tree)) (count : ℕ) (moved : Bool) → IsTableOf records key made bindings identifiers levels count moved
     → (extend : Extend) (level parent : ℕ) → can_follow (Some key) records (ExtendRecord extend) ≡ true → HasSizes (ExtendRecord extend)
     → level ≡ extend.level → level - 1 < 8 → parent ≡ place_of (tree_kept levels (level - 1))
     → (new_levels : List (Option Tree)) → FollowsExtend levels level extend.parent_leaf count new_levels
-    → (new_made : ByPlace Made)
+    → (new_made : ByPlace RecordedTree)
     → ((place : ℕ) → of_place new_made place ≡ cond (nat_eq count place) (Some (record { extend = extend; parent = parent })) (of_place made place))
     → (new_identifiers : ByText ℕ)
     → ((identifier : List ℕ) → of_text new_identifiers identifier
@@ -206,9 +206,9 @@ grown_extend records key made bindings identifiers levels count moved old extend
       moved_is = old.moved_is ∙ stays ∙ moved_last records (ExtendRecord extend);
       trees_are = trees key.secret records key extend place (key_stands records key old.keyed) (sym old.counted) (sym same) refl
           (ap (λ l. current (l - 1) records) same ∙ at) old.trees_are;
-      made_are = λ k.
+      recorded_are = λ k.
           made_is k
-          ∙ (λ i. cond (nat_eq (old.counted i) k) (Some (record { extend = extend; parent = under i })) (old.made_are k i))
+          ∙ (λ i. cond (nat_eq (old.counted i) k) (Some (record { extend = extend; parent = under i })) (old.recorded_are k i))
           ∙ sym (made_grown records extend k);
       bindings_are = λ name. old.bindings_are name ∙ sym (kept_other key.secret records (ExtendRecord extend) name refl);
       identifiers_are = λ identifier.

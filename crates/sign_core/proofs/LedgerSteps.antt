@@ -13,12 +13,12 @@ use Rattle.state_file.specs.declared.record.Record.TheVariants.{Key as KeyRecord
 use Rattle.state_file.specs.declared.record.Secret.{Secret}
 use Rattle.state_file.specs.Laws.{bottom_of, identifier_of, leaves_at}
 use Rattle.sign_core.specs.Records.{are_same, binding_at, can_follow, can_follow_legal, current, has_identifier, has_moved, is_moved}
-use Rattle.sign_core.specs.Ledger.{ByPlace, ByText, IsTableOf, binding_kept, kept_of, made_at, made_entry}
+use Rattle.sign_core.specs.Ledger.{ByPlace, ByText, IsTableOf, binding_kept, kept_of, recorded_at, recorded_entry}
 use Rattle.sign_core.proofs.Kept.{FollowsRetire}
 use Rattle.sign_core.specs.Trees.{HasTrees}
 use Rattle.sign_core.specs.Textbook.{AllHaveSizes, HasSizes}
 use Rattle.sign_core.specs.declared.name_map.NameMap.{NameMap}
-use Rattle.sign_core.specs.declared.ledger.Made.{Made}
+use Rattle.sign_core.specs.declared.ledger.RecordedTree.{RecordedTree}
 use Rattle.sign_core.specs.declared.trees.Tree.{Tree}
 use Rattle.sign_core.proofs.Append.{take_of_longer}
 use Rattle.sign_core.proofs.Bindings.{binding_new, binding_other, binding_stands, binds, identifier_appended, is_of}
@@ -41,7 +41,7 @@ slice_get_after (x ∷ xs) new zero beyond = absurd (omega (arith, beyond))
 slice_get_after (x ∷ xs) new (suc k) beyond = slice_get_after xs new k (omega (arith, beyond))
 
 made_same : (records : List Record) (entry : Record) (place : ℕ) (found : Option Record) → place ≤ length records
-    → made_entry (records ++ entry ∷ []) place found ≡ made_entry records place found
+    → recorded_entry (records ++ entry ∷ []) place found ≡ recorded_entry records place found
 made_same records entry place (Some (ExtendRecord extend)) within =
     ap (λ l. Some (record { extend = extend; parent = unwrap_or (current (extend.level - 1) l) 0 })) (take_of_longer records (entry ∷ []) place within)
 made_same records entry place (Some (KeyRecord key)) within = refl
@@ -51,31 +51,31 @@ made_same records entry place (Some Moved) within = refl
 made_same records entry place None within = refl
 
 pub made_before : (records : List Record) (entry : Record) (place : ℕ) → place < length records
-    → made_at (records ++ entry ∷ []) place ≡ made_at records place
+    → recorded_at (records ++ entry ∷ []) place ≡ recorded_at records place
 made_before records entry place below =
-    ap (made_entry (records ++ entry ∷ []) place) (slice_get_front records (entry ∷ []) place below)
+    ap (recorded_entry (records ++ entry ∷ []) place) (slice_get_front records (entry ∷ []) place below)
     ∙ made_same records entry place (slice_get records place) (omega (arith, below))
 
 pub made_after : (records : List Record) (entry : Record) (place : ℕ) → length records < place
-    → made_at (records ++ entry ∷ []) place ≡ made_at records place
+    → recorded_at (records ++ entry ∷ []) place ≡ recorded_at records place
 made_after records entry place beyond =
-    ap (made_entry (records ++ entry ∷ []) place) (slice_get_after records entry place beyond)
-    ∙ sym (ap (made_entry records place) (slice_get_past records place (omega (arith, beyond))))
+    ap (recorded_entry (records ++ entry ∷ []) place) (slice_get_after records entry place beyond)
+    ∙ sym (ap (recorded_entry records place) (slice_get_past records place (omega (arith, beyond))))
 
-pub made_here : (records : List Record) (entry : Record) → made_at (records ++ entry ∷ []) (length records) ≡ made_entry records (length records) (Some entry)
+pub made_here : (records : List Record) (entry : Record) → recorded_at (records ++ entry ∷ []) (length records) ≡ recorded_entry records (length records) (Some entry)
 made_here records entry =
-    ap (made_entry (records ++ entry ∷ []) (length records)) (slice_get_new records entry)
+    ap (recorded_entry (records ++ entry ∷ []) (length records)) (slice_get_new records entry)
     ∙ made_same records entry (length records) (Some entry) (omega arith)
 
-pub made_other : (records : List Record) (entry : Record) (place : ℕ) → ((k : ℕ) → made_entry records k (Some entry) ≡ None)
-    → made_at (records ++ entry ∷ []) place ≡ made_at records place
+pub made_other : (records : List Record) (entry : Record) (place : ℕ) → ((k : ℕ) → recorded_entry records k (Some entry) ≡ None)
+    → recorded_at (records ++ entry ∷ []) place ≡ recorded_at records place
 made_other records entry place none = elim (cases_lt place (length records)) [
   | inl below ↦ made_before records entry place below
   | inr beyond ↦ elim (cases_eq place (length records)) [
     | inl same ↦
-        subst (λ k. made_at (records ++ entry ∷ []) k ≡ made_at records k) (sym same)
+        subst (λ k. recorded_at (records ++ entry ∷ []) k ≡ recorded_at records k) (sym same)
         (made_here records entry ∙ none (length records)
-        ∙ sym (ap (made_entry records (length records)) (slice_get_past records (length records) (omega arith))))
+        ∙ sym (ap (recorded_entry records (length records)) (slice_get_past records (length records) (omega arith))))
     | inr apart ↦ made_after records entry place (omega (arith, beyond, apart))
   ]
 ]
@@ -156,14 +156,14 @@ sizes_grown records entry sizes own k other at = elim (front_or_new records entr
   | inr (end, same) ↦ subst HasSizes same own
 ]
 
-module _ (records : List Record) (key : Key) (made : ByPlace Made) (bindings : NameMap) (identifiers : ByText ℕ)
+module _ (records : List Record) (key : Key) (made : ByPlace RecordedTree) (bindings : NameMap) (identifiers : ByText ℕ)
     (levels : List (Option Tree)) (count : ℕ) (moved : Bool) (old : IsTableOf records key made bindings identifiers levels count moved)
     (entry : Record) (follows : can_follow (Some key) records entry ≡ true) where
   pub is_some_record : 0 < length records
   is_some_record = slice_get_within records 0 (KeyRecord key) (key_stands records key old.keyed)
 
   -- after a record that makes no tree and binds no name
-  pub grown_plain : ((k : ℕ) → made_entry records k (Some entry) ≡ None) → ((name : List ℕ) → binds name entry ≡ None) → identifier_of entry ≡ None
+  pub grown_plain : ((k : ℕ) → recorded_entry records k (Some entry) ≡ None) → ((name : List ℕ) → binds name entry ≡ None) → identifier_of entry ≡ None
       → HasSizes entry → (new_levels : List (Option Tree)) → HasTrees key.secret (records ++ entry ∷ []) new_levels
       → (new_moved : Bool) → new_moved ≡ is_moved (Some entry) → (new : List Record) → new ≡ records ++ entry ∷ []
       → IsTableOf new key made bindings identifiers new_levels (count + 1) new_moved
@@ -175,7 +175,7 @@ module _ (records : List Record) (key : Key) (made : ByPlace Made) (bindings : N
         counted = omega (arith, old.counted, length_push records entry);
         moved_is = last ∙ moved_last records entry;
         trees_are = trees;
-        made_are = λ place. old.made_are place ∙ sym (made_other records entry place unmade);
+        recorded_are = λ place. old.recorded_are place ∙ sym (made_other records entry place unmade);
         bindings_are = λ name. old.bindings_are name ∙ sym (kept_other key.secret records entry name (unbound name));
         identifiers_are = λ identifier. old.identifiers_are identifier ∙ sym (identifier_other records entry identifier is_some_record none);
       })
@@ -188,7 +188,7 @@ some_means : (found : Option ℕ) → is_some found ≡ true → (place : ℕ) �
 some_means None is = absurd (true≢false (sym is))
 some_means (Some place) is = (place, refl)
 
-pub grown_retire : (records : List Record) (key : Key) (made : ByPlace Made) (bindings : NameMap) (identifiers : ByText ℕ)
+pub grown_retire : (records : List Record) (key : Key) (made : ByPlace RecordedTree) (bindings : NameMap) (identifiers : ByText ℕ)
     (levels : List (Option Tree)) (count : ℕ) (moved : Bool) → IsTableOf records key made bindings identifiers levels count moved
     → (upto bottom : ℕ) → can_follow (Some key) records (Retire upto) ≡ true → bottom ≡ bottom_of key.secret
     → (new_levels : List (Option Tree)) → FollowsRetire levels bottom upto new_levels → (new : List Record) → new ≡ records ++ Retire upto ∷ []

@@ -19,10 +19,10 @@ use Rattle.state_file.specs.declared.record.Record.{Record}
 use Rattle.state_file.specs.declared.record.Record.TheVariants.{Key as KeyRecord, Extend as ExtendRecord, Bound as BoundRecord, Retire, Moved}
 use Rattle.state_file.specs.declared.record.Secret.{Secret}
 use Rattle.state_file.specs.declared.record.Secret.TheVariants.{Lms, Hss, Xmss}
-use Rattle.sign_core.specs.declared.ledger.Made.{Made}
+use Rattle.sign_core.specs.declared.ledger.RecordedTree.{RecordedTree}
 use Rattle.sign_core.specs.Records.{current, the_key}
-use Rattle.sign_core.specs.inner.Links.{AreMade, IsMade, IsTreeAt, IsTreeBy, signings_of}
-use Rattle.sign_core.specs.Ledger.{made_at, made_entry}
+use Rattle.sign_core.specs.inner.KeyTrees.{AreMade, IsMade, IsTreeAt, IsTreeBy, signings_of}
+use Rattle.sign_core.specs.Ledger.{recorded_at, recorded_entry}
 use Rattle.sign_core.specs.Textbook.{Trees, tree_chain, damaged_at, is_sound_at, secret_at, made_secret, current_at}
 use Rattle.sign_core.specs.Textbook.{parent_signing, leaf_signing, chain_signings, trees_of}
 use Rattle.sign_core.proofs.Chains.{got_front, got_last, named_by}
@@ -43,10 +43,10 @@ one_extend : (a b : Extend) → Some (ExtendRecord a) ≡ Some (ExtendRecord b) 
 unfolding extend_in
 one_extend a b same = same_Some a b (ap extend_in same)
 
-pub made_extend : (records : List Record) (place : ℕ) (entry : Option Record) (made : Made) → made_entry records place entry ≡ Some made
+pub made_extend : (records : List Record) (place : ℕ) (entry : Option Record) (made : RecordedTree) → recorded_entry records place entry ≡ Some made
     → (entry ≡ Some (ExtendRecord made.extend)) × (made.parent ≡ current_at (made.extend.level - 1) records place)
 made_extend records place (Some (ExtendRecord extend)) made is =
-    let own : Made = record { extend = extend; parent = current_at (extend.level - 1) records place } in
+    let own : RecordedTree = record { extend = extend; parent = current_at (extend.level - 1) records place } in
     let same : own ≡ made = same_Some own made is in
     (ap (λ m. Some (ExtendRecord m.extend)) same, subst (λ m. m.parent ≡ current_at (m.extend.level - 1) records place) same refl)
 made_extend records place (Some (KeyRecord key)) made is = absurd (cc)
@@ -193,15 +193,15 @@ tree_signs tree secret leaf randomizer digest by = λ i. leaf_signing (by.secret
 -- ---- one more level
 
 -- A kept Extend is the tree of its level, under the tree at its parent's place.
-pub record IsUnder (trees : Trees) (records : List Record) (level place : ℕ) (made : Made) : Type 0 where
+pub record IsUnder (trees : Trees) (records : List Record) (level place : ℕ) (made : RecordedTree) : Type 0 where
   pub stands : slice_get records place ≡ Some (ExtendRecord made.extend)
   pub some : 1 ≤ level
   pub above : current_at (level - 1) records place ≡ made.parent
   pub parent : IsTreeAt records (level - 1) made.parent
   pub inside : made.extend.parent_leaf < 2 ^ height_of (secret_at trees records made.parent).pair.tree
 
-pub is_under : (key : Key) (trees : Trees) (records : List Record) (level place : ℕ) (made : Made) → IsLegal records → the_key records ≡ Some key
-    → trees_of key.secret ≡ Some trees → IsTreeAt records level place → made_at records place ≡ Some made → IsUnder trees records level place made
+pub is_under : (key : Key) (trees : Trees) (records : List Record) (level place : ℕ) (made : RecordedTree) → IsLegal records → the_key records ≡ Some key
+    → trees_of key.secret ≡ Some trees → IsTreeAt records level place → recorded_at records place ≡ Some made → IsUnder trees records level place made
 is_under key trees records level place made legal keyed these at is =
     let (stands, parent) = made_extend records place (slice_get records place) made is in
     let (same, some) = level_made records key level place made.extend (key_stands records key keyed) at stands in
@@ -220,20 +220,20 @@ is_under key trees records level place made legal keyed these at is =
 next_level : (level : ℕ) → 1 ≤ level → suc (level - 1) ≡ level
 next_level level some = omega (arith, some)
 
-pub chain_sound : (key : Key) (trees : Trees) (records : List Record) (level place : ℕ) (made : Made) → IsUnder trees records level place made
+pub chain_sound : (key : Key) (trees : Trees) (records : List Record) (level place : ℕ) (made : RecordedTree) → IsUnder trees records level place made
     → damaged_at key (level - 1) records made.parent ≡ None → is_sound_at key records place ≡ true → damaged_at key level records place ≡ None
 chain_sound key trees records level place made below above sound =
     subst (λ n. damaged_at key n records place ≡ None) (next_level level below.some)
     (below_sound key records (level - 1) place (ap (damaged_at key (level - 1) records) below.above ∙ above) sound)
 
-pub chain_damaged : (key : Key) (trees : Trees) (records : List Record) (level place k : ℕ) (made : Made) → IsUnder trees records level place made
+pub chain_damaged : (key : Key) (trees : Trees) (records : List Record) (level place k : ℕ) (made : RecordedTree) → IsUnder trees records level place made
     → damaged_at key (level - 1) records made.parent ≡ None → (k ≡ place) × (is_sound_at key records place ≡ false)
     → damaged_at key level records place ≡ Some k
 chain_damaged key trees records level place k made below above (here, damaged) =
     subst (λ n. damaged_at key n records place ≡ Some k) (next_level level below.some)
     (below_damaged key records (level - 1) place (ap (damaged_at key (level - 1) records) below.above ∙ above) damaged ∙ ap Some (sym here))
 
-pub chain_damaged_above : (key : Key) (trees : Trees) (records : List Record) (level place k : ℕ) (made : Made) → IsUnder trees records level place made
+pub chain_damaged_above : (key : Key) (trees : Trees) (records : List Record) (level place k : ℕ) (made : RecordedTree) → IsUnder trees records level place made
     → damaged_at key (level - 1) records made.parent ≡ Some k → damaged_at key level records place ≡ Some k
 chain_damaged_above key trees records level place k made below above =
     subst (λ n. damaged_at key n records place ≡ Some k) (next_level level below.some)
@@ -247,7 +247,7 @@ signings_more trees records level place extend stands =
     let parent = current_at level records place in
     sym (ap (λ r. chain_signings trees level records parent ++ parent_signing trees records parent r) stands)
 
-signings_of_chain : (trees : Trees) (records : List Record) (level place : ℕ) (made : Made) → IsUnder trees records level place made
+signings_of_chain : (trees : Trees) (records : List Record) (level place : ℕ) (made : RecordedTree) → IsUnder trees records level place made
     → chain_signings trees (level - 1) records made.parent ++ named_by (secret_at trees records made.parent) made.extend ∷ []
     ≡ chain_signings trees level records place
 signings_of_chain trees records level place made below =
@@ -256,7 +256,7 @@ signings_of_chain trees records level place made below =
     (signings_more trees records (level - 1) place made.extend below.stands
     ∙ ap (λ n. chain_signings trees n records place) (next_level level below.some))
 
-pub all_signings : (trees : Trees) (records : List Record) (level place : ℕ) (made : Made) (old above new : List Signing)
+pub all_signings : (trees : Trees) (records : List Record) (level place : ℕ) (made : RecordedTree) (old above new : List Signing)
     → IsUnder trees records level place made → above ≡ old ++ chain_signings trees (level - 1) records made.parent
     → new ≡ above ++ named_by (secret_at trees records made.parent) made.extend ∷ [] → new ≡ old ++ chain_signings trees level records place
 all_signings trees records level place made old above new below above_is is =
@@ -272,17 +272,17 @@ pub record Reaches (key : Key) (trees : Trees) (records : List Record) (level pl
   pub len : length new ≡ length old + level
   pub made : AreMade old → AreMade new
 
-pub top_level : (records : List Record) (level place : ℕ) → IsTreeAt records level place → made_at records place ≡ None → level ≡ 0
+pub top_level : (records : List Record) (level place : ℕ) → IsTreeAt records level place → recorded_at records place ≡ None → level ≡ 0
 top_level records zero place at none = refl
 top_level records (suc level) place (extend, stands, of_level) none =
-    absurd (none_some (sym none ∙ ap (made_entry records place) stands))
+    absurd (none_some (sym none ∙ ap (recorded_entry records place) stands))
   where
     none_some : {A X : Type 0} {a : A} → None ≡ Some a → X
     none_some same = cc
 
 -- the Key's tree has none above it
 pub reaches_top : (key : Key) (trees : Trees) (records : List Record) (level place : ℕ) (above : List Level) → IsTreeAt records level place
-    → made_at records place ≡ None → Reaches key trees records level place above above
+    → recorded_at records place ≡ None → Reaches key trees records level place above above
 reaches_top key trees records level place above at none =
     subst (λ n. Reaches key trees records n place above above) (sym (top_level records level place at none)) (record {
       sound = top_sound key records place;
@@ -293,7 +293,7 @@ reaches_top key trees records level place above at none =
     })
 
 -- an Extend's tree stands under the one whose leaf signs it
-pub reaches_below : (key : Key) (trees : Trees) (records : List Record) (level place : ℕ) (made : Made) (old above : List Level) (tree : SigningTree)
+pub reaches_below : (key : Key) (trees : Trees) (records : List Record) (level place : ℕ) (made : RecordedTree) (old above : List Level) (tree : SigningTree)
     → IsUnder trees records level place made → damaged_at key (level - 1) records made.parent ≡ None
     → signings_of above ≡ signings_of old ++ chain_signings trees (level - 1) records made.parent → length above ≡ length old + (level - 1)
     → (AreMade old → AreMade above) → IsTreeBy (secret_at trees records made.parent) made.extend.parent_leaf tree

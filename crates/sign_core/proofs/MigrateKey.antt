@@ -32,7 +32,7 @@ use Rattle.state_file.proofs.Lists.{pushed_moved}
 use Rattle.state_file.proofs.Moments.{combined, started, weaker}
 use Rattle.state_file.proofs.Moved.{ends_moved, moved_signs_nothing}
 use Rattle.sign_core.specs.Migration.{AnswersNew, AnswersOld, CountsOne, IsFateOf, IsMigration, IsUntouched, LeftAtOld, Migrates}
-use Rattle.sign_core.specs.inner.OldFile.{Keeps, OpensOld, RefusesOld}
+use Rattle.sign_core.specs.inner.OldFile.{KeepsContent, OpensOld, RefusesOld}
 use Rattle.sign_core.specs.OldFile.{ReportsOld, SpellsMovable}
 use Rattle.sign_core.specs.Records.{can_move, the_key}
 use Rattle.sign_core.specs.World.{Migration, State, carried_over, closed_state, left_alone, migrated, migrated_list, sealed}
@@ -84,7 +84,7 @@ migrated_records content records fate is =
 
 -- ---- answers, by their cases
 
-old_answer : (content : List ℕ) (after : DiskState) (fault : MigrateFault) → RefusesOld fault → ReportsOld content fault → Keeps {A = ℕ} content after (Err fault)
+old_answer : (content : List ℕ) (after : DiskState) (fault : MigrateFault) → RefusesOld fault → ReportsOld content fault → KeepsContent {A = ℕ} content after (Err fault)
     → AnswersOld content after (Err fault)
 old_answer content after NoKey kind reports keeps = (reports, keeps)
 old_answer content after NotKeyFile kind reports keeps = (reports, keeps)

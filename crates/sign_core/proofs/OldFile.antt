@@ -11,13 +11,13 @@ use Rattle.state_file.specs.Disk.{DiskState, settled}
 use Rattle.state_file.specs.File.{SpellsRecords}
 use Rattle.state_file.specs.FileStore.{FindsRecords, disk_of, records_of}
 use Rattle.state_file.specs.MigrateFault.{is_failed_migration}
-use Rattle.sign_core.specs.inner.OldFile.{JudgesRecords, Keeps, OpensOld, RefusesOld, RefusesRecords}
+use Rattle.sign_core.specs.inner.OldFile.{JudgesRecords, KeepsContent, OpensOld, RefusesOld, RefusesRecords}
 use Rattle.sign_core.specs.OldFile.{ReportsOld}
 
 module _ {D : Type 0} (d : disk.Ghosts D) where
   -- ---- the old place
 
-  keeps_settled : (content : List ℕ) (after : DiskState) (fault : MigrateFault) → after ≡ settled content → Keeps {A = FileStore D d} content after (Err fault)
+  keeps_settled : (content : List ℕ) (after : DiskState) (fault : MigrateFault) → after ≡ settled content → KeepsContent {A = FileStore D d} content after (Err fault)
   keeps_settled content after DeviceFailed same = tt
   keeps_settled content after NoKey same = same
   keeps_settled content after NotKeyFile same = same

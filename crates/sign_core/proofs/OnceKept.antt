@@ -114,8 +114,8 @@ kept_handed records handed x kept is = record {
 -- ---- outcomes of a request
 
 -- the outcome's records, with what is handed out with its answer
-abbrev pub Keeps : (handed : List Handed) (name : List ℕ) (given : Option (List ℕ)) → Outcome (List ℕ) → Type 0
-Keeps handed name given outcome = IsKept outcome.state.records (handed ++ newly_handed name given outcome.answer)
+abbrev pub KeepsHanded : (handed : List Handed) (name : List ℕ) (given : Option (List ℕ)) → Outcome (List ℕ) → Type 0
+KeepsHanded handed name given outcome = IsKept outcome.state.records (handed ++ newly_handed name given outcome.answer)
 
 handed_none : (name : List ℕ) (given : Option (List ℕ)) (fault : SignFault) → newly_handed name given (Err fault) ≡ []
 handed_none name (Some message) fault = refl
@@ -127,13 +127,13 @@ kept_silent records handed name given fault kept =
     subst (IsKept records) (sym (ap (λ more. handed ++ more) (handed_none name given fault) ∙ append-nil handed)) kept
 
 pub kept_refused : (state : State) (handed : List Handed) (name : List ℕ) (given : Option (List ℕ)) (fault : SignFault) → IsKept state.records handed
-    → Keeps handed name given (refused state fault)
+    → KeepsHanded handed name given (refused state fault)
 kept_refused state handed name given fault kept = kept_silent state.records handed name given fault kept
 
 pub kept_append : (state : State) (handed : List Handed) (name : List ℕ) (given : Option (List ℕ)) (entry : Record) (fate : Fate)
     (next : List Record → Outcome (List ℕ))
-    → IsKept state.records handed → IsKept (state.records ++ entry ∷ []) handed → Keeps handed name given (next (state.records ++ entry ∷ []))
-    → Keeps handed name given (appended state entry fate next)
+    → IsKept state.records handed → IsKept (state.records ++ entry ∷ []) handed → KeepsHanded handed name given (next (state.records ++ entry ∷ []))
+    → KeepsHanded handed name given (appended state entry fate next)
 kept_append state handed name given entry acked next kept more later = later
 kept_append state handed name given entry cut_old next kept more later = kept_silent state.records handed name given StoreFailed kept
 kept_append state handed name given entry cut_new next kept more later = kept_silent (state.records ++ entry ∷ []) handed name given StoreFailed more

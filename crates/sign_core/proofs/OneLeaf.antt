@@ -18,7 +18,7 @@ use Rattle.sign_core.specs.Headline.{LeafUse, MakesUses}
 use Rattle.sign_core.specs.World.{Handed, World}
 use Rattle.sign_core.specs.Textbook.{AreSound, any_public_of, textbook_signature}
 use Rattle.sign_core.proofs.Bindings.{binding_stands}
-use Rattle.sign_core.proofs.Uses.{IsTreeOf, IsUseOf, Signs, last_recorded, use_recorded}
+use Rattle.sign_core.proofs.Uses.{IsTreeOf, IsUseOf, SignsDigest, last_recorded, use_recorded}
 use Rattle.sign_core.proofs.Valid.{all_valid}
 use Rattle.sign_core.proofs.OnceKept.{IsKept, sound_with}
 use Rattle.sign_core.proofs.Keys.{legal_key}
@@ -64,7 +64,7 @@ one_place key records p q u v legal keyed first second one =
           in omega (arith, less, leaf))
     ]
 
-one_signed : (entry : Record) (a b : List ℕ) → Signs entry a → Signs entry b → a ≡ b
+one_signed : (entry : Record) (a b : List ℕ) → SignsDigest entry a → SignsDigest entry b → a ≡ b
 one_signed (KeyRecord key) a b first second = absurd first
 one_signed (ExtendRecord extend) a b first second = first ∙ sym second
 one_signed (BoundRecord bound) a b first second = first ∙ sym second
@@ -146,7 +146,7 @@ one_digest world x y uses others u v kept was too in_uses in_others one =
     are.second_uses in_others in
     let place : p ≡ q = one_place are.key records p q u v are.sound.legal are.own of_u of_v one in
     let entry : of_u.entry ≡ of_v.entry = one_at records p q of_u.entry of_v.entry place of_u.stands of_v.stands in
-    one_signed of_v.entry u.digest v.digest (subst (λ r. Signs r u.digest) entry of_u.signs) of_v.signs
+    one_signed of_v.entry u.digest v.digest (subst (λ r. SignsDigest r u.digest) entry of_u.signs) of_v.signs
 
 one_bound : (records : List Record) (name other : List ℕ) (j k : ℕ) (a b : Bound) → j ≡ k → binding_at records name ≡ Some (j, a)
     → binding_at records other ≡ Some (k, b)

@@ -254,23 +254,23 @@ reopens state sized =
       opens = ap (opened_illegal state None) (none_from_legal records are.legal) ∙ ap (opened_key records) are.keyed ∙ ap (published records) is;
     }
 
-abbrev Stays : {A : Type 0} → Key → Outcome A → Type 0
-Stays key outcome = AreOf key outcome.state.records
+abbrev KeepsKey : {A : Type 0} → Key → Outcome A → Type 0
+KeepsKey key outcome = AreOf key outcome.state.records
 
-stays_choice : {A : Type 0} (key : Key) (test : Bool) (x y : Outcome A) → (test ≡ true → Stays key x) → (test ≡ false → Stays key y)
-    → Stays key (if test then x else y)
+stays_choice : {A : Type 0} (key : Key) (test : Bool) (x y : Outcome A) → (test ≡ true → KeepsKey key x) → (test ≡ false → KeepsKey key y)
+    → KeepsKey key (if test then x else y)
 stays_choice key true x y first second = first refl
 stays_choice key false x y first second = second refl
 
 stays_append : {A : Type 0} (key : Key) (state : State) (entry : Record) (fate : Fate) (next : List Record → Outcome A) → AreOf key state.records
-    → AreOf key (state.records ++ entry ∷ []) → Stays key (next (state.records ++ entry ∷ [])) → Stays key (appended state entry fate next)
+    → AreOf key (state.records ++ entry ∷ []) → KeepsKey key (next (state.records ++ entry ∷ [])) → KeepsKey key (appended state entry fate next)
 stays_append key state entry acked next are more later = later
 stays_append key state entry cut_old next are more later = are
 stays_append key state entry cut_new next are more later = more
 stays_append key state entry no_memory next are more later = are
 
 stays_retired : (key : Key) (limit : ℕ) (state : State) (upto : ℕ) (fate : Fate) → AreOf key state.records
-    → Stays key (retired_key limit state upto fate (Some key))
+    → KeepsKey key (retired_key limit state upto fate (Some key))
 stays_retired key limit state upto fate are =
     let records = state.records in
     let bottom = bottom_of key.secret in
@@ -356,7 +356,7 @@ right_after public limit world (request name chance) can right =
       valid = handed_right public world.handed name chance.given _ fits right.valid;
     }
 right_after public limit world (retire upto fate) can right =
-    let are = subst (λ found. Stays right.key (retired_key limit world.state upto fate found)) (sym right.are.keyed)
+    let are = subst (λ found. KeepsKey right.key (retired_key limit world.state upto fate found)) (sym right.are.keyed)
     (stays_retired right.key limit world.state upto fate right.are) in
     record { key = right.key; is_public = right.is_public; are = are; valid = right.valid }
 right_after public limit world (migrate fate) can right =

@@ -34,8 +34,8 @@ pub record DrawsWanted (before : List Record) (below : ℕ) (chance : Chance) (o
   pub longer : length outcome.acknowledged ≡ length before + begun
   pub are_drawn : AreDrawnFor below chance begun outcome.drawn
 
-abbrev pub Refuses : (before : List Record) → (below : ℕ) → Chance → Outcome (List ℕ) → Type 0
-Refuses before below chance outcome =
+abbrev pub RefusesDraws : (before : List Record) → (below : ℕ) → Chance → Outcome (List ℕ) → Type 0
+RefusesDraws before below chance outcome =
     IsRefusal outcome → outcome.answer ≢ Err RandomRepeated → DrawsWanted before below chance outcome
 
 -- ---- the binding
@@ -52,7 +52,7 @@ drawn_bound records key name (Some randomizer) (Some message) cut_new refusal = 
 drawn_bound records key name (Some randomizer) (Some message) no_memory refusal = (refl, refl)
 
 bound_refuses : (key : Key) (name : List ℕ) (chance : Chance) (draws : List Draw) (records : List Record)
-    → Refuses records 0 (chance_with chance draws) (bound_trees key name chance 0 draws records)
+    → RefusesDraws records 0 (chance_with chance draws) (bound_trees key name chance 0 draws records)
 bound_refuses key name chance draws records refusal other =
     let fields = chance.bound.fields in
     let (all, none) = drawn_bound records key name (randomizer_of_fields key.secret fields) chance.given chance.bound.fate
@@ -117,10 +117,10 @@ module _ (below : ℕ) (records : List Record) (chance : Chance) (draw : Draw) (
           )
 
   abbrev RefusesHere : Outcome (List ℕ) → Type 0
-  RefusesHere outcome = Refuses records (suc below) (chance_with chance (draw ∷ draws)) outcome
+  RefusesHere outcome = RefusesDraws records (suc below) (chance_with chance (draw ∷ draws)) outcome
 
   module _ (next : List Record → Outcome (List ℕ))
-      (later : (all : List Record) → Refuses all below (chance_with chance draws) (next all)) where
+      (later : (all : List Record) → RefusesDraws all below (chance_with chance draws) (next all)) where
     append_refuses : (entry : Record) (fate : Fate) (identifier seed randomizer : List ℕ)
         → draw.fields ≡ identifier ∷ seed ∷ randomizer ∷ []
         → RefusesHere (drawing identifier (drawing (seed ++ randomizer) (appended (open_state records) entry fate next)))
@@ -166,7 +166,7 @@ module _ (below : ℕ) (records : List Record) (chance : Chance) (draw : Draw) (
 -- Nothing is drawn for it.
 undrawn_refuses : (below : ℕ) (records : List Record) (chance : Chance) (key : Key) (level : ℕ) (found : Option Trees)
     (next : List Record → Outcome (List ℕ))
-    → Refuses records (suc below) (chance_with chance [])
+    → RefusesDraws records (suc below) (chance_with chance [])
     (extended (open_state records) key level found (first_draw []) next)
 undrawn_refuses below records chance key level None next refusal other =
     record { begun = 0; longer = omega arith; are_drawn = inl (omega arith, refl) }
@@ -183,7 +183,7 @@ has_trees (Xmss secret) some none = absurd (omega (arith, some))
 
 bound_below_refuses : (key : Key) (name : List ℕ) (chance : Chance) (below : ℕ) (draws : List Draw)
     (records : List Record) → (0 < below → trees_of key.secret ≡ None → ⊥)
-    → Refuses records below (chance_with chance draws) (bound_trees key name chance below draws records)
+    → RefusesDraws records below (chance_with chance draws) (bound_trees key name chance below draws records)
 bound_below_refuses key name chance zero draws records has = bound_refuses key name chance draws records
 bound_below_refuses key name chance (suc below) [] records has =
     undrawn_refuses below records chance key (bottom_of key.secret - below) (trees_of key.secret)
@@ -194,7 +194,7 @@ bound_below_refuses key name chance (suc below) (draw ∷ draws) records has =
     key (bottom_of key.secret - below) (trees_of key.secret) (has (omega arith))
 
 pub draws_wanted : (key : Key) (name : List ℕ) (chance : Chance) (level : ℕ) (records : List Record)
-    → Refuses records (bottom_of key.secret - level) chance
+    → RefusesDraws records (bottom_of key.secret - level) chance
     (bound_trees key name chance (bottom_of key.secret - level) chance.trees records)
 draws_wanted key name chance level records =
     bound_below_refuses key name chance (bottom_of key.secret - level) chance.trees records

@@ -21,7 +21,7 @@ use Rattle.sign_core.specs.declared.fault.SignFault.{SignFault}
 use Rattle.sign_core.specs.declared.fault.SignFault.TheVariants.{Changed, Damaged, MessageRead, OutOfMemory}
 use Rattle.sign_core.specs.declared.ledger.Binding.{Binding}
 use Rattle.hss.specs.declared.secret.Level.{Level}
-use Rattle.sign_core.specs.inner.Links.{AreMade, IsTreeAt, signings_of, signing_of_bound}
+use Rattle.sign_core.specs.inner.KeyTrees.{AreMade, IsTreeAt, signings_of, signing_of_bound}
 use Rattle.sign_core.specs.Records.{are_same, binding_at, the_key}
 use Rattle.sign_core.specs.Caches.{Cached, LacksCache}
 use Rattle.sign_core.specs.Signer.{View, is_before_repeat, is_fault, signature_size, state_of}

@@ -39,7 +39,7 @@ use Rattle.sign_core.specs.Textbook.{HasSizes, Trees, damaged_at, digest_at, is_
 use Rattle.sign_core.proofs.Append.{current_new, next_new, some_leaves}
 use Rattle.sign_core.proofs.Bindings.{binding_new, binding_other}
 use Rattle.sign_core.proofs.Leaves.{deepest_is}
-use Rattle.sign_core.proofs.OnceKept.{IsKept, Keeps, kept_append, kept_choice, kept_grown, kept_handed, kept_refused}
+use Rattle.sign_core.proofs.OnceKept.{IsKept, KeepsHanded, kept_append, kept_choice, kept_grown, kept_handed, kept_refused}
 use Rattle.sign_core.proofs.Sizes.{digest_size, key_has_sizes, lms_root_size, randomizer_size}
 use Rattle.sign_core.proofs.Stays.{digest_stays, key_stays, last_is, some_keyed}
 
@@ -162,9 +162,9 @@ kept_seed : (key : Key) (name : List ℕ) (given : Option (List ℕ)) (below : �
     (fields : List (List ℕ)) (fate : Fate) (next : List Record → Outcome (List ℕ)) → IsReady key name (suc below) records handed
     → trees_of key.secret ≡ Some trees
     → AreFields tree_sizes (identifier ∷ fields) → has_identifier records identifier ≡ false
-    → ((all : List Record) → IsReady key name below all handed → Keeps handed name given (next all))
+    → ((all : List Record) → IsReady key name below all handed → KeepsHanded handed name given (next all))
     → (let level = bottom_of key.secret - below in
-    Keeps handed name given (extended_seed (open_state records) trees level (next_at key.secret records (level - 1)) identifier fields fate next))
+    KeepsHanded handed name given (extended_seed (open_state records) trees level (next_at key.secret records (level - 1)) identifier fields fate next))
 kept_seed key name given below records handed trees identifier [] fate next ready are drawn new later = kept_refused
     (open_state records) handed name given RandomFailed ready.kept
 kept_seed key name given below records handed trees identifier (seed ∷ []) fate next ready are drawn new later =
@@ -178,19 +178,19 @@ kept_seed key name given below records handed trees identifier (seed ∷ randomi
 kept_identifier : (key : Key) (name : List ℕ) (given : Option (List ℕ)) (below : ℕ) (records : List Record) (handed : List Handed) (trees : Trees)
     (fields : List (List ℕ)) (fate : Fate) (next : List Record → Outcome (List ℕ)) → IsReady key name (suc below) records handed
     → trees_of key.secret ≡ Some trees
-    → AreFields tree_sizes fields → ((all : List Record) → IsReady key name below all handed → Keeps handed name given (next all))
+    → AreFields tree_sizes fields → ((all : List Record) → IsReady key name below all handed → KeepsHanded handed name given (next all))
     → (let level = bottom_of key.secret - below in
-    Keeps handed name given (extended_identifier (open_state records) trees level (next_at key.secret records (level - 1)) fields fate next))
+    KeepsHanded handed name given (extended_identifier (open_state records) trees level (next_at key.secret records (level - 1)) fields fate next))
 kept_identifier key name given below records handed trees [] fate next ready are drawn later = kept_refused (open_state records) handed name given RandomFailed ready.kept
 kept_identifier key name given below records handed trees (identifier ∷ fields) fate next ready are drawn later =
-    kept_choice (Keeps handed name given) (has_identifier records identifier) _ _
+    kept_choice (KeepsHanded handed name given) (has_identifier records identifier) _ _
     (λ there. kept_refused (open_state records) handed name given RandomRepeated ready.kept)
     (λ new. kept_seed key name given below records handed trees identifier fields fate next ready are drawn new later)
 
 kept_extended : (key : Key) (name : List ℕ) (given : Option (List ℕ)) (below : ℕ) (records : List Record) (handed : List Handed) (trees : Option Trees)
     (draw : Draw) (next : List Record → Outcome (List ℕ)) → IsReady key name (suc below) records handed → trees_of key.secret ≡ trees
-    → IsTreeDraw draw → ((all : List Record) → IsReady key name below all handed → Keeps handed name given (next all))
-    → Keeps handed name given (extended (open_state records) key (bottom_of key.secret - below) trees draw next)
+    → IsTreeDraw draw → ((all : List Record) → IsReady key name below all handed → KeepsHanded handed name given (next all))
+    → KeepsHanded handed name given (extended (open_state records) key (bottom_of key.secret - below) trees draw next)
 kept_extended key name given below records handed None draw next ready are drawn later = kept_refused
     (open_state records) handed name given RandomFailed ready.kept
 kept_extended key name given below records handed (Some trees) draw next ready are drawn later =
@@ -206,7 +206,7 @@ bound_can key records bound stays free unbound drawn =
 
 kept_bound : (key : Key) (name : List ℕ) (given : Option (List ℕ)) (records : List Record) (handed : List Handed) (randomizer : Option (List ℕ)) (fate : Fate)
     → IsReady key name 0 records handed → ((drawn : List ℕ) → randomizer ≡ Some drawn → (length drawn ≡ 32) × (has_randomizer key.secret drawn ≡ true))
-    → Keeps handed name given (bound_message (open_state records) key name randomizer given fate)
+    → KeepsHanded handed name given (bound_message (open_state records) key name randomizer given fate)
 kept_bound key name given records handed None fate ready drawn = kept_refused (open_state records) handed name given RandomFailed ready.kept
 kept_bound key name None records handed (Some randomizer) fate ready drawn = kept_refused (open_state records) handed name None MessageRead ready.kept
 kept_bound key name (Some message) records handed (Some randomizer) fate ready drawn =
@@ -250,7 +250,7 @@ later_drawn (draw ∷ draws) all = all.1
 kept_bound_below : (key : Key) (name : List ℕ) (chance : Chance) (handed : List Handed) (below : ℕ) (draws : List Draw) (records : List Record)
     → AllByRecursion IsTreeDraw draws
     → AreFields (32 ∷ []) chance.bound.fields → IsReady key name below records handed
-    → Keeps handed name chance.given (bound_trees key name chance below draws records)
+    → KeepsHanded handed name chance.given (bound_trees key name chance below draws records)
 kept_bound_below key name chance handed zero draws records trees bound ready =
     kept_bound key name chance.given records handed (randomizer_of_fields key.secret chance.bound.fields) chance.bound.fate ready
     (λ drawn is. randomizer_size key.secret chance.bound.fields drawn bound is)
@@ -259,7 +259,7 @@ kept_bound_below key name chance handed (suc below) draws records trees bound re
     (λ all more. kept_bound_below key name chance handed below (drop 1 draws) all (later_drawn draws trees) bound more)
 
 kept_sound : (state : State) (handed : List Handed) (key : Key) (name : List ℕ) (chance : Chance) (level : ℕ) (damaged : Option ℕ) → AreDraws chance
-    → IsReady key name (bottom_of key.secret - level) state.records handed → Keeps handed name chance.given (bound_sound state key name chance level damaged)
+    → IsReady key name (bottom_of key.secret - level) state.records handed → KeepsHanded handed name chance.given (bound_sound state key name chance level damaged)
 kept_sound state handed key name chance level (Some slot) drawn ready = kept_refused state handed name chance.given (Damaged slot) ready.kept
 kept_sound state handed key name chance level None drawn ready =
     kept_bound_below key name chance handed (bottom_of key.secret - level) chance.trees state.records drawn.trees drawn.bound ready
@@ -267,7 +267,7 @@ kept_sound state handed key name chance level None drawn ready =
 kept_level : (limit : ℕ) (state : State) (handed : List Handed) (key : Key) (name : List ℕ) (chance : Chance) (level : Option ℕ) → AreDraws chance
     → IsKept state.records handed
     → the_key state.records ≡ Some key → has_moved state.records ≡ false → binding_at state.records name ≡ None → deepest key.secret state.records ≡ level
-    → Keeps handed name chance.given (bound_level limit state key name chance level)
+    → KeepsHanded handed name chance.given (bound_level limit state key name chance level)
 kept_level limit state handed key name chance None drawn kept keyed stays unbound is = kept_refused state handed name chance.given Exhausted kept
 kept_level limit state handed key name chance (Some level) drawn kept keyed stays unbound is =
     let (inside, free, others) = deepest_is key.secret state.records level is in
@@ -280,9 +280,9 @@ kept_level limit state handed key name chance (Some level) drawn kept keyed stay
       inside = omega (arith, inside);
       free = subst (λ l. 0 < free_at key.secret state.records l) place free;
     } in
-    kept_choice (Keeps handed name chance.given) (nat_lt limit (length state.records + wanted_count key.secret level)) _ _
+    kept_choice (KeepsHanded handed name chance.given) (nat_lt limit (length state.records + wanted_count key.secret level)) _ _
     (λ full. kept_refused state handed name chance.given LedgerFull kept)
-    (λ fits. kept_choice (Keeps handed name chance.given) (not chance.has_room) _ _ (λ none. kept_refused state handed name chance.given OutOfMemory kept)
+    (λ fits. kept_choice (KeepsHanded handed name chance.given) (not chance.has_room) _ _ (λ none. kept_refused state handed name chance.given OutOfMemory kept)
     (λ room. kept_sound state handed key name chance level
     (damaged_at key level state.records (current_at level state.records (length state.records))) drawn ready))
 
@@ -294,20 +294,20 @@ not_false false e = absurd (cc)
 
 kept_repeated_sound : (state : State) (handed : List Handed) (key : Key) (name message : List ℕ) (k : ℕ) (bound : Bound) (damaged : Option ℕ)
     → IsKept state.records handed
-    → IsBoundTo state.records key name message k bound → Keeps handed name (Some message) (repeated_sound state key k bound damaged)
+    → IsBoundTo state.records key name message k bound → KeepsHanded handed name (Some message) (repeated_sound state key k bound damaged)
 kept_repeated_sound state handed key name message k bound (Some slot) kept is = kept_refused state handed name (Some message) (Damaged slot) kept
 kept_repeated_sound state handed key name message k bound None kept is =
     kept_handed state.records handed _ kept (record { key = key; k = k; bound = bound; is_bound = is; signature = refl })
 
 kept_repeated : (state : State) (handed : List Handed) (key : Key) (name : List ℕ) (k : ℕ) (bound : Bound) (chance : Chance) (given : Option (List ℕ))
     → IsKept state.records handed
-    → the_key state.records ≡ Some key → binding_at state.records name ≡ Some (k, bound) → Keeps handed name given (repeated state key k bound chance given)
+    → the_key state.records ≡ Some key → binding_at state.records name ≡ Some (k, bound) → KeepsHanded handed name given (repeated state key k bound chance given)
 kept_repeated state handed key name k bound chance None kept keyed named = kept_refused state handed name None MessageRead kept
 kept_repeated state handed key name k bound chance (Some message) kept keyed named =
     let digest = digest_at key state.records k bound.leaf bound.randomizer message in
-    kept_choice (Keeps handed name (Some message)) (not (are_same digest bound.digest)) _ _
+    kept_choice (KeepsHanded handed name (Some message)) (not (are_same digest bound.digest)) _ _
     (λ other. kept_refused state handed name (Some message) Changed kept)
-    (λ same. kept_choice (Keeps handed name (Some message)) (not chance.has_room) _ _ (λ none. kept_refused state handed name (Some message) OutOfMemory kept)
+    (λ same. kept_choice (KeepsHanded handed name (Some message)) (not chance.has_room) _ _ (λ none. kept_refused state handed name (Some message) OutOfMemory kept)
     (λ room. kept_repeated_sound state handed key name message k bound _ kept
     (record { keyed = keyed; named = named; digest = (bytes_decides digest bound.digest).0 (not_false _ same) })))
 
@@ -316,23 +316,23 @@ kept_repeated state handed key name k bound chance (Some message) kept keyed nam
 kept_of : (limit : ℕ) (state : State) (handed : List Handed) (key : Key) (name : List ℕ) (chance : Chance) (found : Option (ℕ × Bound)) → AreDraws chance
     → IsKept state.records handed
     → the_key state.records ≡ Some key → has_moved state.records ≡ false → binding_at state.records name ≡ found
-    → Keeps handed name chance.given (requested_binding limit state key name chance found)
+    → KeepsHanded handed name chance.given (requested_binding limit state key name chance found)
 kept_of limit state handed key name chance (Some (k, bound)) drawn kept keyed stays is = kept_repeated state handed key name k bound chance chance.given
     kept keyed is
 kept_of limit state handed key name chance None drawn kept keyed stays is =
-    kept_choice (Keeps handed name chance.given) (is_long key name) _ _ (λ long. kept_refused state handed name chance.given LongName kept)
+    kept_choice (KeepsHanded handed name chance.given) (is_long key name) _ _ (λ long. kept_refused state handed name chance.given LongName kept)
     (λ short. kept_level limit state handed key name chance (deepest key.secret state.records) drawn kept keyed stays is refl)
 
 kept_key : (limit : ℕ) (state : State) (handed : List Handed) (name : List ℕ) (chance : Chance) (found : Option Key) → AreDraws chance
     → IsKept state.records handed
-    → the_key state.records ≡ found → Keeps handed name chance.given (requested_key limit state name chance found)
+    → the_key state.records ≡ found → KeepsHanded handed name chance.given (requested_key limit state name chance found)
 kept_key limit state handed name chance None drawn kept keyed = kept_refused state handed name chance.given Stopped kept
 kept_key limit state handed name chance (Some key) drawn kept keyed =
-    kept_choice (Keeps handed name chance.given) (not state.is_open) _ _ (λ closed. kept_refused state handed name chance.given Stopped kept)
-    (λ open_now. kept_choice (Keeps handed name chance.given) (has_moved state.records) _ _
+    kept_choice (KeepsHanded handed name chance.given) (not state.is_open) _ _ (λ closed. kept_refused state handed name chance.given Stopped kept)
+    (λ open_now. kept_choice (KeepsHanded handed name chance.given) (has_moved state.records) _ _
     (λ moved. kept_refused state handed name chance.given MovedAway kept)
     (λ stays. kept_of limit state handed key name chance (binding_at state.records name) drawn kept keyed stays refl))
 
 pub kept_request : (limit : ℕ) (state : State) (handed : List Handed) (name : List ℕ) (chance : Chance) → AreDraws chance → IsKept state.records handed
-    → Keeps handed name chance.given (requested limit state name chance)
+    → KeepsHanded handed name chance.given (requested limit state name chance)
 kept_request limit state handed name chance drawn kept = kept_key limit state handed name chance (the_key state.records) drawn kept refl

@@ -23,7 +23,7 @@ use Rattle.sign_core.specs.declared.ledger.Binding.{Binding}
 use Rattle.sign_core.specs.Source.{Provides}
 use Rattle.sign_core.specs.Records.{are_same, binding_at, deepest, has_moved, the_key, wanted_count, is_long}
 use Rattle.sign_core.specs.Cuts.{IsBeginning}
-use Rattle.sign_core.specs.inner.Request.{HasPrepared, Prepares}
+use Rattle.sign_core.specs.inner.Bind.{HasPrepared, Prepares}
 use Rattle.sign_core.specs.Caches.{Cached}
 use Rattle.sign_core.specs.inner.Signer.{Hinders}
 use Rattle.sign_core.specs.Signer.{IsRead, IsSigner, IsTied, KeepsAll, KeepsForRepeat, KeepsStore, LacksMemory, LacksTree, RefusesMemory, wanted_total, Signs, View, is_out_of_memory}

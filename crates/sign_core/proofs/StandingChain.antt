@@ -18,7 +18,7 @@ use Rattle.sign_core.specs.declared.secret_trees.SecretTrees.{SecretTrees}
 use Rattle.sign_core.specs.declared.secret_trees.SecretTrees.TheVariants.{Chain, Xmss as XmssTree}
 use Rattle.sign_core.specs.declared.fault.SignFault.{SignFault}
 use Rattle.sign_core.specs.Records.{can_follow, current, free_at, has_identifier, has_moved, is_free, the_key, next_at}
-use Rattle.sign_core.specs.inner.Links.{MakesTrees}
+use Rattle.sign_core.specs.inner.KeyTrees.{MakesTrees}
 use Rattle.sign_core.specs.inner.Signing.{Stands}
 use Rattle.sign_core.specs.Textbook.{Trees, damaged_at, is_sound_extend, lms_secret, secret_at, current_at, trees_of}
 use Rattle.sign_core.proofs.Append.{current_new, next_new}

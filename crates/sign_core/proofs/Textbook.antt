@@ -24,7 +24,7 @@ use Rattle.state_file.specs.declared.record.Record.TheVariants.{Key as KeyRecord
 use Rattle.sign_core.specs.Records.{current}
 use Rattle.sign_core.specs.Textbook.{AllHaveSizes, Trees, secret_at, made_secret, trees_of}
 use Rattle.sign_core.proofs.Chains.{AreChained, SignsNext, chained, current_made}
-use Rattle.sign_core.specs.inner.Links.{signing_of_bound}
+use Rattle.sign_core.specs.inner.KeyTrees.{signing_of_bound}
 
 -- ---- what the levels of a textbook signature sign
 

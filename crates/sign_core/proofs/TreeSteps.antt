@@ -14,12 +14,12 @@ use Rattle.sign_core.specs.Records.{current, last_extend, makes, same_tree, unde
 
 -- ---- the last Extend of a level
 
-made_entry : (level : ℕ) (entry : Record) → makes level entry ≡ true → (extend : Extend) × (entry ≡ ExtendRecord extend) × (extend.level ≡ level)
-made_entry level (KeyRecord key) is = absurd (true≢false (sym is))
-made_entry level (ExtendRecord extend) is = (extend, refl, eqb-true extend.level level is)
-made_entry level (BoundRecord bound) is = absurd (true≢false (sym is))
-made_entry level (Retire upto) is = absurd (true≢false (sym is))
-made_entry level Moved is = absurd (true≢false (sym is))
+recorded_entry : (level : ℕ) (entry : Record) → makes level entry ≡ true → (extend : Extend) × (entry ≡ ExtendRecord extend) × (extend.level ≡ level)
+recorded_entry level (KeyRecord key) is = absurd (true≢false (sym is))
+recorded_entry level (ExtendRecord extend) is = (extend, refl, eqb-true extend.level level is)
+recorded_entry level (BoundRecord bound) is = absurd (true≢false (sym is))
+recorded_entry level (Retire upto) is = absurd (true≢false (sym is))
+recorded_entry level Moved is = absurd (true≢false (sym is))
 
 makes_not : (level : ℕ) (entry : Record) (other : Extend) → makes level entry ≡ false → entry ≡ ExtendRecord other → other.level ≢ level
 makes_not level entry other none same = eqb-false other.level level (subst (λ e. makes level e ≡ false) same none)
@@ -65,7 +65,7 @@ last_later level k j entry rest later = record {
 
 last_here : (level k : ℕ) (entry : Record) (rest : List Record) → makes level entry ≡ true → NoneMakes level rest → LastFrom level k (entry ∷ rest) k
 last_here level k entry rest made none =
-    let (extend, same, of_level) = made_entry level entry made in record {
+    let (extend, same, of_level) = recorded_entry level entry made in record {
       at = 0;
       extend = extend;
       place = omega arith;

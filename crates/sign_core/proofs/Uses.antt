@@ -48,17 +48,17 @@ use Rattle.sign_core.proofs.Chains.{SignsNext, current_made}
 use Rattle.sign_core.proofs.TreeSteps.{current_before}
 use Rattle.sign_core.proofs.Valid.{AreLevelsOf, IsSoundlyBound, hss_levels, hss_trees, key_with, soundly_bound, undamaged}
 use Rattle.sign_core.proofs.TextbookSpelling.{textbook_spelled}
-use Rattle.sign_core.specs.inner.Links.{signing_of_bound}
+use Rattle.sign_core.specs.inner.KeyTrees.{signing_of_bound}
 
 -- ---- uses and records
 
 -- what a record signs by the leaf that it names
-abbrev pub Signs : Record → (digest : List ℕ) → Type 0
-Signs (KeyRecord key) digest = ⊥
-Signs (ExtendRecord extend) digest = digest ≡ extend.digest
-Signs (BoundRecord bound) digest = digest ≡ bound.digest
-Signs (Retire upto) digest = ⊥
-Signs Moved digest = ⊥
+abbrev pub SignsDigest : Record → (digest : List ℕ) → Type 0
+SignsDigest (KeyRecord key) digest = ⊥
+SignsDigest (ExtendRecord extend) digest = digest ≡ extend.digest
+SignsDigest (BoundRecord bound) digest = digest ≡ bound.digest
+SignsDigest (Retire upto) digest = ⊥
+SignsDigest Moved digest = ⊥
 
 -- the tree at this place has this I; an XMSS tree is the Key's
 abbrev pub IsTreeOf : Secret → List Record → (tree : ℕ) → (identifier : List ℕ) → Type 0
@@ -73,7 +73,7 @@ pub record IsUseOf (key : Key) (records : List Record) (place : ℕ) (use_made :
   pub tree : ℕ
   pub names : Names key.secret records place entry tree use_made.leaf
   pub of_tree : IsTreeOf key.secret records tree use_made.identifier
-  pub signs : Signs entry use_made.digest
+  pub signs : SignsDigest entry use_made.digest
 
 -- Each of these uses is a record's, and the last one the record's at place k.
 record AreUsesOf (key : Key) (records : List Record) (k : ℕ) (uses : List LeafUse) : Type 0 where
@@ -286,17 +286,17 @@ hss_uses records version pair rest identifier seed root message k bound uses is 
     let t = hss_textbook above bottom in
     let t_spelled = hss_textbook_spelled above bottom (omega (arith, levels.count, levels.within_limit)) levels.sized in
     let same : s ≡ t = (unambiguous hss_signature hss_one_way).one_value s t (hss_signature_bytes t) spelled t_spelled in
-    let made_entry : HssSignature → ℕ → LeafUse = λ s i. lms_use (key_at top s i) (message_at message s i) (hss_signature_at s i) in
+    let recorded_entry : HssSignature → ℕ → LeafUse = λ s i. lms_use (key_at top s i) (message_at message s i) (hss_signature_at s i) in
     let count : length t.signed ≡ length above = signed-count signature_of key_of above bottom in
-    let all : uses ≡ map (made_entry t) (range_with_len 0 (length above + 1)) = are
-    ∙ ap (λ s. map (made_entry s) (range_with_len 0 (length s.signed + 1))) same ∙ ap (λ n. map (made_entry t) (range_with_len 0 (n + 1))) count in
+    let all : uses ≡ map (recorded_entry t) (range_with_len 0 (length above + 1)) = are
+    ∙ ap (λ s. map (recorded_entry s) (range_with_len 0 (length s.signed + 1))) same ∙ ap (λ n. map (recorded_entry t) (range_with_len 0 (n + 1))) count in
     let own : (tree : ℕ) (identifier : List ℕ) → ((made : Record) × (slice_get records tree ≡ Some made) × (identifier_of made ≡ Some identifier))
     → IsTreeOf key.secret records tree identifier =
     λ tree identifier made. made in
     let count_levels : length (all_levels above bottom) ≡ length above + 1 = length-append above (bottom ∷ []) in
     let last : level_at above bottom (length above) ≡ bottom = get_or_at above bottom [] bottom (length above) refl in
     let within : k ≤ length records = omega (arith, slice_get_within records k (BoundRecord bound) is.stands) in
-    of_levels key records k (length above) (made_entry t) uses all
+    of_levels key records k (length above) (recorded_entry t) uses all
     (λ i below.
     let x = level_at above bottom i in
     let next = level_at above bottom (i + 1) in
@@ -441,14 +441,14 @@ hss_last records version pair rest identifier seed root message text k bound use
     let t = hss_textbook above bottom in
     let t_spelled = hss_textbook_spelled above bottom (omega (arith, levels.count, levels.within_limit)) levels.sized in
     let same : s ≡ t = (unambiguous hss_signature hss_one_way).one_value s t (hss_signature_bytes t) spelled t_spelled in
-    let made_entry : HssSignature → ℕ → LeafUse = λ s i. lms_use (key_at top s i) (message_at text s i) (hss_signature_at s i) in
+    let recorded_entry : HssSignature → ℕ → LeafUse = λ s i. lms_use (key_at top s i) (message_at text s i) (hss_signature_at s i) in
     let count : length t.signed ≡ length above = signed-count signature_of key_of above bottom in
-    let all : uses ≡ map (made_entry t) (range_with_len 0 (length above + 1)) = are
-    ∙ ap (λ s. map (made_entry s) (range_with_len 0 (length s.signed + 1))) same ∙ ap (λ n. map (made_entry t) (range_with_len 0 (n + 1))) count in
+    let all : uses ≡ map (recorded_entry t) (range_with_len 0 (length above + 1)) = are
+    ∙ ap (λ s. map (recorded_entry s) (range_with_len 0 (length s.signed + 1))) same ∙ ap (λ n. map (recorded_entry t) (range_with_len 0 (n + 1))) count in
     let first : top.identifier ≡ (level_at above bottom 0).secret.identifier = ap (λ (secret : LmsSecret). secret.identifier)
     (sym (levels.chained.top (level_at above bottom 0)
     (slice_get-get_or (all_levels above bottom) 0 bottom (omega (arith, length-append above (bottom ∷ [])))))) in
-    ap (λ (v : LeafUse). v.digest) (sym (last_is (length above) (made_entry t) uses u all last)) ∙ bottom_digest above bottom text top first
+    ap (λ (v : LeafUse). v.digest) (sym (last_is (length above) (recorded_entry t) uses u all last)) ∙ bottom_digest above bottom text top first
 
 last_by : (records : List Record) (version : Version) (secret : Secret) (root message text : List ℕ) (k : ℕ) (bound : Bound) (public : AnyPublic)
     (uses : List LeafUse) (u : LeafUse)

@@ -46,7 +46,7 @@ use Rattle.sign_core.proofs.Chains.{AreChained, chained, current_made, none_of_b
 use Rattle.sign_core.proofs.Textbook.{HasTrees, bound_sized, chain_signs, link_sized}
 use Rattle.sign_core.proofs.TextbookSpelling.{textbook_spelled}
 use Rattle.xmss.proofs.TextbookBytes.{textbook_spelled as xmss_textbook_spelled}
-use Rattle.sign_core.specs.inner.Links.{signing_of_bound}
+use Rattle.sign_core.specs.inner.KeyTrees.{signing_of_bound}
 
 -- ---- what is known of a binding
 

@@ -14,7 +14,7 @@ use Rattle.state_file.specs.declared.record.Record.{Record}
 use Rattle.state_file.specs.declared.record.Record.TheVariants.{Key as KeyRecord}
 use Rattle.state_file.specs.declared.record.Secret.{Secret}
 use Rattle.state_file.specs.declared.record.Secret.TheVariants.{Lms, Hss, Xmss}
-use Rattle.sign_core.specs.inner.Links.{AreMade, IsMade, signing_of_bound}
+use Rattle.sign_core.specs.inner.KeyTrees.{AreMade, IsMade, signing_of_bound}
 use Rattle.sign_core.specs.inner.Signing.{WritesChain}
 use Rattle.sign_core.specs.Textbook.{Trees, secret_at, made_secret, any_signature, chain_signings, current_at, trees_of}
 use Rattle.sign_core.proofs.Chains.{got_last}

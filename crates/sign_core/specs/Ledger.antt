@@ -15,7 +15,7 @@ use Rattle.state_file.specs.declared.record.Record.TheVariants.{Bound as BoundRe
 use Rattle.state_file.specs.declared.record.Secret.{Secret}
 use Rattle.sign_core.specs.declared.name_map.NameMap.{NameMap}
 use Rattle.sign_core.specs.declared.ledger.Binding.{Binding}
-use Rattle.sign_core.specs.declared.ledger.Made.{Made}
+use Rattle.sign_core.specs.declared.ledger.RecordedTree.{RecordedTree}
 use Rattle.sign_core.specs.declared.ledger.LedgerFault.{LedgerFault}
 use Rattle.sign_core.specs.declared.ledger.LedgerFault.TheVariants.{Empty, Illegal, OutOfMemory}
 use Rattle.sign_core.specs.declared.trees.Tree.{Tree}
@@ -61,17 +61,17 @@ spare_of bindings = min (spare bindings.short) (spare bindings.long)
 -- ---- what is kept of a record
 
 -- an Extend, with the tree that was current above it
-abbrev pub made_entry : List Record → (place : ℕ) → Option Record → Option Made
-made_entry records place (Some (ExtendRecord extend)) =
+abbrev pub recorded_entry : List Record → (place : ℕ) → Option Record → Option RecordedTree
+recorded_entry records place (Some (ExtendRecord extend)) =
     Some (record { extend = extend; parent = current_at (extend.level - 1) records place })
-made_entry records place (Some (KeyRecord key)) = None
-made_entry records place (Some (BoundRecord bound)) = None
-made_entry records place (Some (Retire upto)) = None
-made_entry records place (Some Moved) = None
-made_entry records place None = None
+recorded_entry records place (Some (KeyRecord key)) = None
+recorded_entry records place (Some (BoundRecord bound)) = None
+recorded_entry records place (Some (Retire upto)) = None
+recorded_entry records place (Some Moved) = None
+recorded_entry records place None = None
 
-abbrev pub made_at : List Record → (place : ℕ) → Option Made
-made_at records place = made_entry records place (slice_get records place)
+abbrev pub recorded_at : List Record → (place : ℕ) → Option RecordedTree
+recorded_at records place = recorded_entry records place (slice_get records place)
 
 -- a binding with its place, and the bottom tree that was current before it
 abbrev pub kept_of : Secret → List Record → (ℕ × Bound) → Binding
@@ -90,7 +90,7 @@ binding_kept secret records name = option_map (kept_of secret records) (binding_
 
 -- A ledger's parts match its records. It has the Extends by place, the bindings by name, each I after the Key's, and
 -- the current trees with their next leaves. It knows the number of records, and whether a Moved is last.
-pub record IsTableOf (records : List Record) (key : Key) (made : ByPlace Made) (bindings : NameMap)
+pub record IsTableOf (records : List Record) (key : Key) (made : ByPlace RecordedTree) (bindings : NameMap)
     (identifiers : ByText ℕ) (levels : List (Option Tree)) (count : ℕ) (moved : Bool) : Type 0 where
   pub legal : IsLegal records
   pub keyed : the_key records ≡ Some key
@@ -98,7 +98,7 @@ pub record IsTableOf (records : List Record) (key : Key) (made : ByPlace Made) (
   pub counted : count ≡ length records
   pub moved_is : moved ≡ has_moved records
   pub trees_are : HasTrees key.secret records levels
-  pub made_are : (place : ℕ) → of_place made place ≡ made_at records place
+  pub recorded_are : (place : ℕ) → of_place made place ≡ recorded_at records place
   pub bindings_are : (name : List ℕ) → bound_at bindings name ≡ binding_kept key.secret records name
   pub identifiers_are : (identifier : List ℕ)
       → is_some (of_text identifiers identifier) ≡ has_identifier (drop 1 records) identifier

@@ -32,7 +32,8 @@ use Rattle.sign_core.specs.Records.{is_long, the_key, leaves_of_current, next_at
 use Rattle.sign_core.specs.Textbook.{Trees, damaged_at, digest_at, lms_secret, any_public_of, public_of_key, key_root}
 use Rattle.sign_core.specs.Textbook.{secret_at, textbook_signature, current_at, trees_of}
 pub use Rattle.sign_core.specs.Steps.{Fate, Outcome, State, Steps, acked, answered, appended, closed_state, cut}
-pub use Rattle.sign_core.specs.Steps.{cut_new, cut_old, drawing, event, no_memory, open_state, reading, refused, run_then}
+pub use Rattle.sign_core.specs.Steps.{cut_new, cut_old, drawing, event, no_memory, open_state, reading, refused}
+pub use Rattle.sign_core.specs.Steps.{run_then}
 use Rattle.sign_core.specs.Steps.{◌>>=◌, ◌>>◌, append_record, choose, draw_bytes, give, hold, look, pass, read_message}
 use Rattle.sign_core.specs.Steps.{refuse, take_some}
 

@@ -3,11 +3,11 @@ pub mod Caches
 pub mod Cases
 pub mod Frames
 pub mod Ledger
-pub mod Links
+pub mod KeyTrees
 pub mod OldFile
 pub mod Progress
 pub mod Replay
-pub mod Request
+pub mod Bind
 pub mod Serving
 pub mod Signer
 pub mod Signing

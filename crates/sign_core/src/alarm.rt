@@ -45,7 +45,7 @@ pub fn slot_behind<D: Disk + Drop>(store: &FileStore<D>) -> Option<u32>
 }
 
 /// Tells the alarm of the last record's slot, if the store's file was opened with bytes behind it.
-pub fn tell_behind<D: Disk + Drop, A: Alarm>(store: &FileStore<D>, alarm: &mut A)
+pub fn warn_behind<D: Disk + Drop, A: Alarm>(store: &FileStore<D>, alarm: &mut A)
     ensures { TellsSlot (slot_behind store.now) (A.slots alarm.old) (A.slots alarm.new) }
 {
     if let Some(slot) = slot_behind(store) {

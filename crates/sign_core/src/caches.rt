@@ -149,7 +149,7 @@ impl Model for Caches {
 
 impl Caches {
     ghost use Rattle.sign_core.specs.Caches.{HasLevel, cache_at};
-    ghost use Rattle.sign_core.specs.inner.Links.{IsMade};
+    ghost use Rattle.sign_core.specs.inner.KeyTrees.{IsMade};
     ghost use Rattle.lms.specs.Secret.{root_of_secret as lms_root_of};
     ghost use Rattle.xmss.specs.Secret.{leaf_path as xmss_leaf_path};
 
@@ -183,7 +183,7 @@ impl Caches {
     }
 
     /// Makes a new tree, and answers its root and its cache, which no level has yet.
-    pub(crate) fn begin<P: TreeProgress>(
+    pub(crate) fn make_tree<P: TreeProgress>(
         &self,
         asked: TreeRequest<'_, LmsSecret, P>,
     ) -> Result<([u8; 32], TreeCache<LmsSecret>), SignFault>

@@ -17,7 +17,7 @@ pub(crate) struct Head {
 }
 
 // Fills a buffer from an input: 35 where the input ends before, 27 where a read fails.
-fn fill<I: Message>(input: &mut I, buffer: &mut [u8]) -> Result<(), ServeFault>
+fn read_exact<I: Message>(input: &mut I, buffer: &mut [u8]) -> Result<(), ServeFault>
     ensures { FillsBuffer I.Message buffer.new input.old input.new result }
 {
     match read_full(input, buffer) {
@@ -33,7 +33,7 @@ fn read_name<I: Message>(input: &mut I, size: u8) -> Result<ArrayVec<u8, 255>, S
 {
     let mut bytes = [0; 255];
     let name = &mut bytes[..usize::from(size)];
-    fill(input, name)?;
+    read_exact(input, name)?;
     Ok(ArrayVec::try_from(&*name).unwrap_or_else(|_| unreachable!()))
 }
 
@@ -43,7 +43,7 @@ fn read_after<I: Message>(input: &mut I, size: u8) -> Result<Head, ServeFault>
 {
     let name = read_name(input, size)?;
     let mut bytes = [0; 4];
-    fill(input, &mut bytes)?;
+    read_exact(input, &mut bytes)?;
     let announced = u32::from_be_bytes(bytes);
     Ok(Head { name, announced })
 }
@@ -53,7 +53,7 @@ pub(crate) fn read_head<I: Message>(input: &mut I) -> Result<Option<Head>, Serve
     ensures { ReadsHead I.Message input.old input.new result }
 {
     let mut first = [0; 1];
-    match fill(input, &mut first) {
+    match read_exact(input, &mut first) {
         Ok(()) => read_after(input, first[0]).map(Some),
         Err(ServeFault::FrameCut) => Ok(None),
         Err(fault) => Err(fault),

@@ -9,7 +9,7 @@ ghost use Rattle.sign_core.specs.Textbook.{damaged_at};
 
 use crate::caches::{Caches, TreeRequest};
 use crate::fault::SignFault;
-use crate::ledger::{Ledger, Made};
+use crate::ledger::{Ledger, RecordedTree};
 use crate::progress::{KeyProgress, TreeProgress};
 use crate::secret_trees::SecretTrees;
 use arrayvec::ArrayVec;
@@ -29,8 +29,8 @@ pub(crate) struct KeyTrees {
 impl KeyTrees {
     ghost use Rattle.state_file.specs.Laws.{IsLegal};
     ghost use Rattle.sign_core.specs.Records.{the_key};
-    ghost use Rattle.sign_core.specs.inner.Links.{AreMade, AreTreesOf, IsMade, IsTreeAt, IsTreeBy, signings_of};
-    ghost use Rattle.sign_core.specs.inner.Links.{chain_trees};
+    ghost use Rattle.sign_core.specs.inner.KeyTrees.{AreMade, AreTreesOf, IsMade, IsTreeAt, IsTreeBy, signings_of};
+    ghost use Rattle.sign_core.specs.inner.KeyTrees.{chain_trees};
     ghost use Rattle.sign_core.specs.Textbook.{damaged_at, is_sound_at, secret_at, chain_signings};
 
     /// The types of a level's trees; the top tree's, where there is no such level.
@@ -45,7 +45,7 @@ impl KeyTrees {
     pub(crate) fn secret_at(&self, ledger: &Ledger, place: u32) -> LmsSecret
         ensures { result ≡ secret_at (chain_trees self.now) ledger.now.records place }
     {
-        let Some(Made { extend, .. }) = ledger.made(place) else {
+        let Some(RecordedTree { extend, .. }) = ledger.recorded_tree(place) else {
             return self.top;
         };
         LmsSecret::new(self.pair(extend.level), extend.identifier, extend.seed)
@@ -59,7 +59,7 @@ impl KeyTrees {
         requires made { IsMade tree.now }
         ensures { result ≡ is_sound_at ledger.now.key ledger.now.records place }
     {
-        let Some(Made { extend, parent }) = ledger.made(place) else {
+        let Some(RecordedTree { extend, parent }) = ledger.recorded_tree(place) else {
             return ledger.key().root == tree.root;
         };
         let signer = self.secret_at(ledger, parent);
@@ -98,7 +98,7 @@ impl KeyTrees {
         ensures tree { IfOk result (IsTreeBy (secret_at (chain_trees self.now) ledger.now.records place) leaf) }
         ensures caches { caches.new ≡ caches.old }
     {
-        if let Some(made) = ledger.made(place) {
+        if let Some(made) = ledger.recorded_tree(place) {
             let (randomizer, digest) = (made.extend.randomizer, made.extend.digest);
             let (parent, signer) = (made.parent, made.extend.parent_leaf);
             let tree = self.chain_to(ledger, caches, level - 1, parent, signer, above, progress)?;
@@ -119,7 +119,7 @@ impl Caches {
     ghost use Rattle.state_file.specs.Laws.{IsLegal};
     ghost use Rattle.sign_core.specs.Records.{the_key};
     ghost use Rattle.sign_core.specs.inner.Caches.{HasOwn, RenewsDownTo};
-    ghost use Rattle.sign_core.specs.inner.Links.{AreTreesOf, IsTreeAt, MakesTrees, chain_trees};
+    ghost use Rattle.sign_core.specs.inner.KeyTrees.{AreTreesOf, IsTreeAt, MakesTrees, chain_trees};
 
     // Makes the cache of a level's current tree, where it is missing and the tree's record stands before a place.
     fn keep_current<P: TreeProgress>(
@@ -188,7 +188,7 @@ impl Caches {
                 return self.keep_xmss(TreeRequest::new(0, *secret, leaf, progress));
             }
         };
-        if let Some(made) = ledger.made(place) {
+        if let Some(made) = ledger.recorded_tree(place) {
             let leaf = made.extend.parent_leaf;
             self.keep_trees(keys, ledger, level - 1, made.parent, leaf, before, progress)?;
         }

@@ -52,7 +52,7 @@ impl LedgerFault {
 
 /// The tree of an Extend, and the place of the tree whose leaf signs it.
 #[derive(Clone, Copy)]
-pub(crate) struct Made {
+pub(crate) struct RecordedTree {
     pub(crate) extend: Extend,
     pub(crate) parent: u32,
 }
@@ -92,7 +92,7 @@ pub struct Ledger {
     records: RecordList,
     key: Key,
     // the Extends by their places
-    made: HashMap<u32, Made>,
+    recorded: HashMap<u32, RecordedTree>,
     bindings: NameMap,
     // the places of the Extends by their I
     identifiers: HashMap<[u8; 16], u32>,
@@ -111,10 +111,11 @@ impl Model for Ledger {
     ghost view = { λ s. record {
       key = s.key;
       records = s.records;
-      spare = min (spare s.made) (min (spare_of s.bindings) (spare s.identifiers));
+      spare = min (spare s.recorded) (min (spare_of s.bindings) (spare s.identifiers));
     } };
 
-    ghost invariant = { λ s. IsTableOf s.records s.key s.made s.bindings s.identifiers s.trees.levels s.count s.moved };
+    ghost invariant = { λ s. IsTableOf s.records s.key s.recorded s.bindings s.identifiers s.trees.levels s.count
+        s.moved };
 }
 
 impl Ledger {
@@ -123,7 +124,7 @@ impl Ledger {
     ghost use Rattle.state_file.specs.declared.record.Record.TheVariants.{Key as KeyRecord};
     ghost use Rattle.sign_core.specs.inner.Ledger.{CanPush, Grows, HasRoomForOne, LacksRoom, Stays, TakesUp};
     ghost use Rattle.sign_core.specs.Ledger.{IsRefused};
-    ghost use Rattle.sign_core.specs.Ledger.{binding_kept, made_at};
+    ghost use Rattle.sign_core.specs.Ledger.{binding_kept, recorded_at};
     ghost use Rattle.sign_core.specs.declared.ledger.LedgerFault.TheVariants.{Illegal, OutOfMemory};
     ghost use Rattle.sign_core.specs.Trees.{tree_at};
     ghost use Rattle.sign_core.specs.Textbook.{AllHaveSizes, HasSizes};
@@ -141,7 +142,7 @@ impl Ledger {
         Ledger {
             records,
             key,
-            made: HashMap::new(alloc),
+            recorded: HashMap::new(alloc),
             bindings: NameMap::new(alloc),
             identifiers: HashMap::new(alloc),
             trees: CurrentTrees::of_key(),
@@ -217,10 +218,10 @@ impl Ledger {
         self.moved
     }
 
-    pub(crate) fn made(&self, place: u32) -> Option<Made>
-        ensures { result ≡ made_at self.now.records place }
+    pub(crate) fn recorded_tree(&self, place: u32) -> Option<RecordedTree>
+        ensures { result ≡ recorded_at self.now.records place }
     {
-        self.made.get(&place).copied()
+        self.recorded.get(&place).copied()
     }
 
     pub(crate) fn find(&self, name: &Name) -> Option<Binding>
@@ -355,7 +356,7 @@ impl Ledger {
         ensures lacking { OnErr result (self.old.spare < additional) }
         ensures spare { self.old.spare ≤ self.new.spare }
     {
-        self.made.reserve(additional)?;
+        self.recorded.reserve(additional)?;
         self.bindings.reserve(additional)?;
         self.identifiers.reserve(additional)
     }
@@ -373,7 +374,7 @@ impl Ledger {
             Record::Extend(extend) => {
                 let level = usize::from(extend.level);
                 let parent = self.trees.place(level - 1);
-                let _ = self.made.insert(place, Made { extend, parent });
+                let _ = self.recorded.insert(place, RecordedTree { extend, parent });
                 let _ = self.identifiers.insert(extend.identifier, place);
                 self.trees.extend(level, extend.parent_leaf, place);
             }

@@ -57,7 +57,7 @@ mod tree_secret;
 mod trees;
 mod writing;
 
-pub use crate::alarm::{Alarm, slot_behind, tell_behind};
+pub use crate::alarm::{Alarm, slot_behind, warn_behind};
 pub use crate::fault::{ServeFault, SignFault};
 pub use crate::key::{AnyPublic, KeyFault, verify_any};
 pub use crate::laws::{

@@ -9,7 +9,7 @@ ghost use Rattle.sign_core.specs.Ledger.{kept_of};
 ghost use Rattle.sign_core.specs.Records.{free_at, types_of};
 ghost use Rattle.sign_core.specs.Signer.{signature_size};
 ghost use Rattle.sign_core.specs.Textbook.{damaged_at, digest_at, current_at, textbook_signature};
-ghost use Rattle.sign_core.specs.inner.Links.{MakesTrees};
+ghost use Rattle.sign_core.specs.inner.KeyTrees.{MakesTrees};
 ghost use Rattle.sign_core.specs.inner.Signing.{DrawsRandomizer, IsSomeBinding};
 
 use crate::caches::{Caches, TreeRequest};

@@ -2,7 +2,7 @@
 
 ghost use Rattle.std.specs.Prelude.{◌≡◌, ◌≤◌, ◌<◌, ◌++◌, ◌∷◌, [], Some, length, IfErr, OnOk, OnErr, max, vec_capacity};
 ghost use Rattle.sign_core.specs.Signer.{signature_size};
-ghost use Rattle.sign_core.specs.inner.Links.{AreMade};
+ghost use Rattle.sign_core.specs.inner.KeyTrees.{AreMade};
 ghost use Rattle.sign_core.specs.inner.Signing.{WritesChain, pairs_of};
 ghost use Rattle.sign_core.specs.Textbook.{Trees, trees_of};
 
@@ -28,12 +28,12 @@ pub(crate) fn make_room(secret: &Secret, out: &mut Vec<u8>) -> Result<(), SignFa
     let size = size as usize;
     out.clear();
     out.reserve_exact(size).map_err(|_| SignFault::OutOfMemory)?;
-    fill(out, size);
+    push_zeros(out, size);
     Ok(())
 }
 
 // Fills an empty output within its room. No contract says that `resize` takes no memory then.
-fn fill(out: &mut Vec<u8>, size: usize)
+fn push_zeros(out: &mut Vec<u8>, size: usize)
     requires empty { length out.old.items ≡ 0 }
     requires room { size ≤ vec_capacity out.old }
     ensures size { length out.new.items ≡ size }

@@ -43,7 +43,7 @@ Gives view (Ok x) reading = reading ≡ Ok (view x)
 Gives view (Err fault) reading = reading ≡ Err fault
 
 -- What a reader does to its cursor: the bytes stay, and after a fault the place, too.
-pub record Keeps {X E : Type 0} (result : Result X E) (old new : Cursor) : Type 0 where
+pub record KeepsCursor {X E : Type 0} (result : Result X E) (old new : Cursor) : Type 0 where
   pub bytes : new.bytes ≡ old.bytes
   pub err : OnErr result (new.place ≡ old.place)
 

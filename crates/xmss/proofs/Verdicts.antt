@@ -12,7 +12,7 @@ use Rattle.typecodes.proofs.Verdicts.{Refused, of_digest, tree_laws}
 use Rattle.typecodes.specs.Types.{wots_chains, xmss_height_of}
 use Rattle.xmss.specs.declared.key.XmssPublic.{XmssPublic}
 use Rattle.xmss.specs.Signature.{Signature, signature}
-use Rattle.xmss.specs.Verification.{IsValid, IsValidFor, LeadsTo, LeavesMessage, Signs, Verdict, digest_of}
+use Rattle.xmss.specs.Verification.{IsValid, IsValidFor, LeadsTo, LeavesMessage, IsSignature, Verdict, digest_of}
 
 pub verdict_of_digest : {A : Type 0} (key : XmssPublic) (message digest bytes : List ℕ) (s : Signature) (result : Result A Refusal)
     → digest ≡ digest_of key message s → Spells (signature key.tree) s bytes → DigestVerdict (IsValidFor key digest s) 0 result
@@ -53,7 +53,7 @@ accepted = laws.accepted
 pub root_of_bytes : (key : XmssPublic) (message digest bytes root : List ℕ) (s : Signature) → digest ≡ digest_of key message s
     → Spells (signature key.tree) s bytes → length s.chains ≡ wots_chains → s.index < 2 ^ xmss_height_of key.tree
     → length s.path ≡ xmss_height_of key.tree → LeadsTo key digest s root → ((other : List ℕ) → LeadsTo key digest s other → other ≡ root)
-    → (root ≡ key.root) ↔ Signs key message bytes
+    → (root ≡ key.root) ↔ IsSignature key message bytes
 root_of_bytes key message digest bytes root s same spelled chains leaf height leads only = (
   λ is. (
     s,

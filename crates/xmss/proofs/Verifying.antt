@@ -11,14 +11,14 @@ use Rattle.xmss.specs.Signature.{signature}
 use Rattle.xmss.specs.View.{signature_of}
 
 -- The bytes spell what the view shows, of the key's type.
-pub record IsRead (key : XmssPublic) (bytes : List ℕ) (view : XmssSigView) : Type 0 where
+pub record IsDecoded (key : XmssPublic) (bytes : List ℕ) (view : XmssSigView) : Type 0 where
   pub spelled : Spells (signature key.tree) (signature_of view) bytes
   pub tree : view.tree ≡ key.tree
 
 pub is_read : (E : Type 0) (key : XmssPublic) (bytes : List ℕ) (result : Result XmssSigView ReadFault) (view : XmssSigView) (Q : ReadFault → Type 0)
     → Reads (signature key.tree) signature_of bytes result → IfOk result (λ view. view.tree ≡ key.tree)
     → MatchResult result (λ y. ◌≡◌ {A = Result XmssSigView E} (Ok view) (Ok y)) Q → ((fault : ReadFault) → Q fault → ⊥)
-    → IsRead key bytes view
+    → IsDecoded key bytes view
 is_read E key bytes result view Q reads tree cases never =
     let read_is = was_read E result view Q cases never in
     record {

@@ -70,11 +70,11 @@ LeavesMessage transition remaining text old new (Err (TypeMismatch level)) = ⊥
 LeavesMessage transition remaining text old new result = TreeLeavesMessage transition remaining text old new result
 
 -- The bytes spell a signature that is valid for the message.
-abbrev pub Signs : XmssPublic → List ℕ → List ℕ → Type 0
-Signs key message bytes = (s : Signature) × Spells (signature key.tree) s bytes × IsValid key message s
+abbrev pub IsSignature : XmssPublic → List ℕ → List ℕ → Type 0
+IsSignature key message bytes = (s : Signature) × Spells (signature key.tree) s bytes × IsValid key message s
 
 -- The root to which a signature's bytes lead is the key's exactly where they spell a valid signature. Where they lead
 -- to none, they spell no valid one.
 abbrev pub GivesRoot : XmssPublic → List ℕ → List ℕ → Result (List ℕ) Refusal → Type 0
-GivesRoot key message bytes (Ok root) = (root ≡ key.root) ↔ Signs key message bytes
-GivesRoot key message bytes (Err refusal) = Signs key message bytes → ⊥
+GivesRoot key message bytes (Ok root) = (root ≡ key.root) ↔ IsSignature key message bytes
+GivesRoot key message bytes (Err refusal) = IsSignature key message bytes → ⊥

@@ -44,10 +44,10 @@ RefusesOld OutOfMemory = Unit {0}
 RefusesOld _ = ⊥
 
 -- Unless the device failed, a disk's content is what it was, all of it synced.
-abbrev pub Keeps : {A : Type 0} → (content : List ℕ) → (after : DiskState) → Result A MigrateFault → Type 0
-Keeps content after (Ok _) = after ≡ settled content
-Keeps content after (Err DeviceFailed) = Unit {0}
-Keeps content after (Err _) = after ≡ settled content
+abbrev pub KeepsContent : {A : Type 0} → (content : List ℕ) → (after : DiskState) → Result A MigrateFault → Type 0
+KeepsContent content after (Ok _) = after ≡ settled content
+KeepsContent content after (Err DeviceFailed) = Unit {0}
+KeepsContent content after (Err _) = after ≡ settled content
 
 -- The old place was opened, and its records were judged. Nothing was written: meanwhile a crash leaves only what it
 -- could leave before.
@@ -60,7 +60,7 @@ pub record OpensOld {D : Type 0} (d : disk.Ghosts D) (given : D)
       → IfErr result (λ refused. ReportsOld (d.state given).content refused.fault)
   pub running : IfOk result (λ store. has_stopped store ≡ false)
   pub keeps : IsTrue (d.honest given)
-      → Keeps (d.state given).content (d.state (disk_of_result result)) (outcome_of result)
+      → KeepsContent (d.state given).content (d.state (disk_of_result result)) (outcome_of result)
   pub moments : IsTrue (d.honest given)
       → LeavesOnly d.moment d.left_since given (disk_of_result result) (MayLeave (d.state given))
   pub counts : CountsFailures d is_failed_migration given (disk_of_result result) (outcome_of result)

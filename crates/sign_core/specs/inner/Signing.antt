@@ -17,7 +17,7 @@ use Rattle.sign_core.specs.declared.source.Source as source
 use Rattle.hss.specs.declared.secret.Level.{Level}
 use Rattle.sign_core.specs.Source.{Provides}
 use Rattle.sign_core.specs.Records.{binding_at, free_at, has_identifier, has_moved, has_randomizer, is_long, the_key}
-use Rattle.sign_core.specs.inner.Links.{signings_of, signing_of_bound}
+use Rattle.sign_core.specs.inner.KeyTrees.{signings_of, signing_of_bound}
 use Rattle.sign_core.specs.Events.{AreFields, randomizer_sizes, tree_sizes}
 use Rattle.sign_core.specs.Signer.{Ends, IsRead, LacksTree, RefusesAfterDraws, UnlessAppended}
 use Rattle.sign_core.specs.Signer.{UsesMemory, View, is_before_draws, is_fault}

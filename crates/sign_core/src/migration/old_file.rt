@@ -6,7 +6,7 @@ ghost use Rattle.sign_core.specs.inner.OldFile.{JudgesRecords, OpensOld};
 ghost use Rattle.sign_core.specs.Alarm.{TellsBehind};
 ghost use Rattle.sign_core.specs.OldFile.{opening_fault};
 
-use crate::alarm::{Alarm, tell_behind};
+use crate::alarm::{Alarm, warn_behind};
 use crate::ledger::{Ledger, LedgerFault};
 use crate::replay::Replay;
 use state_file::{Disk, FileStore, MigrateFault, OpenFault, Refused, Version};
@@ -67,7 +67,7 @@ pub(crate) fn open_old<D: Disk + Drop, A: Alarm>(
             });
         }
     };
-    tell_behind(&store, alarm);
+    warn_behind(&store, alarm);
     match judge(replay) {
         Ok(()) => Ok(store),
         Err(fault) => Err(Refused {

@@ -5,7 +5,7 @@ ghost use Rattle.std.specs.Prelude.{◌+◌, ◌≢◌, ◌^◌, ◌⊎◌, ℕ,
 ghost use Rattle.state_file.specs.Laws.{levels_of, bottom_of};
 ghost use Rattle.sign_core.specs.Records.{binding_at, can_follow, free_at, has_moved, is_long, the_key};
 ghost use Rattle.sign_core.specs.Progress.{types_of_key};
-ghost use Rattle.sign_core.specs.inner.Request.{Prepares};
+ghost use Rattle.sign_core.specs.inner.Bind.{Prepares};
 ghost use Rattle.sign_core.specs.inner.Signing.{BindsBelow, BindsNext, CanBind, DrawsTree, Extends};
 ghost use Rattle.sign_core.specs.inner.Signing.{IsReady, Stands};
 ghost use Rattle.state_file.specs.declared.record.Record.TheVariants.{Extend as ExtendRecord};
@@ -133,7 +133,7 @@ impl<S: Store, R: Source> Signer<S, R> {
         let below = level + 1;
         let (secret, randomizer) = draw_tree(chain.pair(below), &mut self.random, &self.ledger)?;
         let asked = TreeRequest::new(below, secret, 0, progress);
-        let (root, cache) = self.caches.begin(asked)?;
+        let (root, cache) = self.caches.make_tree(asked)?;
         let public = LmsPublic::of(&secret, root).to_bytes();
         let signer = chain.secret_at(&self.ledger, parent.place);
         let (identifier, leaf) = (signer.identifier, parent.next);

@@ -13,7 +13,7 @@ read_path-requires-clause-whole g c =
     let long : length c.split_at_mut-lower.result.0.now ≡ block_height height
     = c.split_at_mut-lower.ensures.front_len ∙ c.from.ensures ∙ ap block_height same in
     block_count _ _ height c.block_of-index.result c.deref.result.now
-    (c.deref.ensures.value ∙ ap (λ v. v.block) c.self-2.view_is ∙ c.keep.ensures.nodes.block_kept)
+    (c.deref.ensures.value ∙ ap (λ v. v.block) c.self-2.view_is ∙ c.make_block.ensures.nodes.block_kept)
     ∙ ap (λ n. 2 ^ (n + 1)) (sym long)
 
 pub read_path-requires-2-clause-whole : goal.read_path-requires-2-clause-whole
@@ -23,7 +23,7 @@ read_path-requires-2-clause-whole g c =
     let below : c.from.result ≡ block_height height = c.from.ensures ∙ ap block_height same in
     let long : length c.split_at_mut-lower.result.1.now ≡ height - block_height height = omega arith in
     upper_count _ _ height c.deref-2.result.now
-    (c.deref-2.ensures.value ∙ ap (λ v. v.upper) c.self-2.view_is ∙ c.keep.ensures.nodes.upper_kept)
+    (c.deref-2.ensures.value ∙ ap (λ v. v.upper) c.self-2.view_is ∙ c.make_block.ensures.nodes.upper_kept)
     ∙ ap (λ n. 2 ^ (n + 1)) (sym long)
 
 pub returns-clause-value : goal.returns-clause-value
@@ -44,10 +44,10 @@ returns-clause-value g c =
     whole_path leaf join height c.args.q index c.read_path.new.into c.read_path-2.new.into
     (read_below leaf join 0 _ b c.args.q c.deref.result.now c.read_path.new.into lower_long
     (c.read_path.ensures leaf join 0)
-    (c.deref.ensures.value ∙ ap (λ v. v.block) c.self-2.view_is ∙ c.keep.ensures.nodes.block_kept
+    (c.deref.ensures.value ∙ ap (λ v. v.block) c.self-2.view_is ∙ c.make_block.ensures.nodes.block_kept
     ∙ ap (block_nodes leaf join height) at))
     (read_below leaf join b _ (height - b) index c.deref-2.result.now c.read_path-2.new.into upper_long
     (c.read_path-2.ensures leaf join b)
-    (c.deref-2.ensures.value ∙ ap (λ v. v.upper) c.self-2.view_is ∙ c.keep.ensures.nodes.upper_kept
+    (c.deref-2.ensures.value ∙ ap (λ v. v.upper) c.self-2.view_is ∙ c.make_block.ensures.nodes.upper_kept
     ∙ ap (part_nodes leaf join b (height - b)) (sym first)))
     at

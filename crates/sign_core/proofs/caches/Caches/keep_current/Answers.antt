@@ -1,7 +1,7 @@
 use Rattle.std.proofs.Common.{◌≡◌, Some, subst, sym}
 use Rattle.typecodes.specs.declared.secret.LmsSecret.{LmsSecret}
 use Rattle.typecodes.specs.Types.{height_of}
-use Rattle.sign_core.specs.inner.Links.{chain_trees}
+use Rattle.sign_core.specs.inner.KeyTrees.{chain_trees}
 use Rattle.sign_core.specs.inner.Progress.{height_at}
 use Rattle.sign_core.proofs.Heights.{height_of_current}
 use Rattle.sign_core.proofs.caches.Caches.keep_current.Goals as goal

@@ -1,7 +1,7 @@
 use Rattle.std.proofs.Common.{rules, ◌≡◌, ◌∙◌, [], ◌∷◌, ◌++◌, Some, ap, subst, sym, arith}
 use Rattle.typecodes.specs.declared.secret.LmsSecret.{LmsSecret}
 use Rattle.typecodes.specs.Types.{height_of}
-use Rattle.sign_core.specs.inner.Links.{chain_trees}
+use Rattle.sign_core.specs.inner.KeyTrees.{chain_trees}
 use Rattle.sign_core.specs.inner.Progress.{height_at}
 use Rattle.sign_core.specs.Textbook.{damaged_at}
 use Rattle.sign_core.proofs.Heights.{height_of_tree}
@@ -16,7 +16,7 @@ under g t c =
     let a = c.args in
     let r = c.requires in
     is_under a.ledger.now.key (chain_trees a.self.now) a.ledger.now.records a.level a.place c.in-Some.made r.legal r.keyed r.trees r.stands
-    (sym c.made.ensures ∙ c.in-Some.is)
+    (sym c.recorded_tree.ensures ∙ c.in-Some.is)
 
 pub overflow_sub-level : goal.overflow_sub-level
 overflow_sub-level g t c = (under g t (goal.at.overflow_sub-level g t c).In-Some).some
@@ -50,24 +50,24 @@ push-requires g t c =
 
 -- what the levels above give, whichever tree it is
 reached : (g : _) (t : _) (c : After-secret_at-secret g t) → Reaches c.args.ledger.now.key (chain_trees c.args.self.now) c.args.ledger.now.records c.args.level
-    c.args.place c.args.above.now.items c.match-made.above.items
+    c.args.place c.args.above.now.items c.match-recorded_tree.above.items
 reached g t c =
     let a = c.args in
     let r = c.requires in
     let l = a.ledger.now in
     let T = chain_trees a.self.now in
-    elim c.match-made.branch [
+    elim c.match-recorded_tree.branch [
       | in-Some+in_ok-tree w ↦
           let chain = w.in_ok-tree.ensures in
           subst (Reaches l.key T l.records a.level a.place a.above.now.items) (ap (λ last. w.chain_to.new.above.items ++ last ∷ []) (sym w.new.ensures)
           ∙ sym w.push.ensures.items ∙ ap (λ xs. xs.items) (sym w.above-is))
           (reaches_below l.key T l.records a.level a.place w.in-Some.made a.above.now.items w.chain_to.new.above.items w.in_ok-tree.tree
-          (is_under l.key T l.records a.level a.place w.in-Some.made r.legal r.keyed r.trees r.stands (sym c.made.ensures ∙ w.in-Some.is))
+          (is_under l.key T l.records a.level a.place w.in-Some.made r.legal r.keyed r.trees r.stands (sym c.recorded_tree.ensures ∙ w.in-Some.is))
           chain.sound chain.signings chain.len chain.made chain.tree)
       | in_default w ↦
           subst (Reaches l.key T l.records a.level a.place a.above.now.items) (ap (λ xs. xs.items) (sym w.above-is))
           (reaches_top l.key T l.records a.level a.place a.above.now.items r.stands
-          (sym c.made.ensures ∙ is_none c.made.result w.in_default.not-Some))
+          (sym c.recorded_tree.ensures ∙ is_none c.recorded_tree.result w.in_default.not-Some))
     ]
 
 pub returns-then-not-is_sound-clause-damaged : goal.returns-then-not-is_sound-clause-damaged

@@ -63,9 +63,9 @@ invariant_of-self c =
     let follows = extend_follows (goal.at.invariant_of-self c).In-Extend in
     let (low, high, leaf) = extend_inside c.self.inside.records c.self.inside.key e follows in
     let takes : TakesMemory c.args.entry = subst TakesMemory (sym c.in-Extend.is) tt in
-    let room : 0 < spare c.self.inside.made = omega (arith, c.requires.room.room takes, ap (λ (t : Table). t.spare) c.self.view_is) in
+    let room : 0 < spare c.self.inside.recorded = omega (arith, c.requires.room.room takes, ap (λ (t : Table). t.spare) c.self.view_is) in
     let known : 0 < spare c.self.inside.identifiers = omega (arith, c.requires.room.room takes, ap (λ (t : Table). t.spare) c.self.view_is) in
-    grown_extend c.self.inside.records c.self.inside.key c.self.inside.made c.self.inside.bindings c.self.inside.identifiers c.self.inside.trees.levels
+    grown_extend c.self.inside.records c.self.inside.key c.self.inside.recorded c.self.inside.bindings c.self.inside.identifiers c.self.inside.trees.levels
     c.self.inside.count c.self.inside.moved c.self.invariant e c.from-level.result c.place-parent.result follows
     (subst HasSizes c.in-Extend.is c.requires.sizes)
     c.from-level.ensures (omega (arith, within_limit, high, c.from-level.ensures)) c.place-parent.ensures c.extend.new.self.levels c.extend.ensures c.insert.new.self
@@ -95,7 +95,7 @@ pub invariant_of-self-in-Bound : goal.invariant_of-self-in-Bound
 invariant_of-self-in-Bound c =
     let takes : TakesMemory c.args.entry = subst TakesMemory (sym c.in-Bound.is) tt in
     let room : 0 < spare_of c.self.inside.bindings = omega (arith, c.requires.room.room takes, ap (λ (t : Table). t.spare) c.self.view_is) in
-    grown_bound c.self.inside.records c.self.inside.key c.self.inside.made c.self.inside.bindings c.self.inside.identifiers c.self.inside.trees.levels
+    grown_bound c.self.inside.records c.self.inside.key c.self.inside.recorded c.self.inside.bindings c.self.inside.identifiers c.self.inside.trees.levels
     c.self.inside.count c.self.inside.moved c.self.invariant c.in-Bound.bound c.from-bottom.result c.place.result
     (bound_follows (goal.at.invariant_of-self-in-Bound c).In-Bound) (subst HasSizes c.in-Bound.is c.requires.sizes)
     (last (goal.at.invariant_of-self-in-Bound c).After-from-bottom) (bottom_few (goal.at.invariant_of-self-in-Bound c).After-from-bottom) c.place.ensures
@@ -114,7 +114,7 @@ pub invariant_of-self-in-Retire : goal.invariant_of-self-in-Retire
 invariant_of-self-in-Retire c =
     let follows = subst (λ (x : Record). can_follow (Some c.self.inside.key) c.self.inside.records x ≡ true) c.in-Retire.is
     (ap (λ (t : Table). can_follow (Some t.key) t.records c.args.entry) c.self.view_is ∙ c.requires.follows) in
-    grown_retire c.self.inside.records c.self.inside.key c.self.inside.made c.self.inside.bindings c.self.inside.identifiers c.self.inside.trees.levels
+    grown_retire c.self.inside.records c.self.inside.key c.self.inside.recorded c.self.inside.bindings c.self.inside.identifiers c.self.inside.trees.levels
     c.self.inside.count c.self.inside.moved c.self.invariant c.in-Retire.upto c.from-bottom.result follows
     (last (goal.at.invariant_of-self-in-Retire c).After-from-bottom) c.raise-in-Retire.new.self.levels
     (follows_retire c.self.inside.trees.levels c.raise-in-Retire.new.self.levels c.from-bottom.result c.in-Retire.upto c.raise-in-Retire.ensures)
@@ -126,7 +126,7 @@ pub invariant_of-self-in-Moved : goal.invariant_of-self-in-Moved
 invariant_of-self-in-Moved c =
     let follows = subst (λ (x : Record). can_follow (Some c.self.inside.key) c.self.inside.records x ≡ true) c.in-Moved.is
     (ap (λ (t : Table). can_follow (Some t.key) t.records c.args.entry) c.self.view_is ∙ c.requires.follows) in
-    grown_plain c.self.inside.records c.self.inside.key c.self.inside.made c.self.inside.bindings c.self.inside.identifiers c.self.inside.trees.levels
+    grown_plain c.self.inside.records c.self.inside.key c.self.inside.recorded c.self.inside.bindings c.self.inside.identifiers c.self.inside.trees.levels
     c.self.inside.count c.self.inside.moved c.self.invariant Moved follows
     (λ k. refl) (λ name. refl) refl (tt) c.self.inside.trees.levels
     (follows_moved c.self.inside.key.secret c.self.inside.records c.self.inside.trees.levels c.self.invariant.trees_are) _ refl _

@@ -10,7 +10,7 @@ invariant_of-self-2 c = record {
   counted = c.self.invariant.counted;
   moved_is = c.self.invariant.moved_is;
   trees_are = c.self.invariant.trees_are;
-  made_are = λ place. c.reserve.ensures.entries.2 place ∙ c.self.invariant.made_are place;
+  recorded_are = λ place. c.reserve.ensures.entries.2 place ∙ c.self.invariant.recorded_are place;
   bindings_are = λ name. c.reserve-2.ensures.same name ∙ c.self.invariant.bindings_are name;
   identifiers_are = λ identifier. ap is_some (c.reserve-3.ensures.entries.2 identifier) ∙ c.self.invariant.identifiers_are identifier;
 }

@@ -18,7 +18,7 @@ returns-in-Err-judge-clause-opens g c =
     (subst (λ l. RefusesRecords l c.in-Err-judge.fault) same c.in-Err-judge.ensures))
 
 pub returns-in-Ok-judge-clause-tells : goal.returns-in-Ok-judge-clause-tells
-returns-in-Ok-judge-clause-tells g c = inr (c.in-Ok.store, c.in-Ok.ensures.finds, c.tell_behind.ensures)
+returns-in-Ok-judge-clause-tells g c = inr (c.in-Ok.store, c.in-Ok.ensures.finds, c.warn_behind.ensures)
 
 pub returns-in-Err-judge-clause-tells : goal.returns-in-Err-judge-clause-tells
-returns-in-Err-judge-clause-tells g c = inr (c.in-Ok.store, c.in-Ok.ensures.finds, c.tell_behind.ensures)
+returns-in-Err-judge-clause-tells g c = inr (c.in-Ok.store, c.in-Ok.ensures.finds, c.warn_behind.ensures)

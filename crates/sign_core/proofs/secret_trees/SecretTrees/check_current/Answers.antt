@@ -2,7 +2,7 @@ use Rattle.std.proofs.Common.{◌≡◌, ◌∙◌, None, Some, ap, sym, subst, 
 use Rattle.std.specs.Prelude.{length, IfErr, OnOk}
 use Rattle.state_file.specs.declared.record.Secret.TheVariants.{Xmss}
 use Rattle.state_file.specs.Laws.{levels_of}
-use Rattle.sign_core.specs.inner.Links.{MakesTrees, chain_trees}
+use Rattle.sign_core.specs.inner.KeyTrees.{MakesTrees, chain_trees}
 use Rattle.sign_core.specs.Textbook.{damaged_at, current_at}
 use Rattle.sign_core.proofs.ChainParts.{key_chain}
 use Rattle.sign_core.proofs.CurrentChain.{has_free, leaf_inside, not_free, tree_stands}

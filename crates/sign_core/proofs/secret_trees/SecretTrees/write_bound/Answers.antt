@@ -8,7 +8,7 @@ use Rattle.hss.specs.declared.secret.Level.{Level}
 use Rattle.xmss.specs.Secret.{leaf_path}
 use Rattle.state_file.specs.declared.record.Secret.TheVariants.{Xmss}
 use Rattle.sign_core.specs.Signer.{signature_size}
-use Rattle.sign_core.specs.inner.Links.{AreMade, IsTreeAt, MakesTrees, signings_of, chain_trees}
+use Rattle.sign_core.specs.inner.KeyTrees.{AreMade, IsTreeAt, MakesTrees, signings_of, chain_trees}
 use Rattle.sign_core.specs.inner.Signing.{WritesChain, pairs_of}
 use Rattle.sign_core.specs.Textbook.{damaged_at, chain_signings, trees_of}
 use Rattle.sign_core.proofs.ChainParts.{links_pairs}

@@ -9,7 +9,7 @@ use Rattle.sign_core.specs.Caches.{Cached, HasAll, HasBegun, KeepsOrRenews}
 use Rattle.sign_core.specs.Signing.{answered_value}
 use Rattle.sign_core.specs.Progress.{types_of_key}
 use Rattle.sign_core.specs.Records.{is_long, the_key, types_of}
-use Rattle.sign_core.specs.inner.Links.{MakesTrees}
+use Rattle.sign_core.specs.inner.KeyTrees.{MakesTrees}
 use Rattle.sign_core.specs.Signer.{signature_size, view_of}
 use Rattle.sign_core.specs.inner.Signing.{CanBind, Extends, BindsBelow}
 use Rattle.sign_core.proofs.Adding.{levels_range}

@@ -10,7 +10,7 @@ use Rattle.sign_core.specs.Signer.{view_of}
 use Rattle.sign_core.specs.Signing.{answered_value}
 use Rattle.sign_core.specs.Textbook.{digest_at, textbook_signature}
 use Rattle.sign_core.specs.Trees.{tree_at}
-use Rattle.sign_core.specs.inner.Links.{MakesTrees}
+use Rattle.sign_core.specs.inner.KeyTrees.{MakesTrees}
 use Rattle.sign_core.specs.inner.Signing.{BindsNext, BindsBelow, IsRandomizer}
 use Rattle.sign_core.proofs.Adding.{levels_range}
 use Rattle.sign_core.proofs.Appended.{added_records}

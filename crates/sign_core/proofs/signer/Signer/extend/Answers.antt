@@ -17,7 +17,7 @@ use Rattle.sign_core.specs.Caches.{Cached, HasAll, HasLevel, cache_at}
 use Rattle.sign_core.specs.Signing.{answered_value}
 use Rattle.sign_core.specs.Records.{has_moved, the_key}
 use Rattle.sign_core.specs.inner.Caches.{HasBegunTo, KeepsDownTo, RenewsDownTo}
-use Rattle.sign_core.specs.inner.Links.{MakesTrees, chain_trees}
+use Rattle.sign_core.specs.inner.KeyTrees.{MakesTrees, chain_trees}
 use Rattle.sign_core.specs.inner.Progress.{height_at}
 use Rattle.sign_core.specs.Signer.{View, view_of}
 use Rattle.sign_core.specs.inner.Signing.{Extends, Stands}

@@ -9,7 +9,7 @@ use Rattle.sign_core.specs.declared.ledger.Binding.{Binding}
 use Rattle.sign_core.specs.Caches.{Cached, HasCaches, KeepsOrRenews, LacksCache, LosesCache}
 use Rattle.sign_core.specs.Records.{the_key, types_of}
 use Rattle.sign_core.specs.Signer.{is_before_repeat, is_fault, is_out_of_memory, signature_size, state_of}
-use Rattle.sign_core.specs.inner.Links.{IsTreeAt, MakesTrees}
+use Rattle.sign_core.specs.inner.KeyTrees.{IsTreeAt, MakesTrees}
 use Rattle.sign_core.specs.Signing.{IsPrepared, UnderKey, is_unprepared}
 use Rattle.sign_core.specs.inner.Signing.{IsBindingOf, Repeats}
 use Rattle.sign_core.specs.Textbook.{damaged_at}

@@ -14,7 +14,7 @@ use Rattle.sign_core.specs.Textbook.{damaged_at, current_at}
 use Rattle.sign_core.specs.declared.fault.SignFault.{SignFault}
 use Rattle.sign_core.specs.declared.fault.SignFault.TheVariants.{Damaged, LongName}
 use Rattle.sign_core.specs.inner.Caches.{HasBegunTo, KeepsDownTo, RenewsDownTo}
-use Rattle.sign_core.specs.inner.Links.{MakesTrees}
+use Rattle.sign_core.specs.inner.KeyTrees.{MakesTrees}
 use Rattle.sign_core.specs.inner.Signing.{CanBind, BindsBelow, IsBindingOf, Stands}
 use Rattle.sign_core.proofs.BegunCaches.{none_begun, none_begun_to}
 use Rattle.sign_core.proofs.ChainParts.{same_key}

@@ -4,7 +4,7 @@ use Rattle.std.proofs.lemmas.Grind.{pow_more}
 use Rattle.merkle.specs.Nodes.{part_nodes}
 use Rattle.merkle.proofs.Listing.{halves_inside, nodes_over_halves, half_long, half_room, half_some, leaves_below}
 use Rattle.merkle.proofs.Listing.{nodes_one, one_written}
-use Rattle.merkle.proofs.nodes.+fill.Goals as goal
+use Rattle.merkle.proofs.nodes.+make_nodes.Goals as goal
 
 pub returns-then-depth-eq0-clause-value : goal.returns-then-depth-eq0-clause-value
 returns-then-depth-eq0-clause-value g t c =
@@ -13,15 +13,15 @@ returns-then-depth-eq0-clause-value g t c =
     ∙ ap (λ v. v ∷ []) c.node_at.ensures.value
     ∙ sym (nodes_one _ _ c.args.base c.args.depth c.args.index c.if-depth-eq0.true)
 
-pub fill-requires : goal.fill-requires
-fill-requires g t c κs within =
+pub make_nodes-requires : goal.make_nodes-requires
+make_nodes-requires g t c κs within =
     let room = half_room (length c.args.into.now) c.args.depth c.requires.exact_length (omega arith) in
     let inside
     = halves_inside c.args.base c.args.depth c.args.index (omega arith) c.requires.at_most_25 c.requires.node_in_tree in
     search rules
 
-pub fill-requires-2 : goal.fill-requires-2
-fill-requires-2 g t c κs within =
+pub make_nodes-requires-2 : goal.make_nodes-requires-2
+make_nodes-requires-2 g t c κs within =
     let room = half_room (length c.args.into.now) c.args.depth c.requires.exact_length (omega arith) in
     let inside
     = halves_inside c.args.base c.args.depth c.args.index (omega arith) c.requires.at_most_25 c.requires.node_in_tree in
@@ -48,17 +48,17 @@ returns-clause-value g t c =
     let long = half_long (length c.args.into.now) c.args.depth c.requires.exact_length (omega arith) in
     let some = half_some (length c.args.into.now) c.args.depth c.requires.exact_length (omega arith) in
     nodes_over_halves leaf join c.args.base c.args.depth c.args.index n
-    c.fill.new.into c.fill-2.new.into _ c.join.result (omega arith) (omega arith)
-    c.fill.ensures.value
-    (c.fill-2.ensures.value
-    ∙ ap (λ l. part_nodes l (g.T.NodeHash.join_of c.fill.new.tree) c.args.base below
-    (2 * c.args.index + 1)) c.fill.ensures.leaves
-    ∙ ap (λ j. part_nodes leaf j c.args.base below (2 * c.args.index + 1)) c.fill.ensures.joins)
+    c.make_nodes.new.into c.make_nodes-2.new.into _ c.join.result (omega arith) (omega arith)
+    c.make_nodes.ensures.value
+    (c.make_nodes-2.ensures.value
+    ∙ ap (λ l. part_nodes l (g.T.NodeHash.join_of c.make_nodes.new.tree) c.args.base below
+    (2 * c.args.index + 1)) c.make_nodes.ensures.leaves
+    ∙ ap (λ j. part_nodes leaf j c.args.base below (2 * c.args.index + 1)) c.make_nodes.ensures.joins)
     (omega (arith, long, pow_more 2 c.args.depth))
     (c.join.ensures
-    ∙ ap (λ j. j (c.args.base + below) c.args.index (slice_index_or c.fill.new.into n [])
-    (slice_index_or c.fill-2.new.into n []))
-    (c.fill-2.ensures.joins ∙ c.fill.ensures.joins))
+    ∙ ap (λ j. j (c.args.base + below) c.args.index (slice_index_or c.make_nodes.new.into n [])
+    (slice_index_or c.make_nodes-2.new.into n []))
+    (c.make_nodes-2.ensures.joins ∙ c.make_nodes.ensures.joins))
 
 pub returns-clause-counted : goal.returns-clause-counted
 returns-clause-counted g t c = omega (arith, leaves_below c.args.base c.args.depth (omega arith))

@@ -6,7 +6,7 @@ use Rattle.merkle.specs.Tree.{node}
 use Rattle.merkle.proofs.Listing.{halves_inside, nodes_over_halves, half_long, half_room, half_some, leaves_below}
 use Rattle.merkle.proofs.Listing.{nodes_one, one_written}
 use Rattle.merkle.proofs.Reading.{under_second}
-use Rattle.merkle.proofs.nodes.+fill_around.Goals as goal
+use Rattle.merkle.proofs.nodes.+make_around.Goals as goal
 
 pub returns-then-depth-eq0-clause-value : goal.returns-then-depth-eq0-clause-value
 returns-then-depth-eq0-clause-value g t c =
@@ -20,8 +20,8 @@ returns-then-depth-eq0-clause-value g t c =
     (whole ∙ ap (λ d. c.args.known_index / 2 ^ d) (sym c.if-depth-eq0.true) ∙ c.requires.under)
     ∙ sym (nodes_one leaf join c.args.base c.args.depth c.args.index c.if-depth-eq0.true)
 
-pub fill_around-requires : goal.fill_around-requires
-fill_around-requires g t c κs within =
+pub make_around-requires : goal.make_around-requires
+make_around-requires g t c κs within =
     let room = half_room (length c.args.into.now) c.args.depth c.requires.exact_length (omega arith) in
     let inside
     = halves_inside c.args.base c.args.depth c.args.index (omega arith) c.requires.at_most_25 c.requires.node_in_tree in
@@ -30,16 +30,16 @@ fill_around-requires g t c κs within =
     = ap (λ n. c.args.known_index / n) (sym power) ∙ c.if-over-index.true in
     search rules
 
-pub fill-requires-clause-node_in_tree : goal.fill-requires-clause-node_in_tree
-fill-requires-clause-node_in_tree g t c =
+pub make_nodes-requires-clause-node_in_tree : goal.make_nodes-requires-clause-node_in_tree
+make_nodes-requires-clause-node_in_tree g t c =
     halves_inside c.args.base c.args.depth c.args.index (omega arith) c.requires.at_most_25 c.requires.node_in_tree
 
-pub fill-requires-else-over-index-clause-node_in_tree : goal.fill-requires-else-over-index-clause-node_in_tree
-fill-requires-else-over-index-clause-node_in_tree g t c =
+pub make_nodes-requires-else-over-index-clause-node_in_tree : goal.make_nodes-requires-else-over-index-clause-node_in_tree
+make_nodes-requires-else-over-index-clause-node_in_tree g t c =
     omega (arith, halves_inside c.args.base c.args.depth c.args.index (omega arith) c.requires.at_most_25 c.requires.node_in_tree)
 
-pub fill_around-requires-else-over-index : goal.fill_around-requires-else-over-index
-fill_around-requires-else-over-index g t c κs within =
+pub make_around-requires-else-over-index : goal.make_around-requires-else-over-index
+make_around-requires-else-over-index g t c κs within =
     let room = half_room (length c.args.into.now) c.args.depth c.requires.exact_length (omega arith) in
     let inside
     = halves_inside c.args.base c.args.depth c.args.index (omega arith) c.requires.at_most_25 c.requires.node_in_tree in
@@ -49,9 +49,9 @@ fill_around-requires-else-over-index g t c κs within =
     let known
     = c.requires.known
     ∙ ap (λ l. node l (g.T.NodeHash.join_of c.args.tree.now) c.args.base c.args.known_index)
-    (sym c.fill-else-over-index.ensures.leaves)
-    ∙ ap (λ j. node (g.T.TreeHash.leaf_of c.fill-else-over-index.new.tree) j c.args.base c.args.known_index)
-    (sym c.fill-else-over-index.ensures.joins) in
+    (sym c.make_nodes-else-over-index.ensures.leaves)
+    ∙ ap (λ j. node (g.T.TreeHash.leaf_of c.make_nodes-else-over-index.new.tree) j c.args.base c.args.known_index)
+    (sym c.make_nodes-else-over-index.ensures.joins) in
     search rules
 
 pub overflow_sub-half : goal.overflow_sub-half
@@ -89,17 +89,17 @@ returns-then-over-index-clause-value g t c =
     let long = half_long (length c.args.into.now) c.args.depth c.requires.exact_length (omega arith) in
     let some = half_some (length c.args.into.now) c.args.depth c.requires.exact_length (omega arith) in
     nodes_over_halves leaf join c.args.base c.args.depth c.args.index n
-    c.fill_around.new.into c.fill.new.into _ c.join.result (omega arith) (omega arith)
-    c.fill_around.ensures.value
-    (c.fill.ensures.value
-    ∙ ap (λ l. part_nodes l (g.T.NodeHash.join_of c.fill_around.new.tree) c.args.base below
-    (2 * c.args.index + 1)) c.fill_around.ensures.leaves
-    ∙ ap (λ j. part_nodes leaf j c.args.base below (2 * c.args.index + 1)) c.fill_around.ensures.joins)
+    c.make_around.new.into c.make_nodes.new.into _ c.join.result (omega arith) (omega arith)
+    c.make_around.ensures.value
+    (c.make_nodes.ensures.value
+    ∙ ap (λ l. part_nodes l (g.T.NodeHash.join_of c.make_around.new.tree) c.args.base below
+    (2 * c.args.index + 1)) c.make_around.ensures.leaves
+    ∙ ap (λ j. part_nodes leaf j c.args.base below (2 * c.args.index + 1)) c.make_around.ensures.joins)
     (omega (arith, long, pow_more 2 c.args.depth))
     (c.join.ensures
-    ∙ ap (λ j. j (c.args.base + below) c.args.index (slice_index_or c.fill_around.new.into n [])
-    (slice_index_or c.fill.new.into n []))
-    (c.fill.ensures.joins ∙ c.fill_around.ensures.joins))
+    ∙ ap (λ j. j (c.args.base + below) c.args.index (slice_index_or c.make_around.new.into n [])
+    (slice_index_or c.make_nodes.new.into n []))
+    (c.make_nodes.ensures.joins ∙ c.make_around.ensures.joins))
 
 pub returns-then-over-index-clause-counted : goal.returns-then-over-index-clause-counted
 returns-then-over-index-clause-counted g t c = omega (arith, leaves_below c.args.base c.args.depth (omega arith))
@@ -112,8 +112,8 @@ returns-else-over-index-clause-value g t c =
     let n = length c.args.into.now / 2 - 1 in
     let long = half_long (length c.args.into.now) c.args.depth c.requires.exact_length (omega arith) in
     let some = half_some (length c.args.into.now) c.args.depth c.requires.exact_length (omega arith) in
-    let first = c.fill-else-over-index in
-    let second = c.fill_around-else-over-index in
+    let first = c.make_nodes-else-over-index in
+    let second = c.make_around-else-over-index in
     nodes_over_halves leaf join c.args.base c.args.depth c.args.index n
     first.new.into second.new.into _ c.join-else-over-index.result (omega arith) (omega arith)
     first.ensures.value

@@ -5,7 +5,7 @@ use Rattle.merkle.specs.inner.Nodes.{AreUnder}
 use Rattle.merkle.proofs.Halves.{first_count, first_under, second_count, second_under}
 use Rattle.merkle.proofs.Listing.{halves_inside, nodes_over_halves, half_long, half_room, half_some}
 use Rattle.merkle.proofs.Listing.{nodes_one, one_written}
-use Rattle.merkle.proofs.nodes.+fill_from_leaves.Goals as goal
+use Rattle.merkle.proofs.nodes.+make_from_leaves.Goals as goal
 
 pub returns-then-depth-eq0 : goal.returns-then-depth-eq0
 returns-then-depth-eq0 g t c = λ leaf under.
@@ -15,8 +15,8 @@ returns-then-depth-eq0 g t c = λ leaf under.
     ∙ ap (λ v. v ∷ []) (c.node_over.ensures leaf (subst (λ h. AreUnder leaf h c.args.index c.args.leaves.now) low under))
     ∙ sym (nodes_one leaf _ c.args.base c.args.depth c.args.index c.if-depth-eq0.true)
 
-pub fill_from_leaves-requires : goal.fill_from_leaves-requires
-fill_from_leaves-requires g t c κs within =
+pub make_from_leaves-requires : goal.make_from_leaves-requires
+make_from_leaves-requires g t c κs within =
     let room = half_room (length c.args.into.now) c.args.depth c.requires.exact_length (omega arith) in
     let inside
     = halves_inside c.args.base c.args.depth c.args.index (omega arith) c.requires.at_most_25 c.requires.node_in_tree in
@@ -25,8 +25,8 @@ fill_from_leaves-requires g t c κs within =
     ∙ ap (λ h. 2 ^ h) lower in
     search rules
 
-pub fill_from_leaves-requires-2 : goal.fill_from_leaves-requires-2
-fill_from_leaves-requires-2 g t c κs within =
+pub make_from_leaves-requires-2 : goal.make_from_leaves-requires-2
+make_from_leaves-requires-2 g t c κs within =
     let room = half_room (length c.args.into.now) c.args.depth c.requires.exact_length (omega arith) in
     let inside
     = halves_inside c.args.base c.args.depth c.args.index (omega arith) c.requires.at_most_25 c.requires.node_in_tree in
@@ -64,8 +64,8 @@ returns g t c = λ leaf under.
     let right = subst (λ k. AreUnder leaf k (2 * j + 1) (take (length leaves - count) (drop count leaves))) lower
     (second_under leaf h j count leaves above c.requires.count refl under) in
     nodes_over_halves leaf join c.args.base c.args.depth j n
-    c.fill_from_leaves.new.into c.fill_from_leaves-2.new.into _ c.join.result (omega arith) (omega arith)
-    (c.fill_from_leaves.ensures leaf left)
-    (c.fill_from_leaves-2.ensures leaf right)
+    c.make_from_leaves.new.into c.make_from_leaves-2.new.into _ c.join.result (omega arith) (omega arith)
+    (c.make_from_leaves.ensures leaf left)
+    (c.make_from_leaves-2.ensures leaf right)
     (omega (arith, long, pow_more 2 c.args.depth))
     c.join.ensures
