@@ -9,7 +9,8 @@ use Rattle.typecodes.specs.declared.refusal.Refusal.TheVariants.{RootMismatch, M
 use Rattle.typecodes.specs.Fault.{cause_number}
 use Rattle.typecodes.specs.Refusal.{refusal_number}
 use Rattle.boot_verify.specs.declared.key.Key.{Key}
-use Rattle.boot_verify.specs.Key.{KeyHasFault, KeyHasPrefix, KeyIsDigest, KeyVerdict, IsSignature, SpellsKey, prefix_length}
+use Rattle.boot_verify.specs.Key.{IsSignature, KeyHasFault, KeyHasPrefix, KeyIsDigest, KeyVerdict, SpellsKey}
+use Rattle.boot_verify.specs.Key.{prefix_length}
 
 -- a number in the lower 32 bits, its detail in the upper ones
 abbrev pub packed : ℕ → ℕ → ℕ

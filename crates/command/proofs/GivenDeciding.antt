@@ -9,7 +9,7 @@ use Rattle.sign_core.specs.declared.key.AnyPublic.{AnyPublic}
 use Rattle.sign_core.specs.declared.key.KeyFault.{KeyFault}
 use Rattle.sign_core.specs.Once.{IsValidUnder}
 use Rattle.sign_core.specs.Uses.{LeafUse, MakesUses}
-use Rattle.sign_core.proofs.Valid.{accepted, accepts}
+use Rattle.sign_core.proofs.records.ValidSignatures.{accepted, accepts}
 use Rattle.command.specs.declared.answer.Done.{Done}
 use Rattle.command.specs.declared.refusal.Refusal.{Refusal}
 use Rattle.command.specs.AuditGiven.{AnswersGiven, AnswersWhole, BeginAll, BeginsGiven, given_answer}

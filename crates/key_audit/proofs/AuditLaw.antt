@@ -3,7 +3,7 @@ use Rattle.std.proofs.Common.{◌≡◌, ℕ, inl, inr, true, List, length, Some
 use Rattle.std.proofs.Common.{sym, ap, ◌∙◌, arith, true≢false, length-append, length-take-le}
 use Rattle.state_file.specs.declared.record.Record.{Record}
 use Rattle.state_file.specs.Laws.{IsLegal}
-use Rattle.sign_core.proofs.Illegal.{none_from_legal}
+use Rattle.sign_core.proofs.records.FirstIllegal.{none_from_legal}
 use Rattle.key_audit.specs.declared.report.Anchor.{Anchor}
 use Rattle.key_audit.specs.declared.report.AuditFault.{AuditFault}
 use Rattle.key_audit.specs.declared.report.AuditFault.TheVariants.{Stopped, NoKey, Damaged, Illegal, DeviceFailed, OutOfMemory, AnchorCount, AnchorTag}

@@ -14,7 +14,7 @@ use Rattle.state_file.specs.Laws.{bottom_of, has_moved, is_moved, leaves_at, lev
 use Rattle.sign_core.specs.declared.key.AnyPublic.{AnyPublic}
 use Rattle.sign_core.specs.Textbook.{any_public, public_of_key}
 use Rattle.sign_core.specs.Records.{current, free_at, free_counts, in_tree, last_extend, makes, reached_number, reached_numbers, reaches, same_tree, the_key, under, types_of}
-use Rattle.sign_core.proofs.Found.{next_of}
+use Rattle.sign_core.proofs.records.Parts.{next_of}
 use Rattle.key_audit.specs.Listing.{ListingLaw, ReportLaw, Shown, entry_of, shown_of_records, shown_of, without_secret, without_seeds}
 
 -- ---- a secret

@@ -12,7 +12,7 @@ use Rattle.sign_core.specs.declared.key.AnyPublic.{AnyPublic}
 use Rattle.sign_core.specs.declared.key.AnyPublic.TheVariants.{Lms, Hss, Xmss}
 use Rattle.sign_core.specs.Key.{KeyLeavesMessage, KeyVerdict}
 use Rattle.sign_core.specs.Once.{IsValidUnder}
-use Rattle.sign_core.proofs.Valid.{accepted}
+use Rattle.sign_core.proofs.records.ValidSignatures.{accepted}
 use Rattle.key_audit.specs.declared.given.Given.{Given}
 use Rattle.key_audit.specs.declared.in_memory.InMemory.{InMemory}
 use Rattle.key_audit.specs.Given.{IsValidGiven}

@@ -11,8 +11,8 @@ use Rattle.state_file.specs.DiskCalls.{OnlyReads}
 use Rattle.state_file.specs.FileStore.{WhileStoreRuns, disk_of, has_stopped, records_of, unreadable_of}
 use Rattle.state_file.specs.Store.{Collects, IsRecordAt}
 use Rattle.state_file.proofs.Moments.{combined, started}
-use Rattle.sign_core.proofs.Adding.{length_one_more}
-use Rattle.sign_core.proofs.Lists.{take_with_next}
+use Rattle.sign_core.proofs.calls.AppendMoments.{length_one_more}
+use Rattle.sign_core.proofs.records.Lists.{take_with_next}
 use Rattle.key_audit.specs.declared.report.AuditFault.{AuditFault}
 use Rattle.key_audit.specs.Audit.{ReadsStore, is_device_failed, is_fault, is_stopped, unreadable_slot}
 use Rattle.key_audit.specs.inner.Loading.{AreLoaded, LoadsSlot}

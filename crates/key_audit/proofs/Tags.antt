@@ -7,7 +7,7 @@ use Rattle.state_file.specs.File.{SpellsRecords, fields_at, previous_tag, tag_of
 use Rattle.std.specs.Prelude.{slice_get, Some}
 use Rattle.state_file.specs.Slot.{slot_record, file_version}
 use Rattle.state_file.proofs.OneWay.{one_way-slot_record}
-use Rattle.sign_core.proofs.Lists.{slice_get_some, slice_get_stays}
+use Rattle.sign_core.proofs.records.Lists.{slice_get_some, slice_get_stays}
 use Rattle.key_audit.specs.Tags.{IsTagBefore, TagLaw}
 
 bytes_take : (n : ℕ) (xs : List ℕ) → AreBytes xs → AreBytes (take n xs)

@@ -1,7 +1,7 @@
 use Rattle.std.proofs.Common.{◌∙◌, ap, inr}
 use Rattle.state_file.specs.FileStore.{disk_of}
 use Rattle.command.specs.declared.refusal.Refusal.TheVariants.{Opening}
-use Rattle.sign_core.proofs.Told.{told_then}
+use Rattle.sign_core.proofs.calls.Told.{told_then}
 use Rattle.command.proofs.key_file.serve.Goals as goal
 
 pub returns-in-Ok-clause-serves : goal.returns-in-Ok-clause-serves

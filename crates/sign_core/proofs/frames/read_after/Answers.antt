@@ -1,5 +1,5 @@
 use Rattle.std.proofs.Common.{rules, ◌≡◌, Err}
-use Rattle.sign_core.proofs.Exchanges.{after_name_cut, after_number_cut, after_read}
+use Rattle.sign_core.proofs.exchanges.Turns.{after_name_cut, after_number_cut, after_read}
 use Rattle.sign_core.proofs.frames.read_after.Goals as goal
 
 pub returns-in_err-name : goal.returns-in_err-name

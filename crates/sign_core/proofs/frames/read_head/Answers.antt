@@ -1,5 +1,5 @@
 use Rattle.std.proofs.Common.{rules}
-use Rattle.sign_core.proofs.Exchanges.{head_after, head_unread}
+use Rattle.sign_core.proofs.exchanges.Turns.{head_after, head_unread}
 use Rattle.sign_core.proofs.frames.read_head.Goals as goal
 
 pub returns-in-Err : goal.returns-in-Err

@@ -1,5 +1,5 @@
 use Rattle.std.proofs.Common.{rules, ◌≡◌, Err}
-use Rattle.sign_core.proofs.Exchanges.{name_cut}
+use Rattle.sign_core.proofs.exchanges.Turns.{name_cut}
 use Rattle.sign_core.proofs.frames.read_name.Goals as goal
 
 pub returns-in_err-read_exact : goal.returns-in_err-read_exact

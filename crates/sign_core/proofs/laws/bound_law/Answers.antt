@@ -1,6 +1,6 @@
 use Rattle.std.proofs.Common.{refl}
 use Rattle.sign_core.proofs.laws.bound_law.Goals as goal
-use Rattle.sign_core.proofs.HeadlineOfCalls.{bound_headline, bound_moved}
+use Rattle.sign_core.proofs.calls.Headline.{bound_headline, bound_moved}
 use Rattle.state_file.specs.File.{most_records}
 
 pub returns-clause-calls : goal.returns-clause-calls

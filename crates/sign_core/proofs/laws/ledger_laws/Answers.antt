@@ -1,9 +1,9 @@
 use Rattle.sign_core.proofs.laws.ledger_laws.Goals as goal
-use Rattle.sign_core.proofs.TreeSteps.{current_is, is_current}
-use Rattle.sign_core.proofs.Leaves.{is_next, deepest_is, none_free}
-use Rattle.sign_core.proofs.Illegal.{legal_from_none, none_from_legal, first_is}
-use Rattle.sign_core.proofs.TreeChain.{chain_is}
-use Rattle.sign_core.proofs.Bindings.{binding_stands, unbound, identifier_stands, stands_identifier}
+use Rattle.sign_core.proofs.records.CurrentTrees.{current_is, is_current}
+use Rattle.sign_core.proofs.records.FreeLeaves.{is_next, deepest_is, none_free}
+use Rattle.sign_core.proofs.records.FirstIllegal.{legal_from_none, none_from_legal, first_is}
+use Rattle.sign_core.proofs.records.TreeChain.{chain_is}
+use Rattle.sign_core.proofs.records.Bindings.{binding_stands, unbound, identifier_stands, stands_identifier}
 
 pub returns-clause-current : goal.returns-clause-current
 returns-clause-current c = λ records level tree. (current_is level records tree, is_current level records tree)

@@ -1,5 +1,5 @@
 use Rattle.sign_core.proofs.laws.lives_law.Goals as goal
-use Rattle.sign_core.proofs.Lives.{lives_law}
+use Rattle.sign_core.proofs.calls.Lives.{lives_law}
 
 pub returns : goal.returns
 returns c = λ call. record {

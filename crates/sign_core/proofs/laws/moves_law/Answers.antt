@@ -1,5 +1,5 @@
 use Rattle.sign_core.proofs.laws.moves_law.Goals as goal
-use Rattle.sign_core.proofs.Moves.{moves_law}
+use Rattle.sign_core.proofs.moves.Moves.{moves_law}
 
 pub returns : goal.returns
 returns c = λ call. record {

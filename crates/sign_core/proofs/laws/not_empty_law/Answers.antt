@@ -1,5 +1,5 @@
 use Rattle.sign_core.proofs.laws.not_empty_law.Goals as goal
-use Rattle.sign_core.proofs.NotEmpty.{not_empty_law, not_empty_of_calls}
+use Rattle.sign_core.proofs.law.NotEmpty.{not_empty_law, not_empty_of_calls}
 
 pub returns-clause-runs : goal.returns-clause-runs
 returns-clause-runs c = λ call. not_empty_law

@@ -1,7 +1,7 @@
 use Rattle.sign_core.proofs.laws.once_law.Goals as goal
 use Rattle.sign_core.specs.World.{beginning, run}
-use Rattle.sign_core.proofs.Events.{kept_by_run}
-use Rattle.sign_core.proofs.OnceParts.{once}
+use Rattle.sign_core.proofs.law.KeptByRuns.{kept_by_run}
+use Rattle.sign_core.proofs.law.Once.{once}
 use Rattle.sign_core.specs.Once.{OnceLaw}
 
 pub returns : goal.returns

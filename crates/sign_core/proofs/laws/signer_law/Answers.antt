@@ -1,7 +1,7 @@
 use Rattle.sign_core.proofs.laws.signer_law.Goals as goal
-use Rattle.sign_core.proofs.ServedCalls.{serve_law}
-use Rattle.sign_core.proofs.Sessions.{request_law}
-use Rattle.sign_core.proofs.SignerCalls.{signer_law}
+use Rattle.sign_core.proofs.exchanges.ServedCalls.{serve_law}
+use Rattle.sign_core.proofs.calls.Sessions.{request_law}
+use Rattle.sign_core.proofs.calls.SignerCalls.{signer_law}
 
 pub returns-clause-signer : goal.returns-clause-signer
 returns-clause-signer c = λ call.

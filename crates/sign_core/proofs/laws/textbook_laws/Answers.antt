@@ -1,4 +1,4 @@
-use Rattle.sign_core.proofs.Valid.{accepted, accepts, all_valid, checked, undamaged}
+use Rattle.sign_core.proofs.records.ValidSignatures.{accepted, accepts, all_valid, checked, undamaged}
 use Rattle.sign_core.proofs.laws.textbook_laws.Goals as goal
 
 pub returns : goal.returns

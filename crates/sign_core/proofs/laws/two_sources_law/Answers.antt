@@ -1,7 +1,7 @@
 use Rattle.std.proofs.Common.{refl}
 use Rattle.sign_core.proofs.laws.two_sources_law.Goals as goal
-use Rattle.sign_core.proofs.HeadlineOfCalls.{headline, headline_moved}
-use Rattle.sign_core.proofs.TwoSources.{signer_with, sources_law}
+use Rattle.sign_core.proofs.calls.Headline.{headline, headline_moved}
+use Rattle.sign_core.proofs.calls.TwoSources.{signer_with, sources_law}
 use Rattle.sign_core.specs.TwoSources.{either}
 use Rattle.state_file.specs.File.{most_records}
 

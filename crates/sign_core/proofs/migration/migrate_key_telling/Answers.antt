@@ -2,9 +2,9 @@ use Rattle.std.proofs.Common.{Err, sym, subst}
 use Rattle.state_file.specs.FileStore.{disk_of}
 use Rattle.sign_core.specs.Migration.{Migrates}
 use Rattle.sign_core.specs.OldFile.{opening_fault}
-use Rattle.sign_core.proofs.Told.{told_then}
-use Rattle.sign_core.proofs.Lives.{KeepsTime}
-use Rattle.sign_core.proofs.MigrateKey.{filled, refused_old, refused_place, refused_seal}
+use Rattle.sign_core.proofs.calls.Told.{told_then}
+use Rattle.sign_core.proofs.calls.Lives.{KeepsTime}
+use Rattle.sign_core.proofs.moves.Ends.{filled, refused_old, refused_place, refused_seal}
 use Rattle.sign_core.proofs.migration.migrate_key_telling.Given.{Over}
 use Rattle.sign_core.proofs.migration.migrate_key_telling.Goals as goal
 

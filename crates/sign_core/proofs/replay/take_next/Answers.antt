@@ -1,6 +1,6 @@
 use Rattle.std.proofs.Common.{None, subst}
 use Rattle.sign_core.specs.inner.Replay.{IsReplay}
-use Rattle.sign_core.proofs.Replaying.{goes_on}
+use Rattle.sign_core.proofs.ledgers.Replaying.{goes_on}
 use Rattle.sign_core.proofs.replay.take_next.Goals as goal
 
 pub returns-in-Some : goal.returns-in-Some

@@ -1,7 +1,7 @@
 use Rattle.std.proofs.Common.{rules, ◌≡◌, Err, subst, sym}
 use Rattle.sign_core.specs.Serving.{Serves}
-use Rattle.sign_core.proofs.Exchanges.{HasServed, served_more, served_none, serves_to_end, serves_to_fault}
-use Rattle.sign_core.proofs.SameTypes.{exchanges_keep}
+use Rattle.sign_core.proofs.exchanges.Turns.{HasServed, served_more, served_none, serves_to_end, serves_to_fault}
+use Rattle.sign_core.proofs.calls.SameTypes.{exchanges_keep}
 use Rattle.sign_core.proofs.serving.serve_telling.Goals as goal
 
 pub take_turn-requires : goal.take_turn-requires

@@ -1,5 +1,5 @@
 use Rattle.std.proofs.Common.{vec_capacity}
-use Rattle.sign_core.proofs.Exchanges.{HasServed}
+use Rattle.sign_core.proofs.exchanges.Turns.{HasServed}
 use Rattle.sign_core.proofs.serving.serve_telling.Given as goal
 
 abbrev pub invariant-loop-count : goal.invariant-loop-count

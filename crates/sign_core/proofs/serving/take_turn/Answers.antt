@@ -3,7 +3,7 @@ use Rattle.std.specs.Io.KnownBytes.{Appends}
 use Rattle.sign_core.specs.inner.Frames.{ReadsHead, head_fields}
 use Rattle.sign_core.specs.inner.Serving.{WritesReply}
 use Rattle.sign_core.specs.Serving.{reply_bytes}
-use Rattle.sign_core.proofs.Exchanges.{after_answer, answered_at, answered_frame, asks_stays, finish_stays, frame_cut, frame_goes, frame_lost, head_failed, head_lost}
+use Rattle.sign_core.proofs.exchanges.Turns.{after_answer, answered_at, answered_frame, asks_stays, finish_stays, frame_cut, frame_goes, frame_lost, head_failed, head_lost}
 use Rattle.sign_core.proofs.serving.take_turn.Goals as goal
 
 pub returns-in_err-write_reply-in-Err : goal.returns-in_err-write_reply-in-Err

@@ -1,5 +1,5 @@
 use Rattle.std.proofs.Common.{rules}
-use Rattle.sign_core.proofs.Replying.{part_lost}
+use Rattle.sign_core.proofs.exchanges.Replying.{part_lost}
 use Rattle.sign_core.proofs.serving.write_part.Goals as goal
 
 pub returns : goal.returns

@@ -1,7 +1,7 @@
 use Rattle.std.proofs.Common.{rules, ◌≡◌, ◌∷◌, [], ◌++◌, Err, length, ap, refl, subst, sym}
 use Rattle.std.specs.Io.KnownBytes.{Appends}
 use Rattle.byteorder.specs.Endian.{big_bytes}
-use Rattle.sign_core.proofs.Replying.{first_part, frame_written, then_part, flushed}
+use Rattle.sign_core.proofs.exchanges.Replying.{first_part, frame_written, then_part, flushed}
 use Rattle.sign_core.proofs.serving.write_reply.Goals as goal
 
 pub returns-in_err-write_part : goal.returns-in_err-write_part

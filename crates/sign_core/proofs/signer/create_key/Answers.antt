@@ -2,11 +2,11 @@ use Rattle.std.proofs.Common.{rules, ◌≡◌, ◌∙◌, ◌∷◌, ◌++◌, 
 use Rattle.state_file.specs.declared.record.Record.{Record}
 use Rattle.state_file.specs.declared.record.Record.TheVariants.{Key as KeyRecord}
 use Rattle.sign_core.specs.inner.Signer.{IsTakenUp}
-use Rattle.sign_core.proofs.Appends.{IsAppended}
+use Rattle.sign_core.proofs.calls.StoreFaults.{IsAppended}
 use Rattle.sign_core.specs.Signer.{MakesKey}
 use Rattle.sign_core.specs.World.{new_key}
-use Rattle.sign_core.proofs.Adding.{follows_none}
-use Rattle.sign_core.proofs.Creating.{looked, made, undrawn, unmade}
+use Rattle.sign_core.proofs.calls.AppendMoments.{follows_none}
+use Rattle.sign_core.proofs.calls.CreateEnds.{looked, made, undrawn, unmade}
 use Rattle.sign_core.proofs.signer.create_key.Goals as goal
 
 pub returns-in_err-load_first-clause-makes : goal.returns-in_err-load_first-clause-makes

@@ -1,7 +1,7 @@
 use Rattle.std.proofs.Common.{rules, ◌≡◌, [], ◌∷◌, Ok, Err, refl, sym, ap}
 use Rattle.typecodes.specs.declared.spec.Spec.TheVariants.{Lms, Hss, Xmss}
 use Rattle.state_file.specs.declared.record.Secret.TheVariants as secret
-use Rattle.sign_core.proofs.Drawing.{all_drawn, draw_stops, draws_along, more_drawn, none_drawn}
+use Rattle.sign_core.proofs.calls.SecretDraws.{all_drawn, draw_stops, draws_along, more_drawn, none_drawn}
 use Rattle.sign_core.proofs.signer.draw_secret.Goals as goal
 
 pub returns-in_err-draw-in-Lms-2-clause-draws : goal.returns-in_err-draw-in-Lms-2-clause-draws

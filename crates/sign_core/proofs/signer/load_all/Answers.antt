@@ -2,7 +2,7 @@ use Rattle.std.proofs.Common.{rules, ◌≡◌, ◌≤◌, ◌+◌, false, Some,
 use Rattle.sign_core.specs.inner.Signer.{IsTakenUp, LoadsRecord}
 use Rattle.sign_core.specs.Signer.{LoadsAll}
 use Rattle.state_file.specs.Store.{is_key}
-use Rattle.sign_core.proofs.Opening.{all_taken, all_tied, end_found, key_refused, key_taken, none_loaded, none_there, taken, unloaded, untaken}
+use Rattle.sign_core.proofs.calls.OpenEnds.{all_taken, all_tied, end_found, key_refused, key_taken, none_loaded, none_there, taken, unloaded, untaken}
 use Rattle.sign_core.proofs.signer.load_all.Goals as goal
 
 pub returns-in_err-key-clause-loads : goal.returns-in_err-key-clause-loads

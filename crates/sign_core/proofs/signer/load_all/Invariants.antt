@@ -1,4 +1,4 @@
-use Rattle.sign_core.proofs.Opening.{IsLoadedTo}
+use Rattle.sign_core.proofs.calls.OpenEnds.{IsLoadedTo}
 use Rattle.sign_core.proofs.signer.load_all.Given as goal
 
 abbrev pub invariant-loop-slot : goal.invariant-loop-slot

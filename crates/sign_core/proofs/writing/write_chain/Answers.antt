@@ -1,6 +1,6 @@
 use Rattle.std.proofs.Common.{◌∙◌, ap}
 use Rattle.hss.specs.Writing.{signature_bytes}
-use Rattle.sign_core.proofs.WritingParts.{from_secrets, last_made, written}
+use Rattle.sign_core.proofs.chains.WrittenSignatures.{from_secrets, last_made, written}
 use Rattle.sign_core.proofs.writing.write_chain.Goals as goal
 
 pub returns-in-Hss : goal.returns-in-Hss

@@ -3,13 +3,13 @@ use Rattle.sign_core.specs.Caches.{HasCaches, cache_at}
 use Rattle.sign_core.specs.Textbook.{trees_of}
 use Rattle.sign_core.specs.inner.Caches.{RenewsDownTo}
 use Rattle.sign_core.specs.inner.KeyTrees.{MakesTrees, chain_trees}
-use Rattle.sign_core.proofs.Heights.{height_of_xmss}
-use Rattle.sign_core.proofs.KeptCaches.{kept_level, lacks_level, on_err, on_ok}
-use Rattle.sign_core.proofs.BegunCaches.{both_err}
-use Rattle.sign_core.proofs.LinkParts.{IsUnder, is_under, top_level}
-use Rattle.sign_core.proofs.Signs.{is_none}
-use Rattle.sign_core.proofs.LostCaches.{loses_level}
-use Rattle.sign_core.proofs.RenewedCaches.{not_xmss, renews_level, renews_same, renews_xmss}
+use Rattle.sign_core.proofs.records.Heights.{height_of_xmss}
+use Rattle.sign_core.proofs.chains.KeptCaches.{kept_level, lacks_level, on_err, on_ok}
+use Rattle.sign_core.proofs.chains.BegunCaches.{both_err}
+use Rattle.sign_core.proofs.chains.ChainsInMemory.{IsUnder, is_under, top_level}
+use Rattle.sign_core.proofs.calls.SignEnds.{is_none}
+use Rattle.sign_core.proofs.chains.LostCaches.{loses_level}
+use Rattle.sign_core.proofs.chains.RenewedCaches.{not_xmss, renews_level, renews_same, renews_xmss}
 use Rattle.sign_core.proofs.caches.Caches.+keep_trees.Goals.{In-Some, in-Some+in_ok-keep_trees, in_default}
 use Rattle.sign_core.proofs.caches.Caches.+keep_trees.Goals as goal
 

@@ -3,7 +3,7 @@ use Rattle.typecodes.specs.declared.secret.LmsSecret.{LmsSecret}
 use Rattle.typecodes.specs.Types.{height_of}
 use Rattle.sign_core.specs.inner.KeyTrees.{chain_trees}
 use Rattle.sign_core.specs.inner.Progress.{height_at}
-use Rattle.sign_core.proofs.Heights.{height_of_current}
+use Rattle.sign_core.proofs.records.Heights.{height_of_current}
 use Rattle.sign_core.proofs.caches.Caches.keep_current.Goals as goal
 
 pub new-requires-clause-of_key : goal.new-requires-clause-of_key

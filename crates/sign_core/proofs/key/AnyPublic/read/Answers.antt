@@ -1,5 +1,5 @@
 use Rattle.std.proofs.Common.{rules}
-use Rattle.sign_core.proofs.KeyReading.{spelled_read}
+use Rattle.sign_core.proofs.records.PublicKeyReading.{spelled_read}
 use Rattle.sign_core.proofs.key.AnyPublic.read.Goals as goal
 
 pub returns-clause-spelled : goal.returns-clause-spelled

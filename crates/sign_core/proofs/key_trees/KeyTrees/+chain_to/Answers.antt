@@ -4,9 +4,9 @@ use Rattle.typecodes.specs.Types.{height_of}
 use Rattle.sign_core.specs.inner.KeyTrees.{chain_trees}
 use Rattle.sign_core.specs.inner.Progress.{height_at}
 use Rattle.sign_core.specs.Textbook.{damaged_at}
-use Rattle.sign_core.proofs.Heights.{height_of_tree}
-use Rattle.sign_core.proofs.LinkParts.{IsUnder, Reaches, chain_damaged_above, is_under, reaches_below, reaches_top}
-use Rattle.sign_core.proofs.Signs.{is_none}
+use Rattle.sign_core.proofs.records.Heights.{height_of_tree}
+use Rattle.sign_core.proofs.chains.ChainsInMemory.{IsUnder, Reaches, chain_damaged_above, is_under, reaches_below, reaches_top}
+use Rattle.sign_core.proofs.calls.SignEnds.{is_none}
 use Rattle.sign_core.proofs.key_trees.KeyTrees.+chain_to.Goals.{After-secret_at-secret, In-Some, in-Some+in_ok-tree, in_default}
 use Rattle.sign_core.proofs.key_trees.KeyTrees.+chain_to.Goals as goal
 

@@ -1,7 +1,7 @@
 use Rattle.std.proofs.Common.{ap, arith}
 use Rattle.state_file.specs.Laws.{levels_of}
 use Rattle.sign_core.specs.Ledger.{Table}
-use Rattle.sign_core.proofs.LedgerReading.{deepest_found, deepest_nowhere, none_free_up}
+use Rattle.sign_core.proofs.ledgers.Reading.{deepest_found, deepest_nowhere, none_free_up}
 use Rattle.sign_core.proofs.ledger.Ledger.deepest.Goals as goal
 
 pub loop-level-init : goal.loop-level-init

@@ -1,4 +1,4 @@
-use Rattle.sign_core.proofs.LedgerReading.{NoneFreeFrom}
+use Rattle.sign_core.proofs.ledgers.Reading.{NoneFreeFrom}
 use Rattle.sign_core.proofs.ledger.Ledger.deepest.Given as goal
 
 abbrev pub invariant-loop-level : goal.invariant-loop-level

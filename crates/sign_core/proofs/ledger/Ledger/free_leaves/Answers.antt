@@ -2,7 +2,7 @@ use Rattle.std.proofs.Common.{◌≡◌, ◌∙◌, sym, ap, arith, Some}
 use Rattle.state_file.specs.Laws.{levels_of}
 use Rattle.sign_core.specs.Ledger.{Table}
 use Rattle.sign_core.specs.Trees.{tree_at}
-use Rattle.sign_core.proofs.LedgerReading.{key_levels, tree_inside}
+use Rattle.sign_core.proofs.ledgers.Reading.{key_levels, tree_inside}
 use Rattle.sign_core.proofs.ledger.Ledger.free_leaves.Goals as goal
 
 pub current-requires : goal.current-requires

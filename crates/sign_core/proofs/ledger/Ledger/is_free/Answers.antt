@@ -1,7 +1,7 @@
 use Rattle.std.proofs.Common.{ap, arith}
 use Rattle.state_file.specs.Laws.{levels_of}
 use Rattle.sign_core.specs.Ledger.{Table}
-use Rattle.sign_core.proofs.LedgerReading.{key_levels}
+use Rattle.sign_core.proofs.ledgers.Reading.{key_levels}
 use Rattle.sign_core.proofs.ledger.Ledger.is_free.Goals as goal
 
 pub current-requires : goal.current-requires

@@ -6,7 +6,7 @@ use Rattle.std.proofs.lemmas.Option.{same_Some}
 use Rattle.state_file.specs.Laws.{levels_of}
 use Rattle.sign_core.specs.Ledger.{Table}
 use Rattle.sign_core.specs.Records.{free_at, free_counts, the_key}
-use Rattle.sign_core.proofs.LedgerReading.{key_levels}
+use Rattle.sign_core.proofs.ledgers.Reading.{key_levels}
 use Rattle.sign_core.proofs.ledger.Ledger.left.Goals as goal
 
 pub loop-level-init : goal.loop-level-init

@@ -7,11 +7,11 @@ use Rattle.sign_core.specs.declared.ledger.Binding.{Binding}
 use Rattle.sign_core.specs.Records.{are_same, can_follow}
 use Rattle.sign_core.specs.Ledger.{Table, TakesMemory, bound_at, spare_of}
 use Rattle.sign_core.specs.Textbook.{HasSizes}
-use Rattle.sign_core.proofs.Kept.{follows_bound, follows_moved, follows_retire}
-use Rattle.sign_core.proofs.LedgerReading.{key_levels}
-use Rattle.sign_core.proofs.BoundIn.{on_ok}
-use Rattle.sign_core.proofs.LedgerPushes.{bound_leaf, extend_inside, grown_bound, grown_extend}
-use Rattle.sign_core.proofs.LedgerSteps.{grown_plain, grown_retire}
+use Rattle.sign_core.proofs.ledgers.KeptTrees.{follows_bound, follows_moved, follows_retire}
+use Rattle.sign_core.proofs.ledgers.Reading.{key_levels}
+use Rattle.sign_core.proofs.ledgers.NameMaps.{on_ok}
+use Rattle.sign_core.proofs.ledgers.Pushes.{bound_leaf, extend_inside, grown_bound, grown_extend}
+use Rattle.sign_core.proofs.ledgers.OneMore.{grown_plain, grown_retire}
 use Rattle.sign_core.proofs.ledger.Ledger.push.Goals.{In-Extend, In-Bound, In-Retire, In-Moved, After-from-bottom}
 use Rattle.sign_core.proofs.ledger.Ledger.push.Goals as goal
 

@@ -1,7 +1,7 @@
 use Rattle.std.proofs.Common.{◌∙◌, ◌++◌, Ok, Err, inr, ap, sym, subst}
 use Rattle.state_file.specs.FileStore.{records_of}
 use Rattle.sign_core.specs.inner.OldFile.{JudgesRecords, OpensOld, RefusesRecords}
-use Rattle.sign_core.proofs.OldFile.{judged_movable, judged_refused}
+use Rattle.sign_core.proofs.moves.OldFile.{judged_movable, judged_refused}
 use Rattle.sign_core.proofs.migration.old_file.open_old.Goals as goal
 
 pub returns-in-Ok-judge-clause-opens : goal.returns-in-Ok-judge-clause-opens

@@ -2,7 +2,7 @@ use Rattle.std.proofs.Common.{◌<◌, ◌∙◌, ap, arith, cond, length, refl,
 use Rattle.std.specs.HashMap.{spare}
 use Rattle.sign_core.specs.Records.{are_same}
 use Rattle.sign_core.specs.Ledger.{of_text, short_text}
-use Rattle.sign_core.proofs.BoundIn.{on_ok, short_bound}
+use Rattle.sign_core.proofs.ledgers.NameMaps.{on_ok, short_bound}
 use Rattle.sign_core.proofs.name_map.NameMap.insert.Goals as goal
 
 pub returns-then-bytes-le22-clause-updates : goal.returns-then-bytes-le22-clause-updates

@@ -1,4 +1,4 @@
-use Rattle.sign_core.proofs.BoundIn.{kept_alike}
+use Rattle.sign_core.proofs.ledgers.NameMaps.{kept_alike}
 use Rattle.sign_core.proofs.name_map.NameMap.reserve.Goals as goal
 
 pub returns-clause-same : goal.returns-clause-same

@@ -1,6 +1,6 @@
 use Rattle.std.proofs.Common.{rules, ◌≡◌, None, sym, subst}
 use Rattle.sign_core.specs.inner.Replay.{IsReplay}
-use Rattle.sign_core.proofs.Replaying.{ignores, takes}
+use Rattle.sign_core.proofs.ledgers.Replaying.{ignores, takes}
 use Rattle.sign_core.proofs.replay.ReplayTaker.take.Goals as goal
 
 pub invariant_of-self : goal.invariant_of-self

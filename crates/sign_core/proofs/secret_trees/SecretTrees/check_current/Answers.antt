@@ -4,10 +4,10 @@ use Rattle.state_file.specs.declared.record.Secret.TheVariants.{Xmss}
 use Rattle.state_file.specs.Laws.{levels_of}
 use Rattle.sign_core.specs.inner.KeyTrees.{MakesTrees, chain_trees}
 use Rattle.sign_core.specs.Textbook.{damaged_at, current_at}
-use Rattle.sign_core.proofs.ChainParts.{key_chain}
-use Rattle.sign_core.proofs.CurrentChain.{has_free, leaf_inside, not_free, tree_stands}
-use Rattle.sign_core.proofs.Heights.{height_of_xmss}
-use Rattle.sign_core.proofs.Signs.{is_none}
+use Rattle.sign_core.proofs.chains.BindingChains.{key_chain}
+use Rattle.sign_core.proofs.chains.CurrentChain.{has_free, leaf_inside, not_free, tree_stands}
+use Rattle.sign_core.proofs.records.Heights.{height_of_xmss}
+use Rattle.sign_core.proofs.calls.SignEnds.{is_none}
 use Rattle.sign_core.proofs.secret_trees.SecretTrees.check_current.Goals as goal
 
 pub unreachable-requires : goal.unreachable-requires

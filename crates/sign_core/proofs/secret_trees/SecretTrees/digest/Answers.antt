@@ -2,7 +2,7 @@ use Rattle.std.proofs.Common.{rules, ◌∙◌, Some, ap, subst, sym}
 use Rattle.typecodes.specs.Message.{Digests}
 use Rattle.sign_core.specs.Textbook.{digest_at}
 use Rattle.sign_core.specs.inner.KeyTrees.{MakesTrees}
-use Rattle.sign_core.proofs.ChainParts.{tree_digest, xmss_tree_digest}
+use Rattle.sign_core.proofs.chains.BindingChains.{tree_digest, xmss_tree_digest}
 use Rattle.sign_core.proofs.secret_trees.SecretTrees.digest.Goals.{in-Chain, in-Xmss}
 use Rattle.sign_core.proofs.secret_trees.SecretTrees.digest.Goals as goal
 

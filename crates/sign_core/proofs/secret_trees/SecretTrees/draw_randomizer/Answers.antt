@@ -1,6 +1,6 @@
 use Rattle.std.proofs.Common.{subst}
 use Rattle.sign_core.specs.inner.KeyTrees.{MakesTrees}
-use Rattle.sign_core.proofs.Binding.{chain_randomizer, xmss_randomizer}
+use Rattle.sign_core.proofs.calls.BindEnds.{chain_randomizer, xmss_randomizer}
 use Rattle.sign_core.proofs.secret_trees.SecretTrees.draw_randomizer.Goals as goal
 
 pub returns-in-Chain : goal.returns-in-Chain

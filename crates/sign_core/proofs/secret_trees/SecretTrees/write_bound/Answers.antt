@@ -11,11 +11,11 @@ use Rattle.sign_core.specs.Signer.{signature_size}
 use Rattle.sign_core.specs.inner.KeyTrees.{AreMade, IsTreeAt, MakesTrees, signings_of, chain_trees}
 use Rattle.sign_core.specs.inner.Signing.{WritesChain, pairs_of}
 use Rattle.sign_core.specs.Textbook.{damaged_at, chain_signings, trees_of}
-use Rattle.sign_core.proofs.ChainParts.{links_pairs}
-use Rattle.sign_core.proofs.Heights.{height_of_xmss}
-use Rattle.sign_core.proofs.LedgerReading.{key_levels}
-use Rattle.sign_core.proofs.LinkParts.{more_made, tree_signs}
-use Rattle.sign_core.proofs.Repeats.{bound_chain, bound_xmss_leaf, links_bound, links_signs, none_made, xmss_bound_chain, xmss_bound_signed}
+use Rattle.sign_core.proofs.chains.BindingChains.{links_pairs}
+use Rattle.sign_core.proofs.records.Heights.{height_of_xmss}
+use Rattle.sign_core.proofs.ledgers.Reading.{key_levels}
+use Rattle.sign_core.proofs.chains.ChainsInMemory.{more_made, tree_signs}
+use Rattle.sign_core.proofs.calls.RepeatEnds.{bound_chain, bound_xmss_leaf, links_bound, links_signs, none_made, xmss_bound_chain, xmss_bound_signed}
 use Rattle.sign_core.proofs.secret_trees.SecretTrees.write_bound.Goals as goal
 
 -- ---- LMS and HSS

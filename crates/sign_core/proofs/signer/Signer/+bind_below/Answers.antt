@@ -12,15 +12,15 @@ use Rattle.sign_core.specs.Records.{is_long, the_key, types_of}
 use Rattle.sign_core.specs.inner.KeyTrees.{MakesTrees}
 use Rattle.sign_core.specs.Signer.{signature_size, view_of}
 use Rattle.sign_core.specs.inner.Signing.{CanBind, Extends, BindsBelow}
-use Rattle.sign_core.proofs.Adding.{levels_range}
-use Rattle.sign_core.proofs.Binding.{bound_last, never_damaged, sound_last, written_last}
-use Rattle.sign_core.proofs.BegunCaches.{begun_bound, begun_stays}
-use Rattle.sign_core.proofs.ChainParts.{same_key}
-use Rattle.sign_core.proofs.BindsBelow.{Recorded, at_end, binds_below_after, binds_below_refused, is_recorded, key_after, ready_after, unbound_after}
-use Rattle.sign_core.proofs.Heights.{types_are}
-use Rattle.sign_core.proofs.KeptCaches.{anyway, has_bound, keeps_below, keeps_same, on_ok}
-use Rattle.sign_core.proofs.RenewedCaches.{renews_bound, renews_stay}
-use Rattle.sign_core.proofs.Stays.{key_stays, some_keyed}
+use Rattle.sign_core.proofs.calls.AppendMoments.{levels_range}
+use Rattle.sign_core.proofs.calls.BindEnds.{bound_last, never_damaged, sound_last, written_last}
+use Rattle.sign_core.proofs.chains.BegunCaches.{begun_bound, begun_stays}
+use Rattle.sign_core.proofs.chains.BindingChains.{same_key}
+use Rattle.sign_core.proofs.calls.NewNameEnds.{Recorded, at_end, binds_below_after, binds_below_refused, is_recorded, key_after, ready_after, unbound_after}
+use Rattle.sign_core.proofs.records.Heights.{types_are}
+use Rattle.sign_core.proofs.chains.KeptCaches.{anyway, has_bound, keeps_below, keeps_same, on_ok}
+use Rattle.sign_core.proofs.chains.RenewedCaches.{renews_bound, renews_stay}
+use Rattle.sign_core.proofs.records.Unchanged.{key_stays, some_keyed}
 use Rattle.sign_core.proofs.signer.Signer.+bind_below.Goals as goal
 
 pub overflow_add-level : goal.overflow_add-level

@@ -1,8 +1,8 @@
 use Rattle.std.proofs.Common.{rules, ◌≡◌, ◌≢◌, ◌∙◌, ◌<◌, Ok, Err, false, length, true, ap, subst, sym, arith}
 use Rattle.state_file.specs.declared.store.StoreFault.TheVariants.{OutOfMemory}
 use Rattle.sign_core.specs.declared.fault.SignFault.TheVariants.{OutOfMemory as NoMemory, StoreFailed}
-use Rattle.sign_core.proofs.Appends.{IsAppended}
-use Rattle.sign_core.proofs.Adding.{adds_in_failed, adds_in_ok, adds_in_refused, signer_grown}
+use Rattle.sign_core.proofs.calls.StoreFaults.{IsAppended}
+use Rattle.sign_core.proofs.calls.AppendMoments.{adds_in_failed, adds_in_ok, adds_in_refused, signer_grown}
 use Rattle.sign_core.proofs.signer.Signer.add.Goals as goal
 
 pub returns-then-eq-clause-adds : goal.returns-then-eq-clause-adds

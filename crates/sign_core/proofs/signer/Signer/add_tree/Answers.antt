@@ -2,7 +2,7 @@ use Rattle.std.proofs.Common.{Ok, sym, subst}
 use Rattle.state_file.specs.declared.record.Record.TheVariants.{Extend as ExtendRecord}
 use Rattle.sign_core.specs.Signer.{view_of}
 use Rattle.sign_core.specs.inner.Signer.{Adds}
-use Rattle.sign_core.proofs.Appended.{adds_caching}
+use Rattle.sign_core.proofs.calls.AddedRecords.{adds_caching}
 use Rattle.sign_core.proofs.signer.Signer.add_tree.Goals as goal
 
 pub returns-clause-adds : goal.returns-clause-adds

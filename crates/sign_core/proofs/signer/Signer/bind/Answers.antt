@@ -12,14 +12,14 @@ use Rattle.sign_core.specs.Textbook.{digest_at, textbook_signature}
 use Rattle.sign_core.specs.Trees.{tree_at}
 use Rattle.sign_core.specs.inner.KeyTrees.{MakesTrees}
 use Rattle.sign_core.specs.inner.Signing.{BindsNext, BindsBelow, IsRandomizer}
-use Rattle.sign_core.proofs.Adding.{levels_range}
-use Rattle.sign_core.proofs.Appended.{added_records}
-use Rattle.sign_core.proofs.BegunCaches.{added_none, on_any}
-use Rattle.sign_core.proofs.Binding.{bound_added, bound_follows, bound_next, kept_last, tree_at_end, undrawn, unread_bound}
-use Rattle.sign_core.proofs.Bindings.{binding_new}
-use Rattle.sign_core.proofs.ChainParts.{same_key}
-use Rattle.sign_core.proofs.CurrentChain.{has_free, not_free}
-use Rattle.sign_core.proofs.Signs.{is_none}
+use Rattle.sign_core.proofs.calls.AppendMoments.{levels_range}
+use Rattle.sign_core.proofs.calls.AddedRecords.{added_records}
+use Rattle.sign_core.proofs.chains.BegunCaches.{added_none, on_any}
+use Rattle.sign_core.proofs.calls.BindEnds.{bound_added, bound_follows, bound_next, kept_last, tree_at_end, undrawn, unread_bound}
+use Rattle.sign_core.proofs.records.Bindings.{binding_new}
+use Rattle.sign_core.proofs.chains.BindingChains.{same_key}
+use Rattle.sign_core.proofs.chains.CurrentChain.{has_free, not_free}
+use Rattle.sign_core.proofs.calls.SignEnds.{is_none}
 use Rattle.sign_core.proofs.signer.Signer.bind.Goals as goal
 
 pub overflow_sub-bottom : goal.overflow_sub-bottom

@@ -1,5 +1,5 @@
 use Rattle.std.proofs.Common.{arith}
-use Rattle.sign_core.proofs.Adding.{levels_range}
+use Rattle.sign_core.proofs.calls.AppendMoments.{levels_range}
 use Rattle.sign_core.proofs.signer.Signer.bottom.Goals as goal
 
 pub overflow_sub-bottom : goal.overflow_sub-bottom

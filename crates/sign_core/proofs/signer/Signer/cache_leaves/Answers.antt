@@ -1,5 +1,5 @@
 use Rattle.std.proofs.Common.{arith}
-use Rattle.sign_core.proofs.LedgerReading.{key_levels}
+use Rattle.sign_core.proofs.ledgers.Reading.{key_levels}
 use Rattle.sign_core.proofs.signer.Signer.cache_leaves.Goals as goal
 
 pub current-requires : goal.current-requires

@@ -1,4 +1,4 @@
-use Rattle.sign_core.proofs.Creating.{held_new}
+use Rattle.sign_core.proofs.calls.CreateEnds.{held_new}
 use Rattle.sign_core.proofs.signer.Signer.create_telling.Goals as goal
 
 pub returns : goal.returns

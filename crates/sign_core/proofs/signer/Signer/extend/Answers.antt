@@ -21,18 +21,18 @@ use Rattle.sign_core.specs.inner.KeyTrees.{MakesTrees, chain_trees}
 use Rattle.sign_core.specs.inner.Progress.{height_at}
 use Rattle.sign_core.specs.Signer.{View, view_of}
 use Rattle.sign_core.specs.inner.Signing.{Extends, Stands}
-use Rattle.sign_core.proofs.Adding.{levels_range}
-use Rattle.sign_core.proofs.BegunCaches.{added_none, begun_tree, on_any}
-use Rattle.sign_core.proofs.Appended.{added_records}
-use Rattle.sign_core.proofs.ChainParts.{same_key}
-use Rattle.sign_core.proofs.CurrentChain.{has_free, not_free}
-use Rattle.sign_core.proofs.Extends.{Rests, drawn_below, undrawn, ungrown}
-use Rattle.sign_core.proofs.Heights.{height_of_level, types_are}
-use Rattle.sign_core.proofs.KeptCaches.{begun_secret, has_begun, keeps_begun, keeps_same, on_err}
-use Rattle.sign_core.proofs.RenewedCaches.{at_ok, begun_renews}
-use Rattle.sign_core.proofs.Signs.{is_none}
-use Rattle.sign_core.proofs.StandingChain.{can_extend, entry_is, if_added, no_chain, stands_below}
-use Rattle.sign_core.proofs.Stays.{key_stays}
+use Rattle.sign_core.proofs.calls.AppendMoments.{levels_range}
+use Rattle.sign_core.proofs.chains.BegunCaches.{added_none, begun_tree, on_any}
+use Rattle.sign_core.proofs.calls.AddedRecords.{added_records}
+use Rattle.sign_core.proofs.chains.BindingChains.{same_key}
+use Rattle.sign_core.proofs.chains.CurrentChain.{has_free, not_free}
+use Rattle.sign_core.proofs.calls.ExtendEnds.{Rests, drawn_below, undrawn, ungrown}
+use Rattle.sign_core.proofs.records.Heights.{height_of_level, types_are}
+use Rattle.sign_core.proofs.chains.KeptCaches.{begun_secret, has_begun, keeps_begun, keeps_same, on_err}
+use Rattle.sign_core.proofs.chains.RenewedCaches.{at_ok, begun_renews}
+use Rattle.sign_core.proofs.calls.SignEnds.{is_none}
+use Rattle.sign_core.proofs.chains.StandingChain.{can_extend, entry_is, if_added, no_chain, stands_below}
+use Rattle.sign_core.proofs.records.Unchanged.{key_stays}
 use Rattle.sign_core.proofs.signer.Signer.extend.Goals as goal
 
 pub current-requires : goal.current-requires

@@ -1,4 +1,4 @@
-use Rattle.sign_core.proofs.Opening.{held_old}
+use Rattle.sign_core.proofs.calls.OpenEnds.{held_old}
 use Rattle.sign_core.proofs.signer.Signer.open.Goals as goal
 
 pub returns : goal.returns

@@ -1,4 +1,4 @@
-use Rattle.sign_core.proofs.Replayed.{replayed}
+use Rattle.sign_core.proofs.calls.ReplayEnds.{replayed}
 use Rattle.sign_core.proofs.signer.Signer.open_replayed.Goals as goal
 
 pub returns : goal.returns

@@ -3,12 +3,12 @@ use Rattle.state_file.specs.declared.record.Key.{Key}
 use Rattle.state_file.specs.declared.record.Record.{Record}
 use Rattle.sign_core.specs.Caches.{Cached, LosesCache}
 use Rattle.sign_core.specs.Records.{free_at, the_key, types_of}
-use Rattle.sign_core.proofs.BegunCaches.{on_any}
-use Rattle.sign_core.proofs.ChainParts.{same_key}
-use Rattle.sign_core.proofs.CurrentChain.{has_free, not_free, tree_stands}
-use Rattle.sign_core.proofs.Heights.{types_are}
-use Rattle.sign_core.proofs.KeptCaches.{on_err, on_ok}
-use Rattle.sign_core.proofs.RenewedCaches.{keeps_same_caches, refused_alone}
+use Rattle.sign_core.proofs.chains.BegunCaches.{on_any}
+use Rattle.sign_core.proofs.chains.BindingChains.{same_key}
+use Rattle.sign_core.proofs.chains.CurrentChain.{has_free, not_free, tree_stands}
+use Rattle.sign_core.proofs.records.Heights.{types_are}
+use Rattle.sign_core.proofs.chains.KeptCaches.{on_err, on_ok}
+use Rattle.sign_core.proofs.chains.RenewedCaches.{keeps_same_caches, refused_alone}
 use Rattle.sign_core.specs.inner.Caches.{RenewsDownTo}
 use Rattle.sign_core.proofs.signer.Signer.prepare.Goals as goal
 

@@ -13,14 +13,14 @@ use Rattle.sign_core.specs.inner.KeyTrees.{IsTreeAt, MakesTrees}
 use Rattle.sign_core.specs.Signing.{IsPrepared, UnderKey, is_unprepared}
 use Rattle.sign_core.specs.inner.Signing.{IsBindingOf, Repeats}
 use Rattle.sign_core.specs.Textbook.{damaged_at}
-use Rattle.sign_core.proofs.Capacities.{capacity_grows, capacity_stays}
-use Rattle.sign_core.proofs.ChainParts.{same_key}
-use Rattle.sign_core.proofs.Heights.{types_are}
-use Rattle.sign_core.proofs.KeptCaches.{bound_stands, made_bound, refused_bound}
-use Rattle.sign_core.proofs.LedgerReading.{key_levels}
-use Rattle.sign_core.proofs.Repeats.{changed, damaged, fault_of, found_chain, found_digest, found_kept, found_signature, is_found, lacks_cache, lacks_room, linked_ok, given_back, same_size, signed, unread}
-use Rattle.sign_core.proofs.LostCaches.{leaves_as_they_were, leaves_bound, leaves_other}
-use Rattle.sign_core.proofs.RenewedCaches.{keeps_or_renews, keeps_same_caches}
+use Rattle.sign_core.proofs.calls.Capacities.{capacity_grows, capacity_stays}
+use Rattle.sign_core.proofs.chains.BindingChains.{same_key}
+use Rattle.sign_core.proofs.records.Heights.{types_are}
+use Rattle.sign_core.proofs.chains.KeptCaches.{bound_stands, made_bound, refused_bound}
+use Rattle.sign_core.proofs.ledgers.Reading.{key_levels}
+use Rattle.sign_core.proofs.calls.RepeatEnds.{changed, damaged, fault_of, found_chain, found_digest, found_kept, found_signature, is_found, lacks_cache, lacks_room, linked_ok, given_back, same_size, signed, unread}
+use Rattle.sign_core.proofs.chains.LostCaches.{leaves_as_they_were, leaves_bound, leaves_other}
+use Rattle.sign_core.proofs.chains.RenewedCaches.{keeps_or_renews, keeps_same_caches}
 use Rattle.sign_core.proofs.signer.Signer.repeat.Goals as goal
 
 pub overflow_sub-bottom : goal.overflow_sub-bottom

@@ -2,7 +2,7 @@ use Rattle.std.proofs.Common.{rules, ◌≡◌, ◌∙◌, Ok, Err, ap, sym, sub
 use Rattle.sign_core.specs.declared.fault.SignFault.TheVariants.{RetireRange}
 use Rattle.sign_core.specs.Records.{the_key}
 use Rattle.sign_core.specs.Signer.{IsSigner, Retires, state_of}
-use Rattle.sign_core.proofs.Retiring.{done_step, hindered_retires, left_retires, range_step}
+use Rattle.sign_core.proofs.calls.RetireEnds.{done_step, hindered_retires, left_retires, range_step}
 use Rattle.sign_core.proofs.signer.Signer.retire.Goals as goal
 
 pub returns-in_err-check_open : goal.returns-in_err-check_open

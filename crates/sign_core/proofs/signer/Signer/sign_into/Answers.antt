@@ -16,17 +16,17 @@ use Rattle.sign_core.specs.declared.fault.SignFault.TheVariants.{Damaged, LongNa
 use Rattle.sign_core.specs.inner.Caches.{HasBegunTo, KeepsDownTo, RenewsDownTo}
 use Rattle.sign_core.specs.inner.KeyTrees.{MakesTrees}
 use Rattle.sign_core.specs.inner.Signing.{CanBind, BindsBelow, IsBindingOf, Stands}
-use Rattle.sign_core.proofs.BegunCaches.{none_begun, none_begun_to}
-use Rattle.sign_core.proofs.ChainParts.{same_key}
-use Rattle.sign_core.proofs.Heights.{types_are}
-use Rattle.sign_core.proofs.KeptCaches.{anyway, made_new, never_bound, on_ok, prepared_later, refused_early, refused_new, stays_has}
-use Rattle.sign_core.proofs.Leaves.{deepest_is}
-use Rattle.sign_core.proofs.LedgerReading.{key_levels}
-use Rattle.sign_core.proofs.Refusals.{same_kind}
-use Rattle.sign_core.proofs.Repeats.{fault_of, linked_ok}
-use Rattle.sign_core.proofs.Signs.{binds_signs, can_bind, damaged_binds, deepest_after, exhausted_signs, binds_below_binds, none_fault, some_level, hindered_signs, long_signs, none_mapped, repeats_signs, unprepared_signs, is_none}
-use Rattle.sign_core.proofs.LostCaches.{leaves_as_they_were, leaves_new, loses_new}
-use Rattle.sign_core.proofs.RenewedCaches.{keeps_same_caches, renews_stay}
+use Rattle.sign_core.proofs.chains.BegunCaches.{none_begun, none_begun_to}
+use Rattle.sign_core.proofs.chains.BindingChains.{same_key}
+use Rattle.sign_core.proofs.records.Heights.{types_are}
+use Rattle.sign_core.proofs.chains.KeptCaches.{anyway, made_new, never_bound, on_ok, prepared_later, refused_early, refused_new, stays_has}
+use Rattle.sign_core.proofs.records.FreeLeaves.{deepest_is}
+use Rattle.sign_core.proofs.ledgers.Reading.{key_levels}
+use Rattle.sign_core.proofs.calls.RefusedCalls.{same_kind}
+use Rattle.sign_core.proofs.calls.RepeatEnds.{fault_of, linked_ok}
+use Rattle.sign_core.proofs.calls.SignEnds.{binds_signs, can_bind, damaged_binds, deepest_after, exhausted_signs, binds_below_binds, none_fault, some_level, hindered_signs, long_signs, none_mapped, repeats_signs, unprepared_signs, is_none}
+use Rattle.sign_core.proofs.chains.LostCaches.{leaves_as_they_were, leaves_new, loses_new}
+use Rattle.sign_core.proofs.chains.RenewedCaches.{keeps_same_caches, renews_stay}
 use Rattle.sign_core.proofs.signer.Signer.sign_into.Goals as goal
 
 pub returns-in_err-check_open-clause-step : goal.returns-in_err-check_open-clause-step

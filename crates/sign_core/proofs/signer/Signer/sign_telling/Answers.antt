@@ -1,7 +1,7 @@
 use Rattle.std.proofs.Common.{subst}
 use Rattle.std.specs.Prelude.{vec_capacity}
 use Rattle.sign_core.specs.Signer.{Signs}
-use Rattle.sign_core.proofs.Signs.{same_answer}
+use Rattle.sign_core.proofs.calls.SignEnds.{same_answer}
 use Rattle.sign_core.proofs.signer.Signer.sign_telling.Goals as goal
 
 pub returns-clause-step : goal.returns-clause-step

@@ -1,5 +1,5 @@
 use Rattle.std.proofs.Common.{rules, ◌≡◌, Err, sym}
-use Rattle.sign_core.proofs.Draws.{all_drawn, randomizer_fails, seed_fails}
+use Rattle.sign_core.proofs.steps.TreeDraws.{all_drawn, randomizer_fails, seed_fails}
 use Rattle.sign_core.proofs.signer.bind.draw_tree.Goals as goal
 
 pub returns-in_err-seed : goal.returns-in_err-seed

@@ -1,5 +1,5 @@
 use Rattle.std.proofs.Common.{◌-◌, refl}
-use Rattle.sign_core.proofs.Kept.{follows_extend}
+use Rattle.sign_core.proofs.ledgers.KeptTrees.{follows_extend}
 use Rattle.sign_core.proofs.trees.CurrentTrees.extend.Goals as goal
 
 pub returns : goal.returns

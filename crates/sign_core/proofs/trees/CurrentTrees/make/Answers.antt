@@ -1,6 +1,6 @@
 use Rattle.std.proofs.Common.{◌∙◌, ◌<◌, length, arith, length-set}
 use Rattle.sign_core.specs.Trees.{kept_at}
-use Rattle.sign_core.proofs.Kept.{above_more}
+use Rattle.sign_core.proofs.ledgers.KeptTrees.{above_more}
 use Rattle.sign_core.proofs.trees.CurrentTrees.make.Goals as goal
 
 pub loop-higher-preserved : goal.loop-higher-preserved

@@ -1,6 +1,6 @@
 -- The trees of the levels so far are kept.
 use Rattle.std.proofs.Common.{◌≡◌, length}
-use Rattle.sign_core.proofs.Kept.{AreAbove}
+use Rattle.sign_core.proofs.ledgers.KeptTrees.{AreAbove}
 use Rattle.sign_core.proofs.trees.CurrentTrees.make.Given as goal
 
 abbrev pub invariant-loop-higher : goal.invariant-loop-higher

@@ -1,0 +1,9 @@
+pub mod BegunCaches
+pub mod BindingChains
+pub mod ChainsInMemory
+pub mod CurrentChain
+pub mod KeptCaches
+pub mod LostCaches
+pub mod RenewedCaches
+pub mod StandingChain
+pub mod WrittenSignatures

@@ -1,0 +1,4 @@
+pub mod InputReading
+pub mod Replying
+pub mod ServedCalls
+pub mod Turns

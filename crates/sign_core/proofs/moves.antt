@@ -1,0 +1,4 @@
+pub mod Ends
+pub mod KeptRecords
+pub mod Moves
+pub mod OldFile
