@@ -34,7 +34,7 @@ _hbsign() {
     audit-given) options='-h --help' kinds=('file' 'file') last='file' ;;
     serve) options='--random -h --help' kinds=('file') ;;
     migrate) options='-h --help' kinds=('file' 'file') ;;
-    list) options='-h --help' kinds=('file') ;;
+    list) options='-h --help' kinds=('file' 'file') ;;
     public) options='-h --help' kinds=('file' 'file') ;;
     help) kinds=("$commands") ;;
     esac

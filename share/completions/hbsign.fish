@@ -80,8 +80,9 @@ complete -c hbsign -n '__hbsign_at migrate 1' -F
 complete -c hbsign -n '__hbsign_at migrate 2' -F
 set -l seen '__fish_seen_subcommand_from migrate'
 complete -c hbsign -n $seen -s h -l help -d 'Print help'
-complete -c hbsign -n __fish_use_subcommand -a list -d 'Shows a state file'
+complete -c hbsign -n __fish_use_subcommand -a list -d 'Shows what a file is'
 complete -c hbsign -n '__hbsign_at list 1' -F
+complete -c hbsign -n '__hbsign_at list 2' -F
 set -l seen '__fish_seen_subcommand_from list'
 complete -c hbsign -n $seen -s h -l help -d 'Print help'
 complete -c hbsign -n __fish_use_subcommand -a public -d 'Writes the public key of a state file again'

@@ -23,10 +23,10 @@ use Rattle.command.specs.Retire.{most_leaves, retire_app}
 use Rattle.command.specs.Verify.{verify_app}
 use Rattle.command.specs.LineFault.{usage_faults, line_faults}
 use Rattle.command.specs.Number.{decimal_number}
-use Rattle.command.proofs.Commands.{finds_task, list_command, migrate_command, public_command, retire_command, verify_command}
+use Rattle.command.proofs.Commands.{enters_list, finds_task, list_offers, list_takes_both, list_takes_file, list_wants_file, migrate_command, public_command, retire_command, verify_command}
 use Rattle.command.proofs.Flags.{IsOption, all_ask, else_none, option_fails, word_is}
 use Rattle.command.proofs.Naming.{is_named, name_of}
-use Rattle.command.proofs.Walking.{Command, IsTaken, Waits, after_value, at, end_fault, entered_faults, finds_values, held_after, line_walk, none_of, not_wanted, plain_met, requested, shape, skips, stopped_at, value_turn, wanted, whole}
+use Rattle.command.proofs.Walking.{Command, Enters, IsTaken, Offers, Takes, Waits, after_value, at, end_fault, entered_faults, finds_taken, finds_values, held_after, line_walk, none_of, not_wanted, plain_met, requested, shape, skips, stopped_at, taken, takes_value, takes_wanted, value_turn, wanted, wants_value, whole}
 
 -- ---- the words of a command
 
@@ -122,6 +122,65 @@ all_given s (suc n) position h (word ∷ words) asks waits texts passes = elim (
       (past_value s false n position h word words waits plain passes) in
       (word ∷ values, ap suc long, gives_more word words values plain given)
   | inr other ↦ not_plain s (suc n) position h word words asks waits texts.0 passes other
+]
+
+-- ---- values of which the last one may be left out
+
+past_taken : (s : Shape) (b : Bool) (position : ℕ) (h : Held) (word : Text) (words : List Text) → takes_value s position h ≡ true → IsTaken b word
+    → Passes s (at b h position) (word ∷ words) → Passes s (at b (after_value s position word h) (position + 1)) words
+past_taken s b position h word words takes is_taken passes =
+    subst (λ (to : Walk). Passes s to words)
+    ((value_turn s b h position word is_taken).0 ∙ (taken s b position h word takes).0) (passes_on s (at b h position) word words passes).1
+
+-- one value at most, after `--`
+rest_offered : (s : Shape) (position : ℕ) (h : Held) (words : List Text) → Offers s position h → Passes s (at true h position) words
+    → (length words ≡ 0) ⊎ (length words ≡ 1)
+rest_offered s position h [] offers passes = inl refl
+rest_offered s position h (word ∷ words) (skip, takes, waits) passes =
+    inr (ap suc (rest_given s zero (position + 1) (after_value s position word h) words (waits word) (past_taken s true position h word words takes tt passes)))
+
+behind_hyphens : (n m : ℕ) (word : Text) (words : List Text) → word ≡ 45 ∷ 45 ∷ [] → (length words ≡ n) ⊎ (length words ≡ m)
+    → Gives n (word ∷ words) ⊎ Gives m (word ∷ words)
+behind_hyphens n m word words hyphens (inl long) = inl (words, long, inr ([], words, ap (λ w. w ∷ words) hyphens, refl, tt))
+behind_hyphens n m word words hyphens (inr long) = inr (words, long, inr ([], words, ap (λ w. w ∷ words) hyphens, refl, tt))
+
+-- .. and anywhere
+offered : (s : Shape) (position : ℕ) (h : Held) (words : List Text) → all_ask s.rules ≡ true → Offers s position h
+    → AreTexts words → Passes s (at false h position) words → Gives 0 words ⊎ Gives 1 words
+offered s position h [] asks offers texts passes = inl ([], refl, inl (refl, tt))
+offered s position h (word ∷ words) asks (skip, takes, waits) texts passes = elim (word_is word) [
+  | inl plain ↦
+      let (values, long, given) = all_given s zero (position + 1) (after_value s position word h) words asks (waits word) texts.1
+      (past_taken s false position h word words takes plain passes) in
+      inr (word ∷ values, ap suc long, gives_more word words values plain given)
+  | inr (inl hyphens) ↦ behind_hyphens 0 1 word words hyphens (rest_offered s position h words (skip, takes, waits) (past_hyphens s h position word words hyphens passes))
+  | inr (inr option) ↦ absurd (option_stops s position word h asks skip texts.0 option (passes_on s (at false h position) word words passes).0)
+]
+
+one_more : (word : Text) (words : List Text) → IsPlainWord word → Gives 0 words ⊎ Gives 1 words → Gives 1 (word ∷ words) ⊎ Gives 2 (word ∷ words)
+one_more word words plain (inl (values, long, given)) = inl (word ∷ values, ap suc long, gives_more word words values plain given)
+one_more word words plain (inr (values, long, given)) = inr (word ∷ values, ap suc long, gives_more word words values plain given)
+
+one_longer : (n : ℕ) → (n ≡ 0) ⊎ (n ≡ 1) → (suc n ≡ 1) ⊎ (suc n ≡ 2)
+one_longer n (inl none) = inl (ap suc none)
+one_longer n (inr one) = inr (ap suc one)
+
+rest_of_two : (s : Shape) (words : List Text) → wants_value s 1 nothing_held ≡ true → ((word : Text) → Offers s 2 (after_value s 1 word nothing_held))
+    → Passes s (at true nothing_held 1) words → (length words ≡ 1) ⊎ (length words ≡ 2)
+rest_of_two s [] wants offers passes = absurd ((wanted s true 1 nothing_held [] wants).2 passes.1)
+rest_of_two s (word ∷ words) wants offers passes =
+    one_longer (length words) (rest_offered s 2 (after_value s 1 word nothing_held) words (offers word)
+    (past_taken s true 1 nothing_held word words (takes_wanted s 1 nothing_held wants) tt passes))
+
+one_or_two : (s : Shape) (words : List Text) → all_ask s.rules ≡ true → wants_value s 1 nothing_held ≡ true
+    → ((word : Text) → Offers s 2 (after_value s 1 word nothing_held)) → AreTexts words → Passes s (at false nothing_held 1) words
+    → Gives 1 words ⊎ Gives 2 words
+one_or_two s [] asks wants offers texts passes = absurd ((wanted s false 1 nothing_held [] wants).2 passes.1)
+one_or_two s (word ∷ words) asks wants offers texts passes = elim (word_is word) [
+  | inl plain ↦ one_more word words plain (offered s 2 (after_value s 1 word nothing_held) words asks (offers word) texts.1
+      (past_taken s false 1 nothing_held word words (takes_wanted s 1 nothing_held wants) plain passes))
+  | inr (inl hyphens) ↦ behind_hyphens 1 2 word words hyphens (rest_of_two s words wants offers (past_hyphens s nothing_held 1 word words hyphens passes))
+  | inr (inr option) ↦ absurd (option_stops s 1 word nothing_held asks refl texts.0 option (passes_on s (at false nothing_held 1) word words passes).0)
 ]
 
 -- ---- the program's words
@@ -253,6 +312,30 @@ by_values app n command asks word names task named (text, texts) (none, found) e
     let finds = finds_values app values (subst (Command app) (sym long) command) (word ∷ names) line in
     at_words (IsRead app (word ∷ names) task) values (subst (λ m. Over m (IsRead app (word ∷ names) task)) (sym long) each) (sym finds.1 ∙ found) line
 
+-- The line of a command that gives n values, which the command takes.
+by_given : (app : App) (n : ℕ) (word : Text) (names values : List Text) (task : Task) → Enters app.top.name (shape app)
+    → Takes (shape app) n 1 nothing_held → word ≡ app.top.name → FindsTask (word ∷ names) task → length values ≡ n → GivesValues names values
+    → Over n (IsRead app (word ∷ names) task) → IsLineOf (word ∷ names) task
+by_given app n word names values task enters takes is (none, found) long given each =
+    let line : IsCommandLine (word ∷ names) app.top.name values = (names, ap (λ w. w ∷ names) is, given) in
+    let finds = finds_taken app values enters (subst (λ m. Takes (shape app) m 1 nothing_held) (sym long) takes) (word ∷ names) line in
+    at_words (IsRead app (word ∷ names) task) values (subst (λ m. Over m (IsRead app (word ∷ names) task)) (sym long) each) (sym finds.1 ∙ found) line
+
+of_list : (word : Text) (names : List Text) (file : Text) (public : Option Text) → AreTexts (word ∷ names)
+    → FindsTask (word ∷ names) (list file public) → IsLineOf (word ∷ names) (list file public)
+of_list word names file public (text, texts) (none, found) =
+    let s = shape list_app in
+    let is = begins_with_name word names (list file public) text none found in
+    let level = (none_of _ [] (sym (entered_faults list_app.top.name s names enters_list) ∙ subst (λ w. fault_of hbsign_app (w ∷ names) ≡ []) is none)).0 in
+    elim (one_or_two s names refl list_wants_file list_offers texts (none_of _ _ level)) [
+      | inl (values, long, given) ↦
+          by_given list_app 1 word names values (list file public) enters_list list_takes_file is (none, found) long given
+          (λ f same line. subst (IsLineOf (word ∷ names)) (ok_same (list f None) (list file public) same) line)
+      | inr (values, long, given) ↦
+          by_given list_app 2 word names values (list file public) enters_list list_takes_both is (none, found) long given
+          (λ f p same line. subst (IsLineOf (word ∷ names)) (ok_same (list f (Some p)) (list file public) same) line)
+    ]
+
 of_retire : (words : List Text) (state text : Text) (task : Task) (number : Option ℕ) → decimal_number most_leaves text ≡ number
     → IsCommandLine words (codes "retire") (state ∷ text ∷ []) → retire_number state number ≡ Ok task → IsLineOf words task
 of_retire words state text task (Some upto) spells line same =
@@ -277,9 +360,7 @@ is_line_of (word ∷ names) (retire state upto) none found texts =
 is_line_of (word ∷ names) (migrate old new) none found texts =
     by_values migrate_app 2 migrate_command refl word names (migrate old new) refl texts (none, found)
     (λ o n same line. subst (IsLineOf (word ∷ names)) (ok_same (migrate o n) (migrate old new) same) line)
-is_line_of (word ∷ names) (list state) none found texts =
-    by_values list_app 1 list_command refl word names (list state) refl texts (none, found)
-    (λ s same line. subst (IsLineOf (word ∷ names)) (ok_same (list s) (list state) same) line)
+is_line_of (word ∷ names) (list file public) none found texts = of_list word names file public texts (none, found)
 is_line_of (word ∷ names) (publish state public) none found texts =
     by_values public_app 2 public_command refl word names (publish state public) refl texts (none, found)
     (λ s p same line. subst (IsLineOf (word ∷ names)) (ok_same (publish s p) (publish state public) same) line)

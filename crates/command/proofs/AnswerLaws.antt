@@ -5,7 +5,9 @@ use Rattle.std.specs.Prelude.{ℕ, List, [], ◌∷◌, ◌++◌, Result, Ok, Er
 use Rattle.key_audit.specs.Listing.{ListingLaw}
 use Rattle.command.specs.declared.answer.Done.{Done}
 use Rattle.command.specs.declared.answer.Done.TheVariants.{Audited, Checked, Listed, Migrated, Published, Retired}
-use Rattle.command.specs.declared.answer.Done.TheVariants.{Signed, Verified}
+use Rattle.command.specs.declared.answer.Done.TheVariants.{Described, Signed, Verified}
+use Rattle.command.specs.declared.described.Described.TheVariants.{Public, LmsSignature, HssSignature, XmssSignature}
+use Rattle.sign_core.specs.declared.key.AnyPublic.TheVariants.{Lms, Hss, Xmss}
 use Rattle.command.specs.declared.refusal.Refusal.{Refusal}
 use Rattle.command.specs.Answer.{answer_line, listing_lines}
 use Rattle.command.specs.AnswerLaws.{AnswerLaws}
@@ -18,6 +20,12 @@ line_is_lower (Ok (Published public)) capital = omega (arith, capital)
 line_is_lower (Ok (Signed name size)) capital = omega (arith, capital)
 line_is_lower (Ok (Audited public report)) capital = omega (arith, capital)
 line_is_lower (Ok (Listed listing)) capital = omega (arith, capital)
+line_is_lower (Ok (Described (Public (Lms key)) could_be)) capital = omega (arith, capital)
+line_is_lower (Ok (Described (Public (Hss key)) could_be)) capital = omega (arith, capital)
+line_is_lower (Ok (Described (Public (Xmss key)) could_be)) capital = omega (arith, capital)
+line_is_lower (Ok (Described (LmsSignature pair leaf) could_be)) capital = omega (arith, capital)
+line_is_lower (Ok (Described (HssSignature levels) could_be)) capital = omega (arith, capital)
+line_is_lower (Ok (Described (XmssSignature tree leaf) could_be)) capital = omega (arith, capital)
 line_is_lower (Ok (Checked count)) capital = omega (arith, capital)
 line_is_lower (Ok (Migrated count)) capital = omega (arith, capital)
 line_is_lower (Err refusal) capital = omega (arith, capital)
@@ -32,6 +40,12 @@ line_is_lowercase (Ok (Published public)) after = refl
 line_is_lowercase (Ok (Signed name size)) after = refl
 line_is_lowercase (Ok (Audited public report)) after = refl
 line_is_lowercase (Ok (Listed listing)) after = refl
+line_is_lowercase (Ok (Described (Public (Lms key)) could_be)) after = refl
+line_is_lowercase (Ok (Described (Public (Hss key)) could_be)) after = refl
+line_is_lowercase (Ok (Described (Public (Xmss key)) could_be)) after = refl
+line_is_lowercase (Ok (Described (LmsSignature pair leaf) could_be)) after = refl
+line_is_lowercase (Ok (Described (HssSignature levels) could_be)) after = refl
+line_is_lowercase (Ok (Described (XmssSignature tree leaf) could_be)) after = refl
 line_is_lowercase (Ok (Checked count)) after = refl
 line_is_lowercase (Ok (Migrated count)) after = refl
 line_is_lowercase (Err refusal) after = refl

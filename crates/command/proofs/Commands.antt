@@ -1,5 +1,6 @@
 -- The commands: the shape of each, how many values it waits for, and the line of a task.
-use Rattle.std.proofs.Common.{◌∙◌, List, [], ◌∷◌, refl, ap}
+use Rattle.std.proofs.Common.{◌≡◌, ◌∙◌, List, [], ◌∷◌, Some, None, true, refl, ap}
+use Rattle.clap.specs.Walk.{nothing_held}
 use Rattle.clap.specs.Words.{Text}
 use Rattle.clap.proofs.OnLiterals.{clap_on_literals}
 use Rattle.command.specs.Audit.{audit_app}
@@ -13,7 +14,7 @@ use Rattle.command.specs.Retire.{retire_app}
 use Rattle.command.specs.Serve.{serve_app}
 use Rattle.command.specs.Sign.{sign_app}
 use Rattle.command.specs.Verify.{verify_app}
-use Rattle.command.proofs.Walking.{Command, Enters, finds_values, shape}
+use Rattle.command.proofs.Walking.{Command, Enters, Offers, Takes, after_value, finds_taken, finds_values, shape, wants_value}
 
 pub make_command : Command make_app 3
 unfolding clap_on_literals
@@ -68,12 +69,26 @@ migrate_command = record {
   waits = (refl, refl, λ old. (refl, refl, λ new. (refl, refl)));
 }
 
-pub list_command : Command list_app 1
+-- `list` takes one value or two.
+pub enters_list : Enters list_app.top.name (shape list_app)
 unfolding clap_on_literals
-list_command = record {
-  enters = record { step = refl; well = refl; rows = λ words. refl; fault = λ words. refl };
-  waits = (refl, refl, λ state. (refl, refl));
-}
+enters_list = record { step = refl; well = refl; rows = λ words. refl; fault = λ words. refl }
+
+pub list_wants_file : wants_value (shape list_app) 1 nothing_held ≡ true
+unfolding clap_on_literals
+list_wants_file = refl
+
+pub list_offers : (file : Text) → Offers (shape list_app) 2 (after_value (shape list_app) 1 file nothing_held)
+unfolding clap_on_literals
+list_offers file = (refl, refl, λ public. (refl, refl))
+
+pub list_takes_file : Takes (shape list_app) 1 1 nothing_held
+unfolding clap_on_literals
+list_takes_file = (refl, λ file. refl)
+
+pub list_takes_both : Takes (shape list_app) 2 1 nothing_held
+unfolding clap_on_literals
+list_takes_both = (refl, λ file. (refl, λ public. refl))
 
 pub public_command : Command public_app 2
 unfolding clap_on_literals
@@ -95,5 +110,6 @@ finds_task words (audit state anchor) found = found
 finds_task words (audit_given public files) found = found
 finds_task words (serve state random) found = found
 finds_task words (migrate old new) line = finds_values migrate_app (old ∷ new ∷ []) migrate_command words line
-finds_task words (list state) line = finds_values list_app (state ∷ []) list_command words line
+finds_task words (list file None) line = finds_taken list_app (file ∷ []) enters_list list_takes_file words line
+finds_task words (list file (Some public)) line = finds_taken list_app (file ∷ public ∷ []) enters_list list_takes_both words line
 finds_task words (publish state path) line = finds_values public_app (state ∷ path ∷ []) public_command words line

@@ -2,8 +2,10 @@ pub mod Accepting
 pub mod AnswerLaws
 pub mod AuditLines
 pub mod Commands
+pub mod Comparing
 pub mod Contents
 pub mod Deciding
+pub mod Describing
 pub mod EntryText
 pub mod HexText
 pub mod FileReading
@@ -31,4 +33,5 @@ pub mod Numbers
 pub mod ProgressLaws
 pub mod SigningReads
 pub mod ServeLines
+pub mod SignedText
 pub mod Alarms

@@ -18,7 +18,7 @@ name_of (audit state anchor) = codes "audit"
 name_of (audit_given public files) = codes "audit-given"
 name_of (serve state random) = codes "serve"
 name_of (migrate old new) = codes "migrate"
-name_of (list state) = codes "list"
+name_of (list file public) = codes "list"
 name_of (publish state public) = codes "public"
 
 abbrev IsOf : Text → Result Task UsageFault → Type 0

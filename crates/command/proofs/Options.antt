@@ -17,7 +17,7 @@ use Rattle.command.specs.Number.{continued_number}
 use Rattle.command.specs.Serve.{serve_app}
 use Rattle.command.specs.Sign.{sign_app}
 use Rattle.command.proofs.Commands.{audit_command, make_command, serve_command, sign_command}
-use Rattle.command.proofs.Walking.{Command, Finds, Goes, after_plain, at, end_fault, finds_values, finds_walk, goes, goes_on, held_after, over_values, place_after, plain_taken, plain_turn, requested, shape, stays, waits_at}
+use Rattle.command.proofs.Walking.{Command, Finds, Goes, after_plain, at, end_fault, finds_values, finds_walk, goes, goes_on, held_after, over_values, place_after, plain_taken, plain_turn, requested, shape, stays, takes_awaited, waits_at}
 
 -- what is held after an option with its value
 abbrev pub with_option : Shape → (id value : Text) → Held → Held
@@ -53,7 +53,7 @@ finds_more : (app : App) (values more : List Text) (to : Walk) → Command app (
     → Goes (shape app) (at false (held_after app values) (place_after 1 values)) more to → end_fault (shape app) to.held ≡ [] → Finds words (requested app to.held)
 finds_more app values more to command words same plain rest ends =
     finds_walk app words (values ++ more) to command.enters same
-    (goes_on (shape app) _ _ to values more (over_values (shape app) false 1 nothing_held values command.waits (plain_taken values plain)) rest) ends
+    (goes_on (shape app) _ _ to values more (over_values (shape app) false 1 nothing_held values (takes_awaited (shape app) (length values) 1 nothing_held command.waits) (plain_taken values plain)) rest) ends
 
 -- ---- `--random`
 

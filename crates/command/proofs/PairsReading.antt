@@ -18,7 +18,7 @@ use Rattle.command.specs.declared.trace.Role.TheVariants as role
 
 -- ---- the same contents
 
-same_file : (content other : List ℕ → Option (List ℕ)) (role : Role) (path bytes : List ℕ) (old new : List Happening) → other path ≡ content path
+pub same_file : (content other : List ℕ → Option (List ℕ)) (role : Role) (path bytes : List ℕ) (old new : List Happening) → other path ≡ content path
     → ReadsFile other role path bytes old new → ReadsFile content role path bytes old new
 same_file content other role path bytes old new same (fits, reads) = (subst (λ c. IsContent c bytes) same fits, reads)
 

@@ -161,7 +161,7 @@ abbrev has_one_value : Option Rule → ℕ → Bool
 has_one_value None position = false
 has_one_value (Some a) position = not (is_multiple a) && (not a.trailing_var_arg && nat_lt position usize_max)
 
-abbrev wants_value : Shape → ℕ → Held → Bool
+abbrev pub wants_value : Shape → ℕ → Held → Bool
 wants_value s position h = has_one_value (arg_by_index s.rules position) position
     && (no_fault (step_fault s position h value) && not (no_fault (end_fault s h)))
 
@@ -215,47 +215,78 @@ not_wanted s position h wants =
     no_rule None none = refl
     no_rule (Some a) none = absurd (false≢true none)
 
--- The walk passes as many values as the command waits for,
-pub over_values : (s : Shape) (b : Bool) (position : ℕ) (h : Held) (values : List Text) → Waits s (length values) position h → AllTaken b values
+-- A value can be taken here, whether or not the line could end before it.
+abbrev pub takes_value : Shape → ℕ → Held → Bool
+takes_value s position h = has_one_value (arg_by_index s.rules position) position && no_fault (step_fault s position h value)
+
+-- The command takes n values, and the line can end behind them.
+abbrev pub Takes : Shape → ℕ → ℕ → Held → Type 0
+Takes s zero position h = end_fault s h ≡ []
+Takes s (suc n) position h = (takes_value s position h ≡ true) × ((word : Text) → Takes s n (position + 1) (after_value s position word h))
+
+pub taken : (s : Shape) (b : Bool) (position : ℕ) (h : Held) (word : Text) → takes_value s position h ≡ true
+    → (to_positional s.rules (arg_by_index s.rules position) word (at b h position) h ≡ at b (after_value s position word h) (position + 1))
+    × (step_fault s position h value ≡ [])
+taken s b position h word takes =
+    let (one, well) = both (has_one_value (arg_by_index s.rules position) position) (no_fault (step_fault s position h value)) takes in
+    (takes_one s.rules (arg_by_index s.rules position) b position word h one, none_is _ well)
+
+pub takes_wanted : (s : Shape) (position : ℕ) (h : Held) → wants_value s position h ≡ true → takes_value s position h ≡ true
+takes_wanted s position h wants =
+    let (one, rest) = both (has_one_value (arg_by_index s.rules position) position) (no_fault (step_fault s position h value) && not (no_fault (end_fault s h))) wants in
+    let (well, misses) = both (no_fault (step_fault s position h value)) (not (no_fault (end_fault s h))) rest in rw (one, well) refl
+
+-- It does so where it waits for them.
+pub takes_awaited : (s : Shape) (n position : ℕ) (h : Held) → Waits s n position h → Takes s n position h
+takes_awaited s zero position h (skips, wants) = (not_wanted s position h wants).1
+takes_awaited s (suc n) position h (skips, wants, waits) =
+    (takes_wanted s position h wants, λ word. takes_awaited s n (position + 1) (after_value s position word h) (waits word))
+
+-- Here the line can end, or give one more value.
+abbrev pub Offers : Shape → ℕ → Held → Type 0
+Offers s position h = (h.skip ≡ 0) × (takes_value s position h ≡ true) × ((word : Text) → Waits s zero (position + 1) (after_value s position word h))
+
+-- The walk passes as many values as the command takes,
+pub over_values : (s : Shape) (b : Bool) (position : ℕ) (h : Held) (values : List Text) → Takes s (length values) position h → AllTaken b values
     → Goes s (at b h position) values (at b (after_values s position h values) (place_after position values))
-over_values s b position h [] waits taken = stays s (at b h position) (at b h position) refl
-over_values s b position h (word ∷ words) (skips, wants, waits) (first, others) =
-    let (takes, well, misses) = wanted s b position h word wants in
+over_values s b position h [] takes all = stays s (at b h position) (at b h position) refl
+over_values s b position h (word ∷ words) (takes, rest) (first, others) =
+    let (is_taken, well) = taken s b position h word takes in
     let (walks, turns) = value_turn s b h position word first in
-    goes s (at b h position) (at b (after_value s position word h) (position + 1)) _ word words (walks ∙ takes) (turns ∙ well)
-    (over_values s b (position + 1) (after_value s position word h) words (waits word) others)
+    goes s (at b h position) (at b (after_value s position word h) (position + 1)) _ word words (walks ∙ is_taken) (turns ∙ well)
+    (over_values s b (position + 1) (after_value s position word h) words (rest word) others)
 
 -- also with `--` among them,
-over_before : (s : Shape) (position : ℕ) (h : Held) (before after : List Text) → Waits s (length (before ++ after)) position h
+over_before : (s : Shape) (position : ℕ) (h : Held) (before after : List Text) → Takes s (length (before ++ after)) position h
     → ArePlainWords before → Goes s (at false h position) (before ++ codes "--" ∷ after)
     (at true (after_values s position h (before ++ after)) (place_after position (before ++ after)))
-over_before s position h [] after waits plain =
-    over_hyphens s h position after _ (over_values s true position h after waits (any_taken after))
-over_before s position h (word ∷ before) after (skips, wants, waits) (first, others) =
-    let (takes, well, misses) = wanted s false position h word wants in
+over_before s position h [] after takes plain =
+    over_hyphens s h position after _ (over_values s true position h after takes (any_taken after))
+over_before s position h (word ∷ before) after (takes, rest) (first, others) =
+    let (is_taken, well) = taken s false position h word takes in
     let (walks, turns) = value_turn s false h position word first in
-    goes s (at false h position) (at false (after_value s position word h) (position + 1)) _ word (before ++ codes "--" ∷ after) (walks ∙ takes) (turns ∙ well)
-    (over_before s (position + 1) (after_value s position word h) before after (waits word) others)
+    goes s (at false h position) (at false (after_value s position word h) (position + 1)) _ word (before ++ codes "--" ∷ after) (walks ∙ is_taken) (turns ∙ well)
+    (over_before s (position + 1) (after_value s position word h) before after (rest word) others)
 
-over_given : (s : Shape) (position : ℕ) (h : Held) (words values : List Text) → Waits s (length values) position h → GivesValues words values
+over_given : (s : Shape) (position : ℕ) (h : Held) (words values : List Text) → Takes s (length values) position h → GivesValues words values
     → (b : Bool) × Goes s (at false h position) words (at b (after_values s position h values) (place_after position values))
-over_given s position h words values waits (inl (same, plain)) = (
+over_given s position h words values takes (inl (same, plain)) = (
   false,
   subst (λ l. Goes s (at false h position) l (at false (after_values s position h values) (place_after position values))) (sym same)
-      (over_values s false position h values waits (plain_taken values plain)),
+      (over_values s false position h values takes (plain_taken values plain)),
 )
-over_given s position h words values waits (inr (before, after, same, parts, plain)) = (
+over_given s position h words values takes (inr (before, after, same, parts, plain)) = (
   true,
   subst (λ l. Goes s (at false h position) words (at true (after_values s position h l) (place_after position l))) (sym parts)
       (subst (λ l. Goes s (at false h position) l (at true (after_values s position h (before ++ after)) (place_after position (before ++ after)))) (sym same)
-      (over_before s position h before after (subst (λ l. Waits s (length l) position h) parts waits) plain)),
+      (over_before s position h before after (subst (λ l. Takes s (length l) position h) parts takes) plain)),
 )
 
 -- and then the line can end.
-pub ends_well : (s : Shape) (position : ℕ) (h : Held) (values : List Text) → Waits s (length values) position h
+pub ends_well : (s : Shape) (position : ℕ) (h : Held) (values : List Text) → Takes s (length values) position h
     → end_fault s (after_values s position h values) ≡ []
-ends_well s position h [] (skips, wants) = (not_wanted s position h wants).1
-ends_well s position h (word ∷ words) (skips, wants, waits) = ends_well s (position + 1) (after_value s position word h) words (waits word)
+ends_well s position h [] ends = ends
+ends_well s position h (word ∷ words) (takes, rest) = ends_well s (position + 1) (after_value s position word h) words (rest word)
 
 -- ---- the program's walk, up to a command's name
 
@@ -352,10 +383,16 @@ finds_walk app words names to enters same (ends, passes) well =
           ∙ ap (λ (w : Walk). requested app w.held) ends,
     )
 
--- after the command's values
+-- after values that the command takes
+pub finds_taken : (app : App) (values : List Text) → Enters app.top.name (shape app) → Takes (shape app) (length values) 1 nothing_held
+    → (words : List Text) → IsCommandLine words app.top.name values → Finds words (requested app (held_after app values))
+finds_taken app values enters takes words (names, same, given) =
+    let (b, walks) = over_given (shape app) 1 nothing_held names values takes given in
+    finds_walk app words names (at b (held_after app values) (place_after 1 values)) enters same walks
+    (ends_well (shape app) 1 nothing_held values takes)
+
+-- .. and those that it waits for
 pub finds_values : (app : App) (values : List Text) → Command app (length values) → (words : List Text) → IsCommandLine words app.top.name values
     → Finds words (requested app (held_after app values))
-finds_values app values command words (names, same, given) =
-    let (b, walks) = over_given (shape app) 1 nothing_held names values command.waits given in
-    finds_walk app words names (at b (held_after app values) (place_after 1 values)) command.enters same walks
-    (ends_well (shape app) 1 nothing_held values command.waits)
+finds_values app values command =
+    finds_taken app values command.enters (takes_awaited (shape app) (length values) 1 nothing_held command.waits)

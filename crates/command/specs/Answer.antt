@@ -1,8 +1,10 @@
 -- The line that reports each answer, and the exit status.
-use Rattle.std.specs.Prelude.{ℕ, List, codes, decimal, ◌++◌, Option, Result, Ok, Err, ◌≡◌, ◌⊎◌}
+use Rattle.std.specs.Prelude.{ℕ, List, codes, decimal, ◌++◌, Bool, Option, Result, Ok, Err, ◌≡◌, ◌⊎◌}
 use Rattle.command.specs.declared.answer.Done.{Done}
 use Rattle.command.specs.declared.answer.Done.TheVariants.{Audited, Checked, Listed, Migrated, Published, Retired}
-use Rattle.command.specs.declared.answer.Done.TheVariants.{Signed, Verified}
+use Rattle.command.specs.declared.answer.Done.TheVariants.{Described as DescribedDone, Signed, Verified}
+use Rattle.command.specs.declared.described.Described.{Described}
+use Rattle.command.specs.declared.described.Described.TheVariants.{Public, LmsSignature, HssSignature, XmssSignature}
 use Rattle.hex.specs.Hex.{encode_lower}
 use Rattle.command.specs.declared.refusal.Refusal.{Refusal}
 use Rattle.command.specs.declared.refusal.Refusal.TheVariants.{Signature, OutOfMemory, FileFailed, BadName, BadSpec}
@@ -20,10 +22,17 @@ use Rattle.typecodes.specs.declared.refusal.Refusal.TheVariants.{MessageRead}
 use Rattle.command.specs.Refusal.{refusal_line}
 use Rattle.state_file.specs.Slot.{version_code}
 use Rattle.typecodes.specs.Spec.{spec_text}
+use Rattle.typecodes.specs.declared.spec.Spec.{Spec}
+use Rattle.typecodes.specs.declared.spec.Spec.TheVariants.{Lms as LmsSpec, Xmss as XmssSpec}
+use Rattle.lms.specs.declared.key.LmsPublic.{LmsPublic}
+use Rattle.hss.specs.declared.key.HssPublic.{HssPublic}
+use Rattle.xmss.specs.declared.key.XmssPublic.{XmssPublic}
+use Rattle.sign_core.specs.declared.key.AnyPublic.{AnyPublic}
+use Rattle.sign_core.specs.declared.key.AnyPublic.TheVariants.{Lms, Hss, Xmss}
 use Rattle.key_audit.specs.Listing.{Shown, names_among, shown_of_listing}
 use Rattle.key_audit.specs.Signatures.{below_2_64, signatures_of}
 use Rattle.command.specs.Output.{Taken, WritesText, Fails, behind_line, entry_lines, level_lines, moved_line}
-use Rattle.command.specs.Output.{signatures_line}
+use Rattle.command.specs.Output.{could_be_line, signatures_line, signed_lines}
 
 -- the lines of a report, after the bytes of the public key
 abbrev pub report_lines : (public : List ℕ) → Report → List ℕ
@@ -41,6 +50,41 @@ listing_lines shown behind =
     ++ codes "\n") ++ entry_lines 0 shown.entries) ++ signatures_line (below_2_64 (signatures_of shown)))
     ++ behind_line behind
 
+-- a public key of each scheme: its types, as far as it fixes them, and its values; an HSS key fixes the number of
+-- levels and the types of the top tree
+abbrev pub lms_key_lines : Spec → LmsPublic → List ℕ
+lms_key_lines spec key =
+    codes "public " ++ spec_text spec ++ codes "\nidentifier " ++ encode_lower key.identifier
+    ++ codes "\nroot " ++ encode_lower key.root ++ codes "\n"
+
+abbrev pub hss_key_lines : (top : Spec) → HssPublic → List ℕ
+hss_key_lines top key =
+    codes "public hss\nlevels " ++ decimal key.levels ++ codes "\ntop " ++ spec_text top
+    ++ codes "\nidentifier " ++ encode_lower key.top.identifier ++ codes "\nroot " ++ encode_lower key.top.root
+    ++ codes "\n"
+
+abbrev pub xmss_key_lines : Spec → XmssPublic → List ℕ
+xmss_key_lines spec key =
+    codes "public " ++ spec_text spec ++ codes "\nroot " ++ encode_lower key.root
+    ++ codes "\nseed " ++ encode_lower key.seed ++ codes "\n"
+
+abbrev pub public_lines : AnyPublic → List ℕ
+public_lines (Lms key) = lms_key_lines (LmsSpec key.pair) key
+public_lines (Hss key) = hss_key_lines (LmsSpec key.top.pair) key
+public_lines (Xmss key) = xmss_key_lines (XmssSpec key.tree) key
+
+-- a signature of one tree: its types, and the index of its leaf
+abbrev pub leaf_lines : Spec → (leaf : ℕ) → List ℕ
+leaf_lines spec leaf = codes "signature " ++ spec_text spec ++ codes "\nindex " ++ decimal leaf ++ codes "\n"
+
+-- what a file is, and whether it could be a key's
+abbrev pub described_lines : Described → Option Bool → List ℕ
+described_lines (Public key) could_be = public_lines key ++ could_be_line could_be
+described_lines (LmsSignature pair leaf) could_be = leaf_lines (LmsSpec pair) leaf ++ could_be_line could_be
+described_lines (HssSignature levels) could_be =
+    codes "signature hss\n" ++ signed_lines 0 levels.items ++ could_be_line could_be
+described_lines (XmssSignature tree leaf) could_be = leaf_lines (XmssSpec tree) leaf ++ could_be_line could_be
+
 abbrev pub done_lines : Done → List ℕ
 done_lines Verified = codes "verified\n"
 done_lines (Retired upto) = codes "retired upto " ++ decimal upto ++ codes "\n"
@@ -48,10 +92,11 @@ done_lines (Published public) = codes "public " ++ encode_lower public.items ++ 
 done_lines (Signed name size) = codes "signed " ++ name ++ codes " " ++ decimal size ++ codes " bytes\n"
 done_lines (Audited public report) = report_lines public.items report
 done_lines (Listed listing) = listing_lines (shown_of_listing listing) listing.behind
+done_lines (DescribedDone described could_be) = described_lines described could_be
 done_lines (Checked count) = codes "given " ++ decimal count ++ codes " signatures, no leaf twice\n"
 done_lines (Migrated count) = codes "migrated " ++ decimal count ++ codes " records\n"
 
--- with the line's end; an audit and a listing have several lines
+-- with the line's end; an audit, a listing and a description have several lines
 abbrev pub answer_line : Result Done Refusal → List ℕ
 answer_line (Ok done) = done_lines done
 answer_line (Err refusal) = refusal_line refusal ++ codes "\n"

@@ -6,6 +6,10 @@ use Rattle.clap.specs.Words.{Rule, new_rule}
 abbrev pub required_rule : List ℕ → Rule
 required_rule name = record (new_rule name) { required = true }
 
+-- a word that may be left out
+abbrev pub optional_rule : List ℕ → Rule
+optional_rule name = new_rule name
+
 -- one or more words
 abbrev pub several_rule : List ℕ → Rule
 several_rule name = record (new_rule name) {

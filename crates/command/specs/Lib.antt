@@ -3,6 +3,8 @@ pub mod AnswerLaws
 pub mod Argument
 pub mod Audit
 pub mod AuditGiven
+pub mod Compared
+pub mod Described
 pub mod FileDisk
 pub mod OffsetFile
 pub mod FileId

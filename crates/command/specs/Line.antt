@@ -1,5 +1,6 @@
 -- Lines: the program's commands as `clap` knows them, what a line requests, and how it is served.
 use Rattle.std.specs.Prelude.{true, codes, ◌≢◌, ⊤, ℕ, List, [], ◌∷◌, ◌≡◌}
+use Rattle.std.specs.Option.{option_map}
 use Rattle.std.specs.Prelude.{◌⊎◌, ◌++◌, Option, Some, None, Result, Ok, Err, if◌then◌else◌}
 use Rattle.std.specs.Str.{IsUtf8, bytes_eq}
 use Rattle.clap.specs.Words.{App, new_app, with_subcommand, Text, Row, all_of, fault_of, first_of, subcommand_of}
@@ -94,7 +95,7 @@ pub data Task : Type 0 where
   audit_given : (public : List ℕ) (files : List Pair) → Task
   serve : (state random : List ℕ) → Task
   migrate : (old new : List ℕ) → Task
-  list : (state : List ℕ) → Task
+  list : (file : List ℕ) (public : Option (List ℕ)) → Task
   publish : (state public : List ℕ) → Task
 
 abbrev pub task_of : Request → Task
@@ -107,7 +108,7 @@ task_of (Audit words) = audit words.state.now words.anchor
 task_of (AuditGiven words) = audit_given words.public.now (pairs_of words)
 task_of (Serve words) = serve words.state.now words.random.now
 task_of (Migrate words) = migrate words.old.now words.new.now
-task_of (ListState words) = list words.state.now
+task_of (ListState words) = list words.file.now (option_map (λ path. path.now) words.public)
 task_of (Public words) = publish words.state.now words.public.now
 
 -- ---- what `clap` finds in a line
@@ -154,9 +155,9 @@ abbrev pub migrate_task : (old new : Option Text) → Result Task UsageFault
 migrate_task (Some old) (Some new) = Ok (migrate old new)
 migrate_task _ _ = Err Command
 
-abbrev pub list_task : (state : Option Text) → Result Task UsageFault
-list_task (Some state) = Ok (list state)
-list_task None = Err Command
+abbrev pub list_task : (file public : Option Text) → Result Task UsageFault
+list_task (Some file) public = Ok (list file public)
+list_task None public = Err Command
 
 abbrev pub publish_task : (state public : Option Text) → Result Task UsageFault
 publish_task (Some state) (Some public) = Ok (publish state public)
@@ -190,7 +191,7 @@ fixed_task_named name found =
     else (if bytes_eq name (codes "migrate")
     then migrate_task (found (codes "OLD")) (found (codes "NEW"))
     else (if bytes_eq name (codes "list")
-    then list_task (found (codes "STATE"))
+    then list_task (found (codes "FILE")) (found (codes "PUBLIC"))
     else (if bytes_eq name (codes "public")
     then publish_task (found (codes "STATE")) (found (codes "PUBLIC"))
     else Err Command))))))))
@@ -210,8 +211,9 @@ task_found (Some (name, rows)) = task_named name rows
 abbrev pub FindsTask : List (List ℕ) → Task → Type 0
 FindsTask words task = (fault_of hbsign_app words ≡ []) × (task_found (subcommand_of hbsign_app words) ≡ Ok task)
 
--- The line of a task: `verify PUBLIC MESSAGE SIGNATURE`, `retire STATE UPTO`, `migrate OLD NEW`, `list STATE` or
--- `public STATE PUBLIC`. For a command with options or any number of files, each line in which `clap` finds the task.
+-- The line of a task: `verify PUBLIC MESSAGE SIGNATURE`, `retire STATE UPTO`, `migrate OLD NEW`, `list FILE`,
+-- `list SIGNATURE PUBLIC` or `public STATE PUBLIC`. For a command with options or any number of files, each line in
+-- which `clap` finds the task.
 abbrev pub IsLineOf : List (List ℕ) → Task → Type 0
 IsLineOf words (make state public spec version random) = FindsTask words (make state public spec version random)
 IsLineOf words (sign state name message out random) = FindsTask words (sign state name message out random)
@@ -223,7 +225,8 @@ IsLineOf words (audit state anchor) = FindsTask words (audit state anchor)
 IsLineOf words (audit_given public files) = FindsTask words (audit_given public files)
 IsLineOf words (serve state random) = FindsTask words (serve state random)
 IsLineOf words (migrate old new) = IsCommandLine words (codes "migrate") (old ∷ new ∷ [])
-IsLineOf words (list state) = IsCommandLine words (codes "list") (state ∷ [])
+IsLineOf words (list file None) = IsCommandLine words (codes "list") (file ∷ [])
+IsLineOf words (list file (Some public)) = IsCommandLine words (codes "list") (file ∷ public ∷ [])
 IsLineOf words (publish state public) = IsCommandLine words (codes "public") (state ∷ public ∷ [])
 
 -- A line of values, without `--random`, or with it at the end: then no value looks like an option.
@@ -265,7 +268,7 @@ IsAuditLine words state (Some anchor) = IsAnchoredLine words state anchor
 -- The line of a task as help shows it: `make STATE PUBLIC SPEC [--format N] [--random FILE]`,
 -- `sign STATE NAME MESSAGE OUT [--random FILE]`, `verify PUBLIC MESSAGE SIGNATURE`, `retire STATE UPTO`,
 -- `audit STATE [--count K --tag T]`, `audit-given PUBLIC FILES..` with at least one pair of files,
--- `serve STATE [--random FILE]`, `migrate OLD NEW`, `list STATE`, or `public STATE PUBLIC`.
+-- `serve STATE [--random FILE]`, `migrate OLD NEW`, `list FILE [PUBLIC]`, or `public STATE PUBLIC`.
 abbrev pub IsShownLineOf : List (List ℕ) → Task → Type 0
 IsShownLineOf words (make state public spec version random) = IsMakeLine words state public spec version random
 IsShownLineOf words (sign state name message out random) =
@@ -277,7 +280,7 @@ IsShownLineOf words (audit_given public files) =
     (files ≢ []) × IsCommandLine words (codes "audit-given") (public ∷ paths_of files)
 IsShownLineOf words (serve state random) = IsLineWithOption words (codes "serve") (state ∷ []) random
 IsShownLineOf words (migrate old new) = IsLineOf words (migrate old new)
-IsShownLineOf words (list state) = IsLineOf words (list state)
+IsShownLineOf words (list file public) = IsLineOf words (list file public)
 IsShownLineOf words (publish state public) = IsLineOf words (publish state public)
 
 abbrev pub usage_kind : UsageFault → ErrorKind
@@ -306,5 +309,5 @@ ServesTask d g r files (audit_given public pairs) answer old new =
     ChecksIn files.content public pairs answer old new
 ServesTask d g r files (serve state random) answer old new = ⊥
 ServesTask d g r files (migrate from to) answer old new = MigratesIn d files from to answer old new
-ServesTask d g r files (list state) answer old new = ListsIn d files state answer old new
+ServesTask d g r files (list file public) answer old new = ListsIn d files file public answer old new
 ServesTask d g r files (publish state public) answer old new = PublishesIn d files state public answer old new

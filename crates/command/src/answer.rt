@@ -1,26 +1,31 @@
 //! A command's answer, the lines that report it, and the exit status.
 
-ghost use Rattle.std.specs.Prelude.{◌≡◌};
-ghost use Rattle.command.specs.Answer.{IsOfWord, ReportsRequest, ReportsServing, answer_line, done_lines};
-ghost use Rattle.command.specs.Answer.{listing_lines, report_lines, status_of};
+ghost use Rattle.std.specs.Prelude.{◌≡◌, ◌++◌};
+ghost use Rattle.command.specs.Answer.{IsOfWord, ReportsRequest, ReportsServing, answer_line, described_lines};
+ghost use Rattle.command.specs.Answer.{done_lines, hss_key_lines, leaf_lines, listing_lines, lms_key_lines};
+ghost use Rattle.command.specs.Answer.{public_lines, report_lines, status_of, xmss_key_lines};
 ghost use Rattle.command.specs.AnswerLaws.{AnswerLaws};
 ghost use Rattle.key_audit.specs.Listing.{shown_of_listing};
 ghost use Rattle.command.specs.Notes.{NotesEnd, NotesOutput};
 ghost use Rattle.command.specs.inner.Notes.{with_note};
-ghost use Rattle.command.specs.Output.{Prints, WritesText};
+ghost use Rattle.command.specs.Output.{Prints, WritesText, could_be_line};
 ghost use Rattle.command.specs.Streams.{taken};
 
+use crate::described::Described;
 use crate::notes::Notes;
 use crate::output::{Output, Part};
 use crate::refusal::Refusal;
 use arrayvec::ArrayVec;
+use hss::HssPublic;
 use key_audit::{
     AuditFault, GivenFault, Listing, Report, count_names, count_signatures, listing_law,
 };
-use sign_core::{ServeFault, SignFault};
+use lms::LmsPublic;
+use sign_core::{AnyPublic, ServeFault, SignFault};
 use state_file::{FormatFault, MigrateFault, OpenFault};
 use std::io;
-use typecodes::{Name, Refusal as SignatureRefusal};
+use typecodes::{Name, Refusal as SignatureRefusal, Spec};
+use xmss::XmssPublic;
 
 /// No line of an answer begins with a capital letter, so none can be taken for a line of help. Nothing secret is
 /// listed: records that differ only in secrets have the same lines. The function does nothing: its contract is proved
@@ -46,6 +51,8 @@ pub enum Done {
     Audited(ArrayVec<u8, 68>, Report),
     /// The types, free leaves and records of a state file.
     Listed(Listing),
+    /// A file is this public key or signature, which could be a key's or not, if there is one to compare it with.
+    Described(Described, Option<bool>),
     /// This number of signatures is valid, and no leaf signed two digests.
     Checked(usize),
     /// The new state file has this number of records.
@@ -76,6 +83,7 @@ impl Done {
             ]),
             Done::Audited(public, report) => print_report(public.as_slice(), report, output),
             Done::Listed(listing) => print_listing(listing, output),
+            Done::Described(described, could_be) => print_described(described, *could_be, output),
             Done::Checked(count) => {
                 let count = Part::Number(*count as u64);
                 output.print(&[
@@ -131,6 +139,131 @@ fn print_listing<O: Output>(listing: &Listing, output: &mut O) -> io::Result<()>
         Part::Entries(listing.entries.as_slice()),
         Part::Signatures(count_signatures(listing)),
         Part::Behind(listing.behind),
+    ])
+}
+
+fn print_described<O: Output>(
+    described: &Described,
+    could_be: Option<bool>,
+    output: &mut O,
+) -> io::Result<()>
+    ensures { Prints (described_lines described.now could_be) (taken O.contents O.failures output.old)
+        (taken O.contents O.failures output.new) result }
+{
+    match described {
+        Described::Public(key) => print_public(key, could_be, output),
+        Described::LmsSignature { pair, leaf } => {
+            print_leaf(&Spec::Lms(*pair), *leaf, could_be, output)
+        }
+        Described::HssSignature(levels) => output.print(&[
+            Part::Text("signature hss\n"),
+            Part::SignedLevels(levels.as_slice()),
+            Part::CouldBe(could_be),
+        ]),
+        Described::XmssSignature { tree, leaf } => {
+            print_leaf(&Spec::Xmss(*tree), *leaf, could_be, output)
+        }
+    }
+}
+
+// Of a signature of one tree.
+fn print_leaf<O: Output>(
+    spec: &Spec,
+    leaf: u32,
+    could_be: Option<bool>,
+    output: &mut O,
+) -> io::Result<()>
+    ensures { Prints (leaf_lines spec.now leaf ++ could_be_line could_be) (taken O.contents O.failures output.old)
+        (taken O.contents O.failures output.new) result }
+{
+    output.print(&[
+        Part::Text("signature "),
+        Part::Spec(spec),
+        Part::Text("\nindex "),
+        Part::Number(u64::from(leaf)),
+        Part::Text("\n"),
+        Part::CouldBe(could_be),
+    ])
+}
+
+fn print_public<O: Output>(
+    key: &AnyPublic,
+    could_be: Option<bool>,
+    output: &mut O,
+) -> io::Result<()>
+    ensures { Prints (public_lines key.now ++ could_be_line could_be) (taken O.contents O.failures output.old)
+        (taken O.contents O.failures output.new) result }
+{
+    match key {
+        AnyPublic::Lms(key) => print_lms_key(&Spec::Lms(key.pair), key, could_be, output),
+        AnyPublic::Hss(key) => print_hss_key(&Spec::Lms(key.top.pair), key, could_be, output),
+        AnyPublic::Xmss(key) => print_xmss_key(&Spec::Xmss(key.tree), key, could_be, output),
+    }
+}
+
+fn print_lms_key<'a, O: Output>(
+    spec: &'a Spec,
+    key: &'a LmsPublic,
+    could_be: Option<bool>,
+    output: &mut O,
+) -> io::Result<()>
+    ensures { Prints (lms_key_lines spec.now key.now ++ could_be_line could_be)
+        (taken O.contents O.failures output.old) (taken O.contents O.failures output.new) result }
+{
+    output.print(&[
+        Part::Text("public "),
+        Part::Spec(spec),
+        Part::Text("\nidentifier "),
+        Part::Hex(&key.identifier),
+        Part::Text("\nroot "),
+        Part::Hex(&key.root),
+        Part::Text("\n"),
+        Part::CouldBe(could_be),
+    ])
+}
+
+// The key fixes the types of its top tree alone.
+fn print_hss_key<'a, O: Output>(
+    top: &'a Spec,
+    key: &'a HssPublic,
+    could_be: Option<bool>,
+    output: &mut O,
+) -> io::Result<()>
+    ensures { Prints (hss_key_lines top.now key.now ++ could_be_line could_be)
+        (taken O.contents O.failures output.old) (taken O.contents O.failures output.new) result }
+{
+    output.print(&[
+        Part::Text("public hss\nlevels "),
+        Part::Number(u64::from(key.levels.get())),
+        Part::Text("\ntop "),
+        Part::Spec(top),
+        Part::Text("\nidentifier "),
+        Part::Hex(&key.top.identifier),
+        Part::Text("\nroot "),
+        Part::Hex(&key.top.root),
+        Part::Text("\n"),
+        Part::CouldBe(could_be),
+    ])
+}
+
+fn print_xmss_key<'a, O: Output>(
+    spec: &'a Spec,
+    key: &'a XmssPublic,
+    could_be: Option<bool>,
+    output: &mut O,
+) -> io::Result<()>
+    ensures { Prints (xmss_key_lines spec.now key.now ++ could_be_line could_be)
+        (taken O.contents O.failures output.old) (taken O.contents O.failures output.new) result }
+{
+    output.print(&[
+        Part::Text("public "),
+        Part::Spec(spec),
+        Part::Text("\nroot "),
+        Part::Hex(&key.root),
+        Part::Text("\nseed "),
+        Part::Hex(&key.seed),
+        Part::Text("\n"),
+        Part::CouldBe(could_be),
     ])
 }
 

@@ -2,7 +2,8 @@
 
 ghost use Rattle.std.specs.Prelude.{◌≡◌, false};
 ghost use Rattle.clap.specs.Words.{rule_of};
-ghost use Rattle.command.specs.Argument.{default_rule, option_rule, random_rule, required_rule, several_rule};
+ghost use Rattle.command.specs.Argument.{default_rule, option_rule, optional_rule, random_rule, required_rule};
+ghost use Rattle.command.specs.Argument.{several_rule};
 
 use crate::random_file::DEFAULT_RANDOM;
 use clap::Arg;
@@ -14,6 +15,14 @@ pub fn required<'a>(alloc: Global, name: &'a str, help: &'a str) -> Arg<'a>
     ensures own { result.global ≡ false }
 {
     Arg::new(alloc, name).help(help).required(true)
+}
+
+/// A word that may be left out.
+pub fn optional<'a>(alloc: Global, name: &'a str, help: &'a str) -> Arg<'a>
+    ensures rule { rule_of result ≡ optional_rule name.now }
+    ensures own { result.global ≡ false }
+{
+    Arg::new(alloc, name).help(help)
 }
 
 /// Words, at least one.

@@ -1,11 +1,14 @@
-//! The texts of a listing: a key's spec, and a line for each record.
+//! The texts of a listing: a key's spec, and a line for each record or for each level of a signature.
 
 ghost use Rattle.std.specs.Prelude.{◌≡◌, ◌++◌, OnOk, codes, decimal};
 ghost use Rattle.std.specs.Io.KnownBytes.{Appends};
+ghost use Rattle.hex.specs.Hex.{encode_lower};
 ghost use Rattle.typecodes.specs.Spec.{levels_text, ots_text, pair_text, spec_text, tree_text, xmss_text};
-ghost use Rattle.command.specs.Output.{entry_line, entry_lines, entry_text};
+ghost use Rattle.command.specs.Output.{entry_line, entry_lines, entry_text, identifier_text, signed_line};
+ghost use Rattle.command.specs.Output.{signed_lines, types_text};
 ghost use Rattle.command.specs.inner.ListingText.{after_comma};
 
+use crate::described::SignedLevel;
 use crate::hex_text::write_hex;
 use key_audit::Entry;
 use std::io;
@@ -91,6 +94,55 @@ fn height_text(tree: XmssType) -> &'static str
         XmssType::H16 => "16",
         XmssType::H20 => "20",
     }
+}
+
+/// Writes a line for each level of an HSS signature.
+pub fn write_signed_levels<W: Write>(writer: &mut W, levels: &[SignedLevel]) -> io::Result<()>
+    ensures { OnOk result (Appends (W.contents writer.old) (W.contents writer.new) (signed_lines 0 levels.now)) }
+{
+    for level in 0..levels.len() {
+        write_signed_level(writer, level, &levels[level])?;
+    }
+    Ok(())
+}
+
+fn write_signed_level<W: Write>(
+    writer: &mut W,
+    level: usize,
+    signed: &SignedLevel,
+) -> io::Result<()>
+    ensures { OnOk result (Appends (W.contents writer.old) (W.contents writer.new) (signed_line level signed.now)) }
+{
+    write_types(writer, level, signed.pair)?;
+    write_number(writer, " index ", signed.leaf)?;
+    write_identifier(writer, signed.identifier)?;
+    writer.write_all("\n".as_bytes())
+}
+
+fn write_types<W: Write>(writer: &mut W, level: usize, pair: LmsPair) -> io::Result<()>
+    ensures { OnOk result (Appends (W.contents writer.old) (W.contents writer.new) (types_text level pair)) }
+{
+    writer.write_all("level ".as_bytes())?;
+    writer.write_fmt(level as u64)?;
+    writer.write_all(" types ".as_bytes())?;
+    write_pair(writer, pair)
+}
+
+fn write_identifier<W: Write>(writer: &mut W, identifier: Option<[u8; 16]>) -> io::Result<()>
+    ensures { OnOk result (Appends (W.contents writer.old) (W.contents writer.new) (identifier_text identifier)) }
+{
+    match identifier {
+        Some(identifier) => write_known_identifier(writer, &identifier),
+        None => Ok(()),
+    }
+}
+
+fn write_known_identifier<W: Write>(writer: &mut W, identifier: &[u8; 16]) -> io::Result<()>
+    ensures { OnOk result (Appends (W.contents writer.old) (W.contents writer.new)
+        (codes " identifier " ++ encode_lower identifier.now)) }
+{
+    writer.write_all(" identifier ".as_bytes())?;
+    write_hex(writer, identifier)
 }
 
 /// Writes a line for each record.

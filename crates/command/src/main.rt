@@ -15,7 +15,8 @@
 //!
 //! - the line: `line`, `argument` and `number`; where it gives no request, `usage_fault`, `line_fault`
 //!   and `texts`
-//! - the commands: `make`, `sign`, `verify`, `retire`, `audit`, `audit_given`, `serve`, `migrate`, `list`, `public`
+//! - the commands: `make`, `sign`, `verify`, `retire`, `audit`, `audit_given`, `serve`, `migrate`, `list`, `public`;
+//!   for `list` also `described` (what a key or a signature says) and `compared` (whether they fit)
 //! - the answer: `answer`, `refusal`, `listing_text` and `hex_text`, written to `output`; `notes` and `sentence` say
 //!   what a refusal means
 //! - a signer: `key_file` over the disk of a state file, `signing` over any store
@@ -31,6 +32,8 @@ mod answer;
 mod argument;
 mod audit;
 mod audit_given;
+mod compared;
+mod described;
 mod disk_file;
 mod file_calls;
 mod file_disk;

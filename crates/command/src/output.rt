@@ -2,11 +2,12 @@
 
 ghost use Rattle.std.specs.Prelude.{◌≡◌, ◌++◌, ℕ, OnOk, codes, decimal};
 ghost use Rattle.std.specs.Io.KnownBytes.{Appends};
-ghost use Rattle.command.specs.Output.{CountsFailure, Prints, behind_line, level_line, level_lines, part_text};
-ghost use Rattle.command.specs.Output.{moved_line, signatures_line, taken_of, text_of};
+ghost use Rattle.command.specs.Output.{CountsFailure, Prints, behind_line, could_be_line, level_line, level_lines};
+ghost use Rattle.command.specs.Output.{moved_line, part_text, signatures_line, taken_of, text_of};
 
+use crate::described::SignedLevel;
 use crate::hex_text::write_hex;
-use crate::listing_text::{write_entries, write_spec};
+use crate::listing_text::{write_entries, write_signed_levels, write_spec};
 use key_audit::Entry;
 use std::io;
 use std::io::Write;
@@ -31,6 +32,10 @@ pub enum Part<'a> {
     Spec(&'a Spec),
     /// A line for each of a key's records; record 0 is the first.
     Entries(&'a [Entry]),
+    /// A line for each level of an HSS signature; level 0 is the first.
+    SignedLevels(&'a [SignedLevel]),
+    /// A line that says whether a signature could be a key's; nothing for None.
+    CouldBe(Option<bool>),
     /// A line with the number of new names that a key can still sign; 2^64 or more for None.
     Signatures(Option<u64>),
     /// A line with the last record's slot, if bytes stand behind it; nothing for None.
@@ -114,6 +119,8 @@ fn write_part<W: Write>(writer: &mut W, part: &Part<'_>) -> io::Result<()>
         Part::Moved(version) => write_moved(writer, *version),
         Part::Spec(spec) => write_spec(writer, spec),
         Part::Entries(entries) => write_entries(writer, entries),
+        Part::SignedLevels(levels) => write_signed_levels(writer, levels),
+        Part::CouldBe(could_be) => write_could_be(writer, *could_be),
         Part::Signatures(number) => write_signatures(writer, *number),
         Part::Behind(slot) => write_behind(writer, *slot),
     }
@@ -147,6 +154,16 @@ fn write_moved<W: Write>(writer: &mut W, version: Option<u16>) -> io::Result<()>
     writer.write_all("moved ".as_bytes())?;
     writer.write_fmt(u64::from(version))?;
     writer.write_all("\n".as_bytes())
+}
+
+fn write_could_be<W: Write>(writer: &mut W, could_be: Option<bool>) -> io::Result<()>
+    ensures { OnOk result (Appends (W.contents writer.old) (W.contents writer.new) (could_be_line could_be)) }
+{
+    match could_be {
+        Some(true) => writer.write_all("could be of this key yes\n".as_bytes()),
+        Some(false) => writer.write_all("could be of this key no\n".as_bytes()),
+        None => Ok(()),
+    }
 }
 
 fn write_signatures<W: Write>(writer: &mut W, number: Option<u64>) -> io::Result<()>
