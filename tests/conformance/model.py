@@ -840,3 +840,88 @@ def verdict(public, message, signature):
     except Invalid as refused:
         return str(refused)
     return "verified"
+
+
+# ---- what `list` says of public keys and signatures
+
+
+def types_text(pair):
+    return f"H{HEIGHTS[pair[0]]}/W{WIDTHS[pair[1]][0]}"
+
+
+def read_public(public):
+    """The scheme of a public key, its number of levels, its types (of HSS the top tree's), and its lines."""
+    if len(public) not in (56, 60, 68):
+        raise Invalid(f"refused 6 KeyLength of {len(public)}")
+    fields = Fields(public)
+    if len(public) == 68:
+        code, root, seed = fields.code(XMSS_HEIGHTS), fields.take(32), fields.take(32)
+        return XMSS, 1, code, [f"public xmss:{XMSS_HEIGHTS[code]}", f"root {root.hex()}", f"seed {seed.hex()}"]
+    levels = fields.number() if len(public) == 60 else 1
+    if not 1 <= levels <= 8:
+        raise Invalid("refused 3 LevelCount at 0")
+    key = LmsKey(fields)
+    lines = [f"identifier {key.identifier.hex()}", f"root {key.root.hex()}"]
+    if len(public) == 56:
+        return LMS, 1, key.pair, [f"public lms:{types_text(key.pair)}", *lines]
+    return HSS, levels, key.pair, ["public hss", f"levels {levels}", f"top lms:{types_text(key.pair)}", *lines]
+
+
+def read_signature(scheme, code, signature):
+    """The number of levels of a signature of a scheme (and of XMSS of a type), its types, and its lines."""
+    fields = Fields(signature)
+    if scheme == XMSS:
+        leaf = fields.number()
+        if leaf >= 2**XMSS_HEIGHTS[code]:
+            raise Invalid("refused 4 LeafOutOfRange at 0")
+        fields.values(1 + 67 + XMSS_HEIGHTS[code])
+        fields.end()
+        return 1, code, [f"signature xmss:{XMSS_HEIGHTS[code]}", f"index {leaf}"]
+    above = fields.number() if scheme == HSS else 0
+    if above > 7:
+        raise Invalid("refused 3 LevelCount at 0")
+    given, keys = [], [""]
+    for _ in range(above):
+        given.append(LmsSignature(fields))
+        keys.append(f" identifier {LmsKey(fields).identifier.hex()}")
+    given.append(LmsSignature(fields))
+    fields.end()
+    if scheme == LMS:
+        return 1, given[0].pair, [f"signature lms:{types_text(given[0].pair)}", f"index {given[0].leaf}"]
+    lines = [f"level {level} types {types_text(one.pair)} index {one.leaf}{key}"
+             for level, (one, key) in enumerate(zip(given, keys))]
+    return above + 1, given[0].pair, ["signature hss", *lines]
+
+
+def signature_lines(signature):
+    """The lines of a signature of any scheme; none for other bytes."""
+    for scheme, code in ((LMS, None), (HSS, None), *((XMSS, code) for code in XMSS_HEIGHTS)):
+        try:
+            return read_signature(scheme, code, signature)[2]
+        except Invalid:
+            pass
+    return []
+
+
+def description(content):
+    """What `list` says of a file that has no key."""
+    try:
+        return read_public(content)[3]
+    except Invalid:
+        return signature_lines(content) or ["refused 40 NoKey"]
+
+
+def comparison(signature, public):
+    """What `list` says of a signature beside a public key."""
+    try:
+        scheme, levels, types, _ = read_public(public)
+    except Invalid as refused:
+        return [str(refused)]
+    lines = signature_lines(signature)
+    try:
+        could_be = read_signature(scheme, types, signature)[:2] == (levels, types)
+    except Invalid as refused:
+        if not lines:
+            return [str(refused)]
+        could_be = False
+    return [*lines, f"could be of this key {'yes' if could_be else 'no'}"]

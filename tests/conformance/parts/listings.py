@@ -119,7 +119,8 @@ def files_of_listings():
         suite.step("kept")
     suite.case("wrong lines of listings")
     described_file("state", key.content())
-    for words in ("list", "list state more", "list --state state", "list state --count 1", "list state --random state",
+    for words in ("list", "list state more more", "list --state state", "list state --count 1",
+                  "list state --random state",
                   "public", "public state", "public state out more", "public --out state out", "List state",
                   "public state out --random state", "lis state", "publi state out", "list --", "public state --"):
         suite.step("usage", words)
