@@ -109,7 +109,7 @@ fn sentence(number: u8) -> &'static str {
 // The rows on damaged records, memory, and from 30 on on room, leaves, names and frames.
 fn sentence_of_records(number: u8) -> &'static str {
     match number {
-        28 | 43 | 44 => "don't sign; withdraw the public key: nobody knows which leaves were used",
+        28 | 44 => "don't sign; withdraw the public key: nobody knows which leaves were used",
         29 | 46 => "memory was refused: more memory",
         30 => "no room for the records that are needed: take a new key",
         31 => {
@@ -143,6 +143,7 @@ fn sentence_of_files(number: u8) -> &'static str {
             "the version is unknown; for migrate also where OLD is of format 2: take a later program; \
              migrate: keep OLD"
         }
+        43 => "don't sign; of a copy look at the original; else withdraw the public key",
         45 => {
             "a call on a state file failed: mount its file system anew before anything opens the file; \
              then make room, or look at the device"
@@ -153,7 +154,10 @@ fn sentence_of_files(number: u8) -> &'static str {
              make didn't; never take another NEW"
         }
         52 => "OLD has 2^31 records, and no room for a Moved: take a new key",
-        53 => "a file can't be opened, read or written, or isn't one that may be",
+        53 => {
+            "a file can't be opened, read or written, or isn't one that may be: see the line before; of OUT \
+             take another"
+        }
         54 => "another process has the file, or OLD and NEW are one: wait",
         60 => "that signature is of another key or message",
         61 => "withdraw the public key: whoever has both signatures can forge",
