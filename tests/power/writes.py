@@ -152,22 +152,33 @@ def with_zeros(log):
     return [replace(entry, data=bytes(entry.discarded * SECTOR)) if entry.discarded else entry for entry in log]
 
 
-def cuts(log, size, subsets, most, seed):
-    """The crash images at each place of the log between the marks `begin` and `end`: all writes up to there; those that
-    were flushed; both halves of pending writes, `most` at each place; and random subsets, `subsets` of them in all or a
-    few more."""
+def unflushed(log):
+    """The most writes that are unflushed at a place of the keys' life."""
     begin, end = life_of(log)
-    device, dice = Device(size), random.Random(seed)
-    places = sum(1 for entry in log[begin:end] if entry.data)
+    count = most = 0
+    for at, entry in enumerate(log[:end]):
+        count = (0 if entry.flags & FLUSH else count) + bool(entry.data)
+        most = max(most, count if at >= begin else 0)
+    return most
+
+
+def cuts(log, size, load, seed, first=0):
+    """The crash images at each place of the log between the marks `begin` and `end`, from place `first` on: all writes
+    up to there; those that were flushed; both halves of `load.halved` pending writes; and random subsets,
+    `load.at_each` of them where writes are pending, and `load.subsets` in all or a few more. Which of these are made at
+    a place depends on the log and the seed, and not on `first`."""
+    begin, end = life_of(log)
+    device, places = Device(size), sum(1 for entry in log[begin:end] if entry.data)
     for at, entry in enumerate(log[:end]):
         device.take(entry)
-        if at < begin:
+        if at < max(begin, first):
             continue
+        dice = random.Random(f"{seed} {at}")
         yield device.cut("all", whole)
         if device.pending:
             yield device.cut("flushed", none)
-        yield from device.halves(len(device.pending) - bool(entry.data), most, dice)
-        if entry.data:
-            count, part = divmod(subsets, places)
-            for _ in range(count + (dice.randrange(places) < part)):
-                yield device.some(dice)
+        yield from device.halves(len(device.pending) - bool(entry.data), load.halved, dice)
+        count, part = divmod(load.subsets if entry.data else 0, places)
+        count += (load.at_each if device.pending else 0) + (dice.randrange(places) < part)
+        for _ in range(count):
+            yield device.some(dice)
