@@ -53,26 +53,36 @@ class OneFailure(Recorder):
         return f"LD_PRELOAD=/lib/calls.so AT_SYNC={sync} BEFORE='sh /tmp/fail' "
 
     def fail_at(self, sync, failure):
-        """Signs a name while the device fails from this sync on, and heals the device: what the program printed."""
+        """Signs a name while the device fails from this sync on, and heals the device: what the program printed. Where
+        it answers all the same, it is acknowledged."""
         self.lines.append(Line(KEY, "sign", "n3"))
         self.mark(f"{BEFORE}-{len(self.lines) - 1}")
         right = self.program
         self.program = self.prepare(sync, failure) + right
-        _, said = self.guest.run(f"({self.words(KEYS[KEY], self.lines[-1])}) 2>&1")
+        status, answer = self.guest.run(f"({self.words(KEYS[KEY], self.lines[-1])}) 2>/tmp/said")
         self.program = right
         self.heal()
-        return said[:200].decode(errors="replace")
+        self.acknowledge(status, answer)
+        return self.guest.must("cat /tmp/said")[:200].decode(errors="replace")
 
     def sign_again(self):
         """The same request again, which is acknowledged where it answers."""
         status, answer = self.guest.run(f"({self.words(KEYS[KEY], self.lines[-1])}) 2>/dev/null")
-        if status == 0:
-            self.lines[-1].answer = answer
-            for name in (KEYS[KEY].old(), KEYS[KEY].new()):
-                found, content = self.guest.run(f"cat /mnt/{name} 2>/dev/null")
-                self.lines[-1].files[name] = content if found == 0 else None
-            self.mark(f"{AFTER}-{len(self.lines) - 1}")
+        self.acknowledge(status, answer)
         return status
+
+    def acknowledge(self, status, answer):
+        """Notes the answer of the last line, if it has one."""
+        if status == 0:
+            if self.lines[-1].answer not in (b"", answer):
+                raise ValueError("the same request gets other bytes")
+            self.lines[-1].answer, self.lines[-1].files = answer, self.files()
+            self.mark(f"{AFTER}-{len(self.lines) - 1}")
+
+    def files(self):
+        """The key's files as they are shown."""
+        found = {name: self.guest.run(f"cat /mnt/{name} 2>/dev/null") for name in (KEYS[KEY].old(), KEYS[KEY].new())}
+        return {name: content if status == 0 else None for name, (status, content) in found.items()}
 
     def mount_anew(self):
         """Unmounts and mounts: what is shown then is what the medium has."""
@@ -81,11 +91,7 @@ class OneFailure(Recorder):
 
     def wrongs(self, program):
         """What is wrong with the files as they are shown, in words."""
-        files = {}
-        for name in (KEYS[KEY].old(), KEYS[KEY].new()):
-            status, content = self.guest.run(f"cat /mnt/{name} 2>/dev/null")
-            files[name] = content if status == 0 else None
-        last, before = self.lines[-1], self.lines[-2].files
+        files, last, before = self.files(), self.lines[-1], self.lines[-2].files
         if not last.files:
             # one record of the line that failed may be there, and nobody has seen it
             more = len(bodies_of(files[KEYS[KEY].old()])) - len(bodies_of(before[KEYS[KEY].old()]))
@@ -94,8 +100,8 @@ class OneFailure(Recorder):
 
 
 class NoRoom(OneFailure):
-    """A key on a thin volume that has a snapshot. Another volume takes the rest of the pool, so that a write over a
-    chunk finds no room."""
+    """A key on a thin volume. Another volume takes the rest of the pool, and then a snapshot shares each chunk: a write
+    over any of them, such as one of the journal, finds no room."""
     def device(self):
         return "thin"
 
@@ -112,8 +118,10 @@ class NoRoom(OneFailure):
         self.guest.must("sync")
 
     def prepare(self, sync, failure):
-        self.guest.must("dmsetup suspend thin && dmsetup message disk 0 'create_snap 2 0' && dmsetup resume thin")
         self.guest.run("dd if=/dev/zero of=/dev/mapper/rest bs=1M conv=fsync")
+        # (a freeze would be ended by writes of the file system, which then find no room before the program's)
+        self.guest.must("dmsetup suspend --nolockfs thin && dmsetup message disk 0 'create_snap 2 0' && "
+                        "dmsetup resume thin")
         return ""
 
     def heal(self):
