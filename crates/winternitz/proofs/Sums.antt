@@ -1,10 +1,22 @@
 -- Words of the schedule and round constants, added side by side, and the rounds over them.
-use Rattle.std.proofs.Common.{◌≡◌, ◌∙◌, ℕ, ◌<◌, ◌≤◌, ◌+◌, ◌-◌, ◌*◌, ◌%◌, List, [], length, set, slice_index, slice_set, arith, sym, subst, inl, inr, ap, ap₂}
+use Rattle.std.proofs.Common.{◌≡◌, ◌∙◌, ℕ, ◌<◌, ◌≤◌, ◌+◌, ◌-◌, ◌*◌, ◌%◌, List, [], length, set, slice_index, slice_set}
+use Rattle.std.proofs.Common.{arith, drop, refl, sym, subst, inl, inr, ap, ap₂}
 use Rattle.std.proofs.lemmas.Bool.{cases_lt}
-use Rattle.std.proofs.lemmas.List.{get_or-set_other, get_or-set_same}
+use Rattle.std.proofs.lemmas.List.{get_or-drop, get_or-set_other, get_or-set_same, get_or-take}
 use Rattle.sha2.proofs.Schedule256.{IsWindow_next, rounds_next, window_word_at, window_word_place}
-use Rattle.sha2.specs.Sha256.{IsWindow, add32, round, round_constants, rounds, schedule, window_word}
-use Rattle.winternitz.specs.inner.Sums.{AreSumsAt, HasSums, sum_at}
+use Rattle.sha2.specs.Sha256.{IsWindow, add32, round, round_constants, rounds, schedule, window_word, word_at}
+use Rattle.winternitz.specs.inner.Sums.{AreSumsAt, HasSums, block_of, sum_at}
+
+-- one more lane
+pub lane_more : (f : ℕ → ℕ) (words : List ℕ) (lane word : ℕ) → lane < length words
+    → ((j : ℕ) → j < lane → slice_index words j ≡ f j) → word ≡ f lane
+    → (j : ℕ) → j < lane + 1 → slice_index (slice_set words lane word) j ≡ f j
+lane_more f words lane word room before here j low = elim (cases_lt j lane) [
+  | inl less ↦ get_or-set_other words lane j word 0 (omega arith) ∙ before j less
+  | inr last ↦
+      let same : j ≡ lane = omega arith in
+      rw same (get_or-set_same words lane word 0 room ∙ here)
+]
 
 -- one more round's sum
 pub sums_more : (b : List ℕ) (j t : ℕ) (sums : List (List ℕ)) (row : List ℕ) → t < length sums → HasSums b j sums t
@@ -44,9 +56,15 @@ sums_next b w next j turn place x sums row low high within long window before wo
 pub AreSumsAt_at : (b : List ℕ) (j : ℕ) (window sums : List (List ℕ)) (n k : ℕ) → n ≡ k → AreSumsAt b j window sums n → AreSumsAt b j window sums k
 AreSumsAt_at b j window sums n k same held = rw (← same) held
 
--- word and constant are added to the rest of T1 one after the other, or their sum at once
-pub added_at_once : (x k word sum : ℕ) → sum ≡ add32 word k → add32 x sum ≡ add32 (add32 x k) word
-added_at_once x k word sum is = omega arith
+-- the terms of T1, and of T1 + T2, in another order, with word and constant as their sum
+pub temp1_by_sum : (h s1 ch k word sum : ℕ) → sum ≡ add32 word k
+    → add32 (add32 (add32 h sum) ch) s1 ≡ add32 (add32 (add32 (add32 h s1) ch) k) word
+temp1_by_sum h s1 ch k word sum is = omega arith
+
+pub both_by_sum : (h s1 ch k word sum s0 maj : ℕ) → sum ≡ add32 word k
+    → add32 (add32 (add32 (add32 (add32 h sum) ch) s1) maj) s0
+    ≡ add32 (add32 (add32 (add32 (add32 h s1) ch) k) word) (add32 s0 maj)
+both_by_sum h s1 ch k word sum s0 maj is = omega arith
 
 -- one more round
 pub round_more : (b h v next : List ℕ) (t sum : ℕ) → v ≡ rounds h (schedule b 48) t → sum ≡ sum_at b t
@@ -55,3 +73,30 @@ round_more b h v next t sum before is made =
     let word = slice_index (schedule b 48) t in
     let constant = slice_index round_constants t in
     made constant word is ∙ ap (λ w. round w constant word) before ∙ sym (rounds_next h (schedule b 48) t)
+
+-- a byte of one of eight blocks, and a word of it
+byte_of_block : (bytes : List ℕ) (j i : ℕ) → i < 64 → slice_index bytes (64 * j + i) ≡ slice_index (block_of bytes j) i
+byte_of_block bytes j i low =
+    let at : 64 * j + i ≡ j * 64 + i = omega arith in
+    ap (slice_index bytes) at ∙ sym (get_or-take 64 (drop (j * 64) bytes) i 0 low ∙ get_or-drop (j * 64) bytes i 0)
+
+pub word_of_block : (bytes : List ℕ) (j i : ℕ) → i + 4 ≤ 64 → word_at bytes (64 * j + i) ≡ word_at (block_of bytes j) i
+word_of_block bytes j i within =
+    let second : 64 * j + i + 1 ≡ 64 * j + (i + 1) = omega arith in
+    let third : 64 * j + i + 2 ≡ 64 * j + (i + 2) = omega arith in
+    let fourth : 64 * j + i + 3 ≡ 64 * j + (i + 3) = omega arith in
+    rw (
+      second,
+      third,
+      fourth,
+      byte_of_block bytes j i (omega arith),
+      byte_of_block bytes j (i + 1) (omega arith),
+      byte_of_block bytes j (i + 2) (omega arith),
+      byte_of_block bytes j (i + 3) (omega arith),
+    ) refl
+
+-- one more of some rounds from round t on
+pub round_from : (b h v next : List ℕ) (t i sum : ℕ) → v ≡ rounds h (schedule b 48) (t + i) → sum ≡ sum_at b (t + i)
+    → ((k word : ℕ) → sum ≡ add32 word k → next ≡ round v k word) → next ≡ rounds h (schedule b 48) (t + (i + 1))
+round_from b h v next t i sum before is made =
+    round_more b h v next (t + i) sum before is made ∙ ap (rounds h (schedule b 48)) (omega arith)

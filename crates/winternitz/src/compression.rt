@@ -1,12 +1,12 @@
 //! The blocks of one message (FIPS 180-4 6.2.2): what their rounds add is made side by side, and the rounds follow.
 
-ghost use Rattle.std.specs.Prelude.{◌≡◌, ℕ, ◌+◌, ◌*◌, ◌<◌, ◌≤◌, [], List, drop, length, slice_index_or, take};
+ghost use Rattle.std.specs.Prelude.{◌≡◌, ℕ, ◌+◌, ◌<◌, ◌≤◌, List, length, slice_index};
 ghost use Rattle.sha2.specs.Sha256 as spec;
 ghost use Rattle.sha2.specs.Sha256.{add32, hash_after, rounds, schedule};
-ghost use Rattle.winternitz.specs.Lanes.{lanes};
+ghost use Rattle.winternitz.specs.Lanes.{lane_at, lanes};
 ghost use Rattle.winternitz.specs.inner.Sums.{HasSums};
 
-use crate::lanes::{LANES, Sums, block_at, fill_sums};
+use crate::lanes::{Sums, fill_sums};
 
 /// Eight blocks.
 pub(crate) const GROUP: usize = 512;
@@ -17,34 +17,23 @@ pub(crate) fn compress_blocks(state: &mut [u32; 8], sums: &mut Sums, bytes: &[u8
     requires count { count ≤ lanes }
     ensures { state.new ≡ hash_after state.old bytes.now count }
 {
-    fill_sums(sums, &blocks_of(bytes));
+    fill_sums(sums, bytes);
     for lane in 0..count {
-        *state = compress_lane(state, sums, lane);
+        compress_lane(state, sums, lane);
     }
 }
 
-// A block for each lane.
-fn blocks_of(bytes: &[u8]) -> [[u8; 64]; LANES]
-    requires { length bytes.now ≡ 512 }
-    ensures { (j : ℕ) → j < lanes → slice_index_or result j [] ≡ take 64 (drop (j * 64) bytes.now) }
-{
-    let mut blocks = [[0; 64]; LANES];
-    for lane in 0..LANES {
-        blocks[lane] = block_at(bytes, lane);
-    }
-    blocks
-}
-
-// The hash value after the block of a lane.
-fn compress_lane(state: &[u32; 8], sums: &Sums, lane: usize) -> [u32; 8]
+// The hash value after the block of a lane. It isn't inlined, so that registers are left for the working variables.
+#[inline(never)]
+fn compress_lane(state: &mut [u32; 8], sums: &Sums, lane: usize)
     requires { lane < lanes }
-    ensures { (b : List ℕ) → HasSums b lane sums.now 64 → result ≡ spec.compress state.now b }
+    ensures { (b : List ℕ) → HasSums b lane sums.now 64 → state.new ≡ spec.compress state.old b }
 {
     let mut working = *state;
     for turn in 0..8 {
-        working = eight_steps(sums, lane, working, 8 * turn);
+        working = eight_rounds(sums, lane, working, 8 * turn);
     }
-    [
+    *state = [
         state[0].wrapping_add(working[0]),
         state[1].wrapping_add(working[1]),
         state[2].wrapping_add(working[2]),
@@ -53,63 +42,62 @@ fn compress_lane(state: &[u32; 8], sums: &Sums, lane: usize) -> [u32; 8]
         state[5].wrapping_add(working[5]),
         state[6].wrapping_add(working[6]),
         state[7].wrapping_add(working[7]),
-    ]
+    ];
 }
 
 // Eight rounds, after which each working variable is in its register again.
 #[inline(always)]
-fn eight_steps(sums: &Sums, lane: usize, working: [u32; 8], t: usize) -> [u32; 8]
+fn eight_rounds(sums: &Sums, lane: usize, working: [u32; 8], t: usize) -> [u32; 8]
     requires lane { lane < lanes }
     requires rounds { t + 8 ≤ 64 }
     ensures { (b h : List ℕ) → HasSums b lane sums.now 64 → working ≡ rounds h (schedule b 48) t
         → result ≡ rounds h (schedule b 48) (t + 8) }
 {
-    let working = four_steps(sums, lane, working, t);
-    four_steps(sums, lane, working, t + 4)
+    let next = eight_sums(sums, lane, t);
+    let working = round(working, next[0]);
+    let working = round(working, next[1]);
+    let working = round(working, next[2]);
+    let working = round(working, next[3]);
+    let working = round(working, next[4]);
+    let working = round(working, next[5]);
+    let working = round(working, next[6]);
+    round(working, next[7])
 }
 
+// The sums of eight rounds, read before these. LLVM then adds each one early, where no round waits for it.
 #[inline(always)]
-fn four_steps(sums: &Sums, lane: usize, working: [u32; 8], t: usize) -> [u32; 8]
+fn eight_sums(sums: &Sums, lane: usize, t: usize) -> [u32; 8]
     requires lane { lane < lanes }
-    requires rounds { t + 4 ≤ 64 }
-    ensures { (b h : List ℕ) → HasSums b lane sums.now 64 → working ≡ rounds h (schedule b 48) t
-        → result ≡ rounds h (schedule b 48) (t + 4) }
+    requires rounds { t + 8 ≤ 64 }
+    ensures { (k : ℕ) → k < 8 → slice_index result k ≡ lane_at sums.now (t + k) lane }
 {
-    let working = step(sums, lane, working, t);
-    let working = step(sums, lane, working, t + 1);
-    let working = step(sums, lane, working, t + 2);
-    step(sums, lane, working, t + 3)
+    [
+        sums[t][lane],
+        sums[t + 1][lane],
+        sums[t + 2][lane],
+        sums[t + 3][lane],
+        sums[t + 4][lane],
+        sums[t + 5][lane],
+        sums[t + 6][lane],
+        sums[t + 7][lane],
+    ]
 }
 
-#[inline(always)]
-fn step(sums: &Sums, lane: usize, working: [u32; 8], t: usize) -> [u32; 8]
-    requires lane { lane < lanes }
-    requires rounds { t < 64 }
-    ensures { (b h : List ℕ) → HasSums b lane sums.now 64 → working ≡ rounds h (schedule b 48) t
-        → result ≡ rounds h (schedule b 48) (t + 1) }
-{
-    round(working, sums[t][lane])
-}
-
-// One round on the working variables a to h, with the sum of its word and its constant.
+// One round on the working variables a to h, with the sum of its word and its constant. Each round waits for the
+// `big_sigma1(e)` of the one before it, so this term is begun first, and added to the others last.
 #[inline(always)]
 fn round(working: [u32; 8], sum: u32) -> [u32; 8]
     ensures { (k word : ℕ) → sum ≡ add32 word k → result ≡ spec.round working k word }
 {
     let [a, b, c, d, e, f, g, h] = working;
-    let before = h.wrapping_add(big_sigma1(e)).wrapping_add(choice(e, f, g));
-    let temp1 = before.wrapping_add(sum);
-    let temp2 = big_sigma0(a).wrapping_add(majority(a, b, c));
-    [
-        temp1.wrapping_add(temp2),
-        a,
-        b,
-        c,
-        d.wrapping_add(temp1),
-        e,
-        f,
-        g,
-    ]
+    let sigma1 = big_sigma1(e);
+    let early = h.wrapping_add(sum).wrapping_add(choice(e, f, g));
+    let temp1 = early.wrapping_add(sigma1);
+    let fifth = d.wrapping_add(temp1);
+    let first = temp1
+        .wrapping_add(majority(a, b, c))
+        .wrapping_add(big_sigma0(a));
+    [first, a, b, c, fifth, e, f, g]
 }
 
 #[inline(always)]

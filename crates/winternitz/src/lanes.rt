@@ -19,7 +19,6 @@ mod sums;
 
 pub use crate::lanes::beginning::Beginning;
 pub(crate) use crate::lanes::constants::INITIAL;
-pub(crate) use crate::lanes::long::block_at;
 pub use crate::lanes::long::sha256_in_lanes;
 pub(crate) use crate::lanes::sums::{Sums, fill_sums};
 

@@ -1,7 +1,11 @@
 -- What the rounds add of blocks side by side: W[t] + K[t] (FIPS 180-4 6.2.2, steps 1 and 3).
-use Rattle.std.specs.Prelude.{◌≡◌, ℕ, ◌<◌, List, slice_index}
+use Rattle.std.specs.Prelude.{◌≡◌, ℕ, ◌*◌, ◌<◌, List, drop, slice_index, take}
 use Rattle.sha2.specs.Sha256.{IsWindow, add32, round_constants, schedule}
 use Rattle.winternitz.specs.Lanes.{lane, lane_at}
+
+-- block j of a list of blocks
+abbrev pub block_of : List ℕ → ℕ → List ℕ
+block_of bytes j = take 64 (drop (j * 64) bytes)
 
 -- W[t] + K[t] of block b
 abbrev pub sum_at : List ℕ → ℕ → ℕ

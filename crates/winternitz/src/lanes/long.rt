@@ -88,7 +88,7 @@ fn blocks_at<const N: usize>(messages: &[[u8; N]; LANES], k: usize) -> [[u8; 64]
     blocks
 }
 
-pub(crate) fn block_at(message: &[u8], k: usize) -> [u8; 64]
+fn block_at(message: &[u8], k: usize) -> [u8; 64]
     requires { (k + 1) * 64 ≤ length message.now }
     ensures { result ≡ take 64 (drop (k * 64) message.now) }
 {

@@ -8,7 +8,8 @@ loop-turn-init c = λ b sums. refl
 
 pub loop-turn-preserved : goal.loop-turn-preserved
 loop-turn-preserved c = λ b sums.
-    c.eight_steps-working.ensures b c.args.state.now sums (c.loop-turn.invariant b sums) ∙ ap (rounds c.args.state.now (schedule b 48)) (omega arith)
+    c.eight_rounds-working.ensures b c.args.state.now sums (c.loop-turn.invariant b sums)
+    ∙ ap (rounds c.args.state.now (schedule b 48)) (omega arith)
 
 pub returns : goal.returns
 unfolding compress
