@@ -296,13 +296,13 @@ at_words P [] all = all
 at_words P (word ∷ words) all = at_words (λ more. P (word ∷ more)) words (all word)
 
 -- these values request the task, whose line this is
-abbrev IsRead : App → List Text → Task → List Text → Type 0
-IsRead app words task values = requested app (held_after app values) ≡ Ok task → IsCommandLine words app.top.name values → IsLineOf words task
+abbrev IsParsed : App → List Text → Task → List Text → Type 0
+IsParsed app words task values = requested app (held_after app values) ≡ Ok task → IsCommandLine words app.top.name values → IsLineOf words task
 
 -- A line without a fault of a command with n values, and without options, is its name with n values.
 by_values : (app : App) (n : ℕ) → Command app n → all_ask (shape app).rules ≡ true
     → (word : Text) (names : List Text) (task : Task) → app.top.name ≡ name_of task → AreTexts (word ∷ names) → FindsTask (word ∷ names) task
-    → Over n (IsRead app (word ∷ names) task) → IsLineOf (word ∷ names) task
+    → Over n (IsParsed app (word ∷ names) task) → IsLineOf (word ∷ names) task
 by_values app n command asks word names task named (text, texts) (none, found) each =
     let s = shape app in
     let is = begins_with_name word names task text none found ∙ sym named in
@@ -310,16 +310,16 @@ by_values app n command asks word names task named (text, texts) (none, found) e
     let (values, long, given) = all_given s n 1 nothing_held names asks command.waits texts (none_of _ _ level) in
     let line : IsCommandLine (word ∷ names) app.top.name values = (names, ap (λ w. w ∷ names) is, given) in
     let finds = finds_values app values (subst (Command app) (sym long) command) (word ∷ names) line in
-    at_words (IsRead app (word ∷ names) task) values (subst (λ m. Over m (IsRead app (word ∷ names) task)) (sym long) each) (sym finds.1 ∙ found) line
+    at_words (IsParsed app (word ∷ names) task) values (subst (λ m. Over m (IsParsed app (word ∷ names) task)) (sym long) each) (sym finds.1 ∙ found) line
 
 -- The line of a command that gives n values, which the command takes.
 by_given : (app : App) (n : ℕ) (word : Text) (names values : List Text) (task : Task) → Enters app.top.name (shape app)
     → Takes (shape app) n 1 nothing_held → word ≡ app.top.name → FindsTask (word ∷ names) task → length values ≡ n → GivesValues names values
-    → Over n (IsRead app (word ∷ names) task) → IsLineOf (word ∷ names) task
+    → Over n (IsParsed app (word ∷ names) task) → IsLineOf (word ∷ names) task
 by_given app n word names values task enters takes is (none, found) long given each =
     let line : IsCommandLine (word ∷ names) app.top.name values = (names, ap (λ w. w ∷ names) is, given) in
     let finds = finds_taken app values enters (subst (λ m. Takes (shape app) m 1 nothing_held) (sym long) takes) (word ∷ names) line in
-    at_words (IsRead app (word ∷ names) task) values (subst (λ m. Over m (IsRead app (word ∷ names) task)) (sym long) each) (sym finds.1 ∙ found) line
+    at_words (IsParsed app (word ∷ names) task) values (subst (λ m. Over m (IsParsed app (word ∷ names) task)) (sym long) each) (sym finds.1 ∙ found) line
 
 of_list : (word : Text) (names : List Text) (file : Text) (public : Option Text) → AreTexts (word ∷ names)
     → FindsTask (word ∷ names) (list file public) → IsLineOf (word ∷ names) (list file public)

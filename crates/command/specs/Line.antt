@@ -17,9 +17,9 @@ use Rattle.state_file.specs.File.{most_records}
 use Rattle.command.specs.declared.usage_fault.UsageFault.{UsageFault}
 use Rattle.command.specs.declared.usage_fault.UsageFault.TheVariants as usage
 use Rattle.command.specs.declared.usage_fault.UsageFault.TheVariants.{Command, Number}
-use Rattle.command.specs.declared.line.Request.{Request}
-use Rattle.command.specs.declared.line.Request.TheVariants.{Make, Sign, Verify, Retire, Audit, AuditGiven}
-use Rattle.command.specs.declared.line.Request.TheVariants.{Serve, Migrate, ListState, Public}
+use Rattle.command.specs.declared.line.CommandLine.{CommandLine}
+use Rattle.command.specs.declared.line.CommandLine.TheVariants.{Make, Sign, Verify, Retire, Audit, AuditGiven}
+use Rattle.command.specs.declared.line.CommandLine.TheVariants.{Serve, Migrate, ListState, Public}
 use Rattle.command.specs.declared.answer.Done.{Done}
 use Rattle.command.specs.declared.refusal.Refusal.{Refusal}
 use Rattle.command.specs.Argument.{default_random}
@@ -98,7 +98,7 @@ pub data Task : Type 0 where
   list : (file : List ℕ) (public : Option (List ℕ)) → Task
   publish : (state public : List ℕ) → Task
 
-abbrev pub task_of : Request → Task
+abbrev pub task_of : CommandLine → Task
 task_of (Make words) = make words.state.now words.public.now words.spec.now words.version words.random.now
 task_of (Sign words) =
     sign words.state.now words.name.now words.message.now words.out.now words.random.now

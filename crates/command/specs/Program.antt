@@ -82,8 +82,8 @@ RefusesWord old new errors_old errors_new =
     × (errors_new ≡ errors_old)
 
 -- A line, or a name or spec of it, was refused.
-abbrev pub Refuses : Taken → Taken → Taken → Taken → Type 0
-Refuses old new errors_old errors_new =
+abbrev pub RefusesWords : Taken → Taken → Taken → Taken → Type 0
+RefusesWords old new errors_old errors_new =
     RefusesLine old new errors_old errors_new ⊎ RefusesWord old new errors_old errors_new
 
 -- The line begins with the word `serve`, so its output is for replies alone.

@@ -55,7 +55,7 @@ fn length_of<F: OffsetFile>(file: &mut F) -> Result<u64, DiskFault>
     file.len().map_err(|_| DiskFault::Failed)
 }
 
-fn fill_at<F: OffsetFile>(file: &mut F, at: u64, into: &mut [u8]) -> Result<(), DiskFault>
+fn read_whole_at<F: OffsetFile>(file: &mut F, at: u64, into: &mut [u8]) -> Result<(), DiskFault>
     requires { 0 < length into.old }
     ensures { DiskReads F.OffsetFile at into.new result file.old file.new }
 {
@@ -193,7 +193,7 @@ impl<F: OffsetFile> Disk for FileDisk<F> {
         ensures call { CallsDisk (honest_of F.OffsetFile) (state_of F.OffsetFile) (moment_of F.OffsetFile)
             (left_since_of F.OffsetFile) failures_of self.old self.new result }
     {
-        let answer = fill_at(&mut self.file, at, into);
+        let answer = read_whole_at(&mut self.file, at, into);
         counted_refusal(answer, &mut self.failures, &mut self.past_ends)
     }
 

@@ -199,7 +199,7 @@ pub fn read_key<D: Folder>(
     ensures content { KeepsContents (D.content folder.old) (D.content folder.new) }
 {
     let mut bytes = [0; 69];
-    let n = fill(folder, file, &mut bytes)?;
+    let n = read_into(folder, file, &mut bytes)?;
     if n < bytes.len() {
         return Ok(AnyPublic::read(&bytes[..n]));
     }
@@ -317,15 +317,15 @@ fn read_piece<D: Folder, const N: usize>(
     ensures content { KeepsContents (D.content folder.old) (D.content folder.new) }
 {
     let mut piece = [0; N];
-    let n = fill(folder, file, &mut piece)?;
-    if keep(bytes, &piece[..n]).is_err() {
+    let n = read_into(folder, file, &mut piece)?;
+    if append(bytes, &piece[..n]).is_err() {
         return Err(Refusal::OutOfMemory);
     }
     Ok(n)
 }
 
 // Appends bytes. No bytes take no memory.
-fn keep(bytes: &mut Vec<u8>, more: &[u8]) -> Result<(), AllocError>
+fn append(bytes: &mut Vec<u8>, more: &[u8]) -> Result<(), AllocError>
     ensures kept { IfOk result (λ _. bytes.new.items ≡ bytes.old.items ++ more.now) }
     ensures refused { IfErr result (λ _. 1 ≤ length more.now) }
 {
@@ -351,7 +351,7 @@ impl PieceTaker for Kept {
     ghost refuses = { λ _ piece _ _. 1 ≤ length piece };
 
     fn take_piece(&mut self, piece: &[u8]) -> Result<(), AllocError> {
-        keep(&mut self.bytes, piece)
+        append(&mut self.bytes, piece)
     }
 
     ghost takes_nothing = { λ state. sym (append-nil state.bytes.items) };
@@ -416,7 +416,11 @@ fn read_rest<D: Folder, T: PieceTaker>(
 }
 
 /// Reads until the buffer is full or the file ends, and gives the number of bytes.
-pub fn fill<D: Folder>(folder: &mut D, file: &mut D::File, buffer: &mut [u8]) -> io::Result<usize>
+pub fn read_into<D: Folder>(
+    folder: &mut D,
+    file: &mut D::File,
+    buffer: &mut [u8],
+) -> io::Result<usize>
     ensures within { IfOk result (λ n. n ≤ length buffer.new) }
     ensures bytes { IfOk result (λ n.
         Consumes (D.File.remaining file.old) (D.File.remaining file.new) (take n buffer.new)) }

@@ -36,7 +36,7 @@ use typecodes::{Count, Message};
 
 /// What a line requests.
 #[derive(Debug, Drop)]
-pub enum Request<'a> {
+pub enum CommandLine<'a> {
     /// To make a key.
     Make(Make<'a>),
     /// To sign a message.
@@ -59,7 +59,7 @@ pub enum Request<'a> {
     Public(Public<'a>),
 }
 
-impl<'a> Request<'a> {
+impl<'a> CommandLine<'a> {
     ghost use Rattle.command.specs.Files.{files_seen};
     ghost use Rattle.command.specs.Line.{task_of};
     ghost use Rattle.command.specs.Notes.{NotesAnswer};
@@ -94,25 +94,35 @@ impl<'a> Request<'a> {
             (N.told notes.old) (N.told notes.new) result }
     {
         match self {
-            Request::Make(words) => {
+            CommandLine::Make(words) => {
                 let answer = words.answer(alloc, folder, progress);
                 report(&answer, words.spec, output, notes)
             }
-            Request::Sign(words) => {
+            CommandLine::Sign(words) => {
                 let answer = words.answer(alloc, folder, progress);
                 report(&answer, words.name, output, notes)
             }
-            Request::Verify(files) => report(&files.answer(folder), "", output, notes),
-            Request::Retire(words) => report(&words.answer(alloc, folder), "", output, notes),
-            Request::Audit(words) => report(&words.answer(alloc, folder), "", output, notes),
-            Request::AuditGiven(words) => report(&words.answer(alloc, folder), "", output, notes),
-            Request::Serve(words) => {
+            CommandLine::Verify(files) => report(&files.answer(folder), "", output, notes),
+            CommandLine::Retire(words) => report(&words.answer(alloc, folder), "", output, notes),
+            CommandLine::Audit(words) => report(&words.answer(alloc, folder), "", output, notes),
+            CommandLine::AuditGiven(words) => report(
+                &words.answer(alloc, folder),
+                "",
+                output,
+                notes,
+            ),
+            CommandLine::Serve(words) => {
                 let served = words.answer(alloc, folder, input, output, progress);
                 report_serving(&served, errors, notes)
             }
-            Request::Migrate(words) => report(&words.answer(alloc, folder), "", output, notes),
-            Request::ListState(words) => report(&words.answer(alloc, folder), "", output, notes),
-            Request::Public(words) => report(&words.answer(alloc, folder), "", output, notes),
+            CommandLine::Migrate(words) => report(&words.answer(alloc, folder), "", output, notes),
+            CommandLine::ListState(words) => report(
+                &words.answer(alloc, folder),
+                "",
+                output,
+                notes,
+            ),
+            CommandLine::Public(words) => report(&words.answer(alloc, folder), "", output, notes),
         }
     }
 }
@@ -171,7 +181,7 @@ pub trait LineReader {
     /// No contract says that 46 comes only where `clap`, or the list of `audit-given`'s files, was refused memory. The
     /// specification of `clap` alone says which words options take, and where these may stand. `help` before another
     /// word may be refused, or answered with help.
-    fn read<'a, S: AsStr>(&mut self, words: &'a [S]) -> Result<Request<'a>, LineFault>
+    fn read<'a, S: AsStr>(&mut self, words: &'a [S]) -> Result<CommandLine<'a>, LineFault>
         ensures requests { (task : LineTask) → IsLineOf (map S.text words.now) task
             → MatchResult result (λ request. task_of request ≡ task) (λ fault. fault ≡ LineFault.OutOfMemory) }
         ensures shown { (task : LineTask) → IsShownLineOf (map S.text words.now) task
@@ -214,7 +224,7 @@ impl LineReader for ClapReader {
 
     ghost refusals = { refusals_of };
 
-    fn read<'a, S: AsStr>(&mut self, words: &'a [S]) -> Result<Request<'a>, LineFault> {
+    fn read<'a, S: AsStr>(&mut self, words: &'a [S]) -> Result<CommandLine<'a>, LineFault> {
         // For the prover: this use bounds the number of words.
         let _ = words.len();
         match read(self.alloc, words) {
@@ -228,7 +238,7 @@ impl LineReader for ClapReader {
     }
 }
 
-fn read<'a, S: AsStr>(alloc: Global, words: &'a [S]) -> Result<Request<'a>, Error>
+fn read<'a, S: AsStr>(alloc: Global, words: &'a [S]) -> Result<CommandLine<'a>, Error>
     ensures ok { IfOk result (λ _. fault_of hbsign_app (map S.text words.now) ≡ []) }
     ensures found { IfOk result (λ request.
         task_found (subcommand_of hbsign_app (map S.text words.now)) ≡ Ok (task_of request)) }
@@ -289,7 +299,7 @@ fn bare_hbsign<'a>(alloc: Global) -> Result<Command<'a>, AllocError>
 fn find_request<'a>(
     alloc: Global,
     matches: &ArgMatches<'a>,
-) -> Result<Result<Request<'a>, UsageFault>, AllocError>
+) -> Result<Result<CommandLine<'a>, UsageFault>, AllocError>
     ensures { IfOk result (λ found. task_or_fault found ≡ task_found (subcommand_rows_of matches.now)) }
 {
     let Some((name, words)) = matches.subcommand() else {
@@ -297,7 +307,7 @@ fn find_request<'a>(
     };
     match name {
         AuditGiven::NAME => match AuditGiven::of(alloc, words)? {
-            Ok(words) => Ok(Ok(Request::AuditGiven(words))),
+            Ok(words) => Ok(Ok(CommandLine::AuditGiven(words))),
             Err(fault) => Ok(Err(fault)),
         },
         _ => Ok(find_fixed_request(name, words)),
@@ -305,44 +315,44 @@ fn find_request<'a>(
 }
 
 // The request of a subcommand with a fixed number of values.
-fn find_fixed_request<'a>(name: &str, words: &ArgMatches<'a>) -> Result<Request<'a>, UsageFault>
+fn find_fixed_request<'a>(name: &str, words: &ArgMatches<'a>) -> Result<CommandLine<'a>, UsageFault>
     ensures { task_or_fault result ≡ fixed_task_named name.now (first_value (found_of words.now)) }
 {
     match name {
         Make::NAME => match Make::of(words) {
-            Ok(words) => Ok(Request::Make(words)),
+            Ok(words) => Ok(CommandLine::Make(words)),
             Err(fault) => Err(fault),
         },
         Sign::NAME => match Sign::of(words) {
-            Some(words) => Ok(Request::Sign(words)),
+            Some(words) => Ok(CommandLine::Sign(words)),
             None => Err(UsageFault::Command),
         },
         Verify::NAME => match Verify::of(words) {
-            Some(files) => Ok(Request::Verify(files)),
+            Some(files) => Ok(CommandLine::Verify(files)),
             None => Err(UsageFault::Command),
         },
         Retire::NAME => match Retire::of(words) {
-            Ok(words) => Ok(Request::Retire(words)),
+            Ok(words) => Ok(CommandLine::Retire(words)),
             Err(fault) => Err(fault),
         },
         Audit::NAME => match Audit::of(words) {
-            Ok(words) => Ok(Request::Audit(words)),
+            Ok(words) => Ok(CommandLine::Audit(words)),
             Err(fault) => Err(fault),
         },
         Serve::NAME => match Serve::of(words) {
-            Some(words) => Ok(Request::Serve(words)),
+            Some(words) => Ok(CommandLine::Serve(words)),
             None => Err(UsageFault::Command),
         },
         Migrate::NAME => match Migrate::of(words) {
-            Some(words) => Ok(Request::Migrate(words)),
+            Some(words) => Ok(CommandLine::Migrate(words)),
             None => Err(UsageFault::Command),
         },
         ListState::NAME => match ListState::of(words) {
-            Some(words) => Ok(Request::ListState(words)),
+            Some(words) => Ok(CommandLine::ListState(words)),
             None => Err(UsageFault::Command),
         },
         Public::NAME => match Public::of(words) {
-            Some(words) => Ok(Request::Public(words)),
+            Some(words) => Ok(CommandLine::Public(words)),
             None => Err(UsageFault::Command),
         },
         _ => Err(UsageFault::Command),

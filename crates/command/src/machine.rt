@@ -84,12 +84,12 @@ impl<'a, R: Files<File = File>> Machine<'a, R> {
         ensures err { IfErr result (λ refusal. refusal ≡ Refusal.FileFailed) }
     {
         let standard = self.standard;
-        let file = standard.told(path, "can't be opened", fs::open(&self.rt, path))?;
-        let found = standard.told(path, "can't be opened", file.metadata())?;
+        let file = standard.checked(path, "can't be opened", fs::open(&self.rt, path))?;
+        let found = standard.checked(path, "can't be opened", file.metadata())?;
         // Bytes of a key, drawn as random, would be handed out with signatures.
         if role == Role::Random && found.is_file() {
-            if standard.told(path, "can't be read", has_key(&file))? {
-                standard.tell_reason(path, "isn't read as random bytes", "it holds a key");
+            if standard.checked(path, "can't be read", has_key(&file))? {
+                standard.say_why(path, "isn't read as random bytes", "it holds a key");
                 return Err(Refusal::FileFailed);
             }
         }
@@ -117,11 +117,11 @@ impl<'a, R: Files<File = File>> Machine<'a, R> {
                 } else {
                     "it is a file of this line"
                 };
-                self.standard.tell_reason(path, "isn't written", reason);
+                self.standard.say_why(path, "isn't written", reason);
             }
             Err(NotReplaced::HasKey) => {
                 self.standard
-                    .tell_reason(path, "isn't written", "it holds a key");
+                    .say_why(path, "isn't written", "it holds a key");
             }
             // Standard error says so already.
             Err(NotReplaced::Failed) => {}
@@ -149,7 +149,7 @@ impl<'a, R: Files<File = File>> Folder for Machine<'a, R> {
     ghost content = { λ _ _. None };
 
     fn read(&mut self, file: &mut MachineFile<'a>, buffer: &mut [u8]) -> io::Result<usize> {
-        let answer = file.read_told(buffer);
+        let answer = file.read_checked(buffer);
         self.trace.note_read(file.role, answer, buffer)
     }
 }

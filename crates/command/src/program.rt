@@ -5,7 +5,8 @@ ghost use Rattle.command.specs.Files.{files_seen};
 ghost use Rattle.command.specs.Line.{AreTexts, IsLineOf, Task as LineTask};
 ghost use Rattle.command.specs.LineFault.{HasText, line_faults};
 ghost use Rattle.command.specs.Program.{AsksToServe, Explains, HasRepliesAlone, Helps, KeepsErrorsUnlessServing};
-ghost use Rattle.command.specs.Program.{MayReportServing, Refuses, RefusesLine, ReportsOutOfMemory, Runs, RunsTask};
+ghost use Rattle.command.specs.Program.{MayReportServing, RefusesLine, RefusesWords, ReportsOutOfMemory, Runs};
+ghost use Rattle.command.specs.Program.{RunsTask};
 ghost use Rattle.command.specs.Program.{Says, begins_with_serve};
 ghost use Rattle.command.specs.Notes.{NotesAnswer, NotesOutput, NotesRun};
 ghost use Rattle.command.specs.Output.{Fails, WritesText, text_of};
@@ -76,7 +77,7 @@ where
         (streams input.new output.new (taken E.contents E.failures errors.new)) }
     ensures input { (input.new ≡ input.old) ⊎ AsksToServe (map S.text words.now) }
     ensures opens_none { line_faults (map S.text words.now) ≢ [] → D.trace folder.new ≡ D.trace folder.old }
-    ensures refuses { result ≡ 2 → Refuses (taken O.contents O.failures output.old)
+    ensures refuses { result ≡ 2 → RefusesWords (taken O.contents O.failures output.old)
         (taken O.contents O.failures output.new)
         (taken E.contents E.failures errors.old) (taken E.contents E.failures errors.new) }
     ensures silent { result ≢ 2 → (taken E.contents E.failures errors.new ≡ taken E.contents E.failures errors.old)

@@ -132,16 +132,16 @@ impl Standard {
     }
 
     /// Says on standard error what was tried with the file of this path, and the system's reason why it failed.
-    pub fn tell(&self, path: &str, tried: &str, error: &io::Error) {
+    pub fn say_failed(&self, path: &str, tried: &str, error: &io::Error) {
         let mut text = ArrayString::<256>::new();
         let _ = write!(text, "{error}");
         // Without the number of the error.
         let reason = text.as_str().split(" (os error").next();
-        self.tell_reason(path, tried, reason.unwrap_or(""));
+        self.say_why(path, tried, reason.unwrap_or(""));
     }
 
     /// As `tell`, for a reason of this program's own.
-    pub fn tell_reason(&self, path: &str, tried: &str, reason: &str) {
+    pub fn say_why(&self, path: &str, tried: &str, reason: &str) {
         let mut line = self.line();
         let _ = write!(line, "hbsign: {}: {tried}: {reason}\n", Escaped(path));
         let _ = line.pass_on();
@@ -183,7 +183,7 @@ impl Standard {
     pub fn warn_behind(&self, path: &str, slot: u32) {
         let mut found = ArrayString::<64>::new();
         let _ = write!(found, "bytes stand behind the last record (slot {slot})");
-        self.tell_reason(
+        self.say_why(
             path,
             found.as_str(),
             "the file seems cut short or damaged; don't sign, compare it with an anchor",
@@ -191,13 +191,13 @@ impl Standard {
     }
 
     /// The answer of a call of the system on the file of this path. Standard error says why it failed (53).
-    pub fn told<T>(&self, path: &str, tried: &str, answer: io::Result<T>) -> Result<T, Refusal>
+    pub fn checked<T>(&self, path: &str, tried: &str, answer: io::Result<T>) -> Result<T, Refusal>
         ensures { IfErr result (λ refusal. refusal ≡ Refusal.FileFailed) }
     {
         match answer {
             Ok(value) => Ok(value),
             Err(error) => {
-                self.tell(path, tried, &error);
+                self.say_failed(path, tried, &error);
                 Err(Refusal::FileFailed)
             }
         }
@@ -223,7 +223,7 @@ impl Standard {
         } else {
             "it is the standard error"
         };
-        self.tell_reason(path, "can't be opened", reason);
+        self.say_why(path, "can't be opened", reason);
         Err(Refusal::FileFailed)
     }
 }
@@ -249,7 +249,8 @@ impl<R: Read> Read for Input<'_, R> {
     fn read(&mut self, buffer: &mut [u8]) -> io::Result<usize> {
         let answer = self.reader.read(buffer);
         if let Err(error) = &answer {
-            self.standard.tell("standard input", "can't be read", error);
+            self.standard
+                .say_failed("standard input", "can't be read", error);
         }
         answer
     }

@@ -109,7 +109,7 @@ impl<'a> StateFile<'a, SystemFile> {
             made => StateFile::lock(
                 standard,
                 path,
-                standard.told(path, "can't be opened", made)?,
+                standard.checked(path, "can't be opened", made)?,
                 Access::ReadAndWrite,
             )?,
         };
@@ -127,7 +127,7 @@ impl<'a> StateFile<'a, SystemFile> {
     ) -> Result<Self, Refusal>
         ensures { OpensUnlocked path.now result }
     {
-        let found = standard.told(path, "can't be opened", file.metadata())?;
+        let found = standard.checked(path, "can't be opened", file.metadata())?;
         if !found.is_file() {
             return Err(not_regular(standard, path));
         }
@@ -157,7 +157,7 @@ impl<'a> StateFile<'a, SystemFile> {
         match state.file.file.try_lock() {
             Ok(()) => Ok(state.locked()),
             Err(TryLockError::WouldBlock) => {
-                standard.tell_reason(
+                standard.say_why(
                     path,
                     "can't be locked",
                     "it is locked already, by another process or by this one",
@@ -165,7 +165,7 @@ impl<'a> StateFile<'a, SystemFile> {
                 Err(Refusal::Locked)
             }
             Err(TryLockError::Error(error)) => {
-                standard.tell(path, "can't be locked", &error);
+                standard.say_failed(path, "can't be locked", &error);
                 Err(Refusal::FileFailed)
             }
         }
@@ -182,14 +182,15 @@ impl<'a> StateFile<'a, SystemFile> {
             .file
             .file
             .set_permissions(Permissions::from_mode(PRIVATE));
-        self.standard.told(self.path, "its mode can't be set", set)
+        self.standard
+            .checked(self.path, "its mode can't be set", set)
     }
 
     // Whether it is shorter than a key, or its first gate is closed. A key also can't replace more than 257 bytes.
     fn may_take(&self, content: NewContent) -> Result<bool, Refusal>
         ensures { IfErr result (λ refusal. refusal ≡ Refusal.FileFailed) }
     {
-        let found = self.standard.told(
+        let found = self.standard.checked(
             self.path,
             "its length can't be read",
             self.file.file.metadata(),
@@ -201,7 +202,7 @@ impl<'a> StateFile<'a, SystemFile> {
             return Ok(false);
         }
         let mut gate = [0; 1];
-        self.standard.told(
+        self.standard.checked(
             self.path,
             "can't be read",
             self.file.file.read_at(&mut gate, 0),
@@ -237,11 +238,11 @@ impl<F> StateFile<'_, F> {
     }
 
     // Returns the answer. Standard error says what failed.
-    fn told<T>(&self, tried: &str, answer: io::Result<T>) -> io::Result<T>
+    fn checked<T>(&self, tried: &str, answer: io::Result<T>) -> io::Result<T>
         ensures { result ≡ answer }
     {
         if let Err(error) = &answer {
-            self.standard.tell(self.path, tried, error);
+            self.standard.say_failed(self.path, tried, error);
         }
         answer
     }
@@ -290,7 +291,7 @@ fn open_regular<R: Files<File = File>>(
     ensures { IfErr result (λ refusal. refusal ≡ Refusal.FileFailed) }
 {
     // Checked before opening, too: opening a device may do something.
-    let found = standard.told(path, "can't be opened", fs::metadata(rt, path))?;
+    let found = standard.checked(path, "can't be opened", fs::metadata(rt, path))?;
     if !found.is_file() {
         return Err(not_regular(standard, path));
     }
@@ -298,13 +299,13 @@ fn open_regular<R: Files<File = File>>(
         .read(true)
         .write(access == Access::ReadAndWrite)
         .open(rt, path);
-    standard.told(path, "can't be opened", opened)
+    standard.checked(path, "can't be opened", opened)
 }
 
 fn not_regular(standard: &Standard, path: &str) -> Refusal
     ensures { result ≡ Refusal.FileFailed }
 {
-    standard.tell_reason(path, "can't be opened", "it isn't a regular file");
+    standard.say_why(path, "can't be opened", "it isn't a regular file");
     Refusal::FileFailed
 }
 
@@ -362,7 +363,7 @@ impl<F: FileCalls> OffsetFile for StateFile<'_, F> {
 
     fn len(&mut self) -> io::Result<u64> {
         let answer = self.file.len();
-        let answer = self.told("its length can't be read", answer);
+        let answer = self.checked("its length can't be read", answer);
         if let Ok(length) = &answer {
             self.length = *length;
         }
@@ -376,10 +377,10 @@ impl<F: FileCalls> OffsetFile for StateFile<'_, F> {
         } else {
             read_unlocked(&mut self.file, self.length, at, into)
         };
-        let answer = self.told("can't be read", answer);
+        let answer = self.checked("can't be read", answer);
         let size = into.len();
         if let Ok(0) = &answer {
-            self.standard.tell_reason(
+            self.standard.say_why(
                 self.path,
                 "can't be read",
                 "it ended before the bytes that are wanted",
@@ -394,10 +395,10 @@ impl<F: FileCalls> OffsetFile for StateFile<'_, F> {
 
     fn write_at(&mut self, at: u64, bytes: &[u8]) -> io::Result<usize> {
         let answer = self.file.write_at(at, bytes);
-        let answer = self.told("can't be written", answer);
+        let answer = self.checked("can't be written", answer);
         if let Ok(0) = &answer {
             self.standard
-                .tell_reason(self.path, "can't be written", "no byte was taken");
+                .say_why(self.path, "can't be written", "no byte was taken");
         }
         let taken = match &answer {
             Ok(n) => Ok(&bytes[..*n]),
@@ -409,7 +410,7 @@ impl<F: FileCalls> OffsetFile for StateFile<'_, F> {
 
     fn sync(&mut self) -> io::Result<()> {
         let answer = self.file.sync();
-        let answer = self.told("can't be synced", answer);
+        let answer = self.checked("can't be synced", answer);
         self.trace.note(&Event::Synced(kind_kept(&answer)));
         answer
     }
@@ -423,8 +424,8 @@ fn sync_folder<R: Files<File = File>>(
     ensures { IfErr result (λ refusal. refusal ≡ Refusal.FileFailed) }
 {
     let folder = folder_of(path);
-    let opened = standard.told(folder, "can't be opened", File::open(rt, folder))?;
-    standard.told(folder, "can't be synced", opened.sync_all())
+    let opened = standard.checked(folder, "can't be opened", File::open(rt, folder))?;
+    standard.checked(folder, "can't be synced", opened.sync_all())
 }
 
 fn folder_of(path: &str) -> &str {

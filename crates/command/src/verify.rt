@@ -132,7 +132,7 @@ fn judge_files<D: Folder>(
 {
     let key = files::read_key(folder, public)?;
     let mut bytes = [0; DECISIVE];
-    let n = files::fill(folder, signature, &mut bytes)?;
+    let n = files::read_into(folder, signature, &mut bytes)?;
     let mut message = FileReader {
         folder,
         file: message,

@@ -27,7 +27,7 @@ impl OpenFile for MachineFile<'_> {
 
 impl MachineFile<'_> {
     // As `read`, whose contract doesn't say that the role stays.
-    pub(super) fn read_told(&mut self, buffer: &mut [u8]) -> io::Result<usize>
+    pub(super) fn read_checked(&mut self, buffer: &mut [u8]) -> io::Result<usize>
         ensures bound { ReadsAtMost result buffer.new }
         ensures role { self.new.role ≡ self.old.role }
     {
@@ -36,11 +36,10 @@ impl MachineFile<'_> {
             // Nobody looks for the end of random bytes, so it is a failure.
             Ok(0) if self.role == Role::Random => {
                 let reason = "it ended before the bytes that are wanted";
-                self.standard
-                    .tell_reason(self.path, "can't be read", reason);
+                self.standard.say_why(self.path, "can't be read", reason);
             }
             Ok(_) => {}
-            Err(error) => self.standard.tell(self.path, "can't be read", error),
+            Err(error) => self.standard.say_failed(self.path, "can't be read", error),
         }
         answer
     }
@@ -50,6 +49,6 @@ impl Read for MachineFile<'_> {
     ghost remaining = { λ _. None };
 
     fn read(&mut self, buffer: &mut [u8]) -> io::Result<usize> {
-        self.read_told(buffer)
+        self.read_checked(buffer)
     }
 }

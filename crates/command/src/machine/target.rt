@@ -29,8 +29,8 @@ impl<'a, R: Files<File = File>> MachineTarget<'a, R> {
         ensures { IfErr result (λ refusal. refusal ≡ Refusal.FileFailed) }
     {
         let opened = OpenOptions::new().write(true).create(true).open(rt, path);
-        let file = standard.told(path, "can't be opened", opened)?;
-        let found = standard.told(path, "can't be opened", file.metadata())?;
+        let file = standard.checked(path, "can't be opened", opened)?;
+        let found = standard.checked(path, "can't be opened", file.metadata())?;
         Ok(MachineTarget {
             rt,
             standard,
@@ -51,7 +51,7 @@ impl<'a, R: Files<File = File>> MachineTarget<'a, R> {
             return Ok(true);
         }
         if let Err(TryLockError::WouldBlock) = locked {
-            self.standard.tell_reason(self.path, "isn't written", "another process has locked it");
+            self.standard.say_why(self.path, "isn't written", "another process has locked it");
             return Err(Refusal::FileFailed);
         }
         Ok(false)
@@ -61,19 +61,19 @@ impl<'a, R: Files<File = File>> MachineTarget<'a, R> {
     fn begins_as_a_state_file(&self) -> Result<bool, Refusal> {
         let found = self
             .standard
-            .told(self.path, "can't be opened", self.file.metadata())?;
+            .checked(self.path, "can't be opened", self.file.metadata())?;
         if found.len() == 0 {
             return Ok(false);
         }
         let opened = fs::open(self.rt, self.path);
         let file = self
             .standard
-            .told(self.path, "can't be opened to be read", opened)?;
+            .checked(self.path, "can't be opened to be read", opened)?;
         let again = self
             .standard
-            .told(self.path, "can't be opened to be read", file.metadata())?;
+            .checked(self.path, "can't be opened to be read", file.metadata())?;
         if FileId::of(&again) != self.id {
-            self.standard.tell_reason(
+            self.standard.say_why(
                 self.path,
                 "isn't written",
                 "another file came to stand there",
@@ -81,7 +81,7 @@ impl<'a, R: Files<File = File>> MachineTarget<'a, R> {
             return Err(Refusal::FileFailed);
         }
         self.standard
-            .told(self.path, "can't be read", has_key(&file))
+            .checked(self.path, "can't be read", has_key(&file))
     }
 }
 
@@ -112,7 +112,7 @@ impl<R: Files<File = File>> Target for MachineTarget<'_, R> {
     fn cut(&mut self) -> Result<(), Refusal> {
         let answer = self
             .standard
-            .told(self.path, "can't be cut", self.file.set_len(0));
+            .checked(self.path, "can't be cut", self.file.set_len(0));
         self.trace.note(&match answer {
             Ok(()) => Event::Cut,
             Err(_) => Event::NotCut,
@@ -122,7 +122,9 @@ impl<R: Files<File = File>> Target for MachineTarget<'_, R> {
 
     fn write_all(&mut self, bytes: &[u8]) -> Result<(), Refusal> {
         let written = typecodes::write_all(&mut self.file, bytes);
-        let answer = self.standard.told(self.path, "can't be written", written);
+        let answer = self
+            .standard
+            .checked(self.path, "can't be written", written);
         self.trace.note(&match answer {
             Ok(()) => Event::Wrote(bytes),
             Err(_) => Event::NotWrote,

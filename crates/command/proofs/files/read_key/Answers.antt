@@ -6,8 +6,8 @@ use Rattle.command.proofs.files.read_key.Goals as goal
 
 pub returns-then-n-lt69-clause-reads : goal.returns-then-n-lt69-clause-reads
 returns-then-n-lt69-clause-reads g c =
-    let bytes = take c.in_ok-n.n c.fill.new.buffer in
-    let size = length-take-le c.in_ok-n.n c.fill.new.buffer c.in_ok-n.ensures.within in (
+    let bytes = take c.in_ok-n.n c.read_into.new.buffer in
+    let size = length-take-le c.in_ok-n.n c.read_into.new.buffer c.in_ok-n.ensures.within in (
       bytes,
       content_at_end _ _ bytes c.in_ok-n.ensures.bytes (c.in_ok-n.ensures.end (omega arith)),
       reads_key bytes c.read.result c.read.ensures.ok c.read.ensures.err,
@@ -16,27 +16,27 @@ returns-then-n-lt69-clause-reads g c =
 
 pub returns-in_err-length-clause-reads : goal.returns-in_err-length-clause-reads
 returns-in_err-length-clause-reads g c =
-    let bytes = take c.in_ok-n.n c.fill.new.buffer in
-    let size = length-take-le c.in_ok-n.n c.fill.new.buffer c.in_ok-n.ensures.within in
+    let bytes = take c.in_ok-n.n c.read_into.new.buffer in
+    let size = length-take-le c.in_ok-n.n c.read_into.new.buffer c.in_ok-n.ensures.within in
     let first = fills_whole _ _ bytes _ _ c.in_ok-n.ensures.trace (omega (arith, size)) in
     reads_err _ _ _ c.from_residual-in_err-length.result c.in_err-length.field-0.0 _ _ c.from_residual-in_err-length.ensures.1
-    (fails_later _ _ bytes _ _ _ _ first c.fill.ensures.role c.in_err-length.ensures.counts)
+    (fails_later _ _ bytes _ _ _ _ first c.read_into.ensures.role c.in_err-length.ensures.counts)
 
 pub returns-clause-reads : goal.returns-clause-reads
 returns-clause-reads g c =
-    let bytes = take c.in_ok-n.n c.fill.new.buffer in
-    let size = length-take-le c.in_ok-n.n c.fill.new.buffer c.in_ok-n.ensures.within in
+    let bytes = take c.in_ok-n.n c.read_into.new.buffer in
+    let size = length-take-le c.in_ok-n.n c.read_into.new.buffer c.in_ok-n.ensures.within in
     let first = fills_whole _ _ bytes _ _ c.in_ok-n.ensures.trace (omega (arith, size)) in
     let (rest, fits, counted, reads) = c.in_ok-length.ensures.counts in
     let all : c.in_ok-n.n + c.in_ok-length.field-0 ≡ length (bytes ++ rest) = omega (arith, counted, length-append bytes rest, size) in (
       bytes ++ rest,
       content_after _ _ bytes rest c.in_ok-n.ensures.bytes fits,
       (all, (λ e. omega (arith, e)), (λ e. omega (arith, e)), (λ e. omega (arith, e))),
-      reads_rest _ _ bytes rest _ _ _ first c.fill.ensures.role reads,
+      reads_rest _ _ bytes rest _ _ _ first c.read_into.ensures.role reads,
     )
 
 pub returns-in_err-length-clause-content : goal.returns-in_err-length-clause-content
-returns-in_err-length-clause-content g c = λ path. c.in_err-length.ensures.content path ∙ c.fill.ensures.content path
+returns-in_err-length-clause-content g c = λ path. c.in_err-length.ensures.content path ∙ c.read_into.ensures.content path
 
 pub returns-clause-content : goal.returns-clause-content
-returns-clause-content g c = λ path. c.in_ok-length.ensures.content path ∙ c.fill.ensures.content path
+returns-clause-content g c = λ path. c.in_ok-length.ensures.content path ∙ c.read_into.ensures.content path

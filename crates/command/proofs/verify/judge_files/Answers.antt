@@ -15,7 +15,7 @@ returns-in_err-n-clause-answers g c = failed_read _ _ _ (error_kind c.in_err-n.f
 
 pub returns-clause-answers : goal.returns-clause-answers
 returns-clause-answers g c =
-    let buffer = c.fill.new.buffer in
+    let buffer = c.read_into.new.buffer in
     let size : length buffer ≡ 74989 = search rules in
     let (p, p_fits, reads, p_reads) = c.in_ok-key.ensures.reads in
     let (s, s_fits, s_is) = first_of 74989 c.in_ok-n.n _ _ buffer size c.in_ok-n.ensures.within c.in_ok-n.ensures.bytes c.in_ok-n.ensures.end in
@@ -24,7 +24,7 @@ returns-clause-answers g c =
 
 pub returns-clause-order : goal.returns-clause-order
 returns-clause-order g c =
-    let buffer = c.fill.new.buffer in
+    let buffer = c.read_into.new.buffer in
     let size : length buffer ≡ 74989 = search rules in
     let s = take c.in_ok-n.n buffer in
     let (p, p_fits, reads, p_reads) = c.in_ok-key.ensures.reads in
@@ -33,4 +33,4 @@ returns-clause-order g c =
     let folder = message-stays _ _ (λ reader. reader.folder.ghost_name) (λ old outcome new step. step.0) _ _ _ _ _ leaves in
     let message = noted-message _ _ (λ reader. g.D.File.OpenFile.role reader.file.now) (λ reader. g.D.Traced.trace reader.folder.now)
     (record { role = λ old outcome new step. step.2; trace = λ old outcome new step. step.3 }) _ _ _ _ _ leaves in
-    inr (inr (p, s, g.D.Traced.trace c.read_key.new.folder, g.D.Traced.trace c.fill.new.folder, p_reads, fills, (m, judged, search rules)))
+    inr (inr (p, s, g.D.Traced.trace c.read_key.new.folder, g.D.Traced.trace c.read_into.new.folder, p_reads, fills, (m, judged, search rules)))

@@ -1,5 +1,5 @@
 use Rattle.std.proofs.Common.{inl, refl}
-use Rattle.command.proofs.line.Request.fulfil.Goals as goal
+use Rattle.command.proofs.line.CommandLine.fulfil.Goals as goal
 
 pub returns-in-Sign-clause-notes : goal.returns-in-Sign-clause-notes
 returns-in-Sign-clause-notes g c = inl c.report-in-Sign.ensures.notes

@@ -3,7 +3,7 @@ use Rattle.state_file.specs.declared.disk.DiskFault.TheVariants as fault
 use Rattle.command.specs.inner.FileDisk.{DiskReads}
 use Rattle.command.proofs.Offsets.{broke_there, ended_there, file_read, filled_there}
 use Rattle.command.proofs.Reading.{via}
-use Rattle.command.proofs.file_disk.fill_at.Goals as goal
+use Rattle.command.proofs.file_disk.read_whole_at.Goals as goal
 
 pub returns-then-n-into : goal.returns-then-n-into
 returns-then-n-into g c =

@@ -2,7 +2,7 @@ use Rattle.std.proofs.Common.{rules, ◌≡◌, ◌<◌, IfOk, length, take}
 use Rattle.std.specs.Io.KnownBytes.{Consumes, IsAtEnd}
 use Rattle.command.specs.Files.{FillsOrFails, KeepsContents}
 use Rattle.command.proofs.Reading.{full_bytes, full_end, full_noted, full_stays, via}
-use Rattle.command.proofs.files.fill.Goals as goal
+use Rattle.command.proofs.files.read_into.Goals as goal
 
 pub returns-clause-bytes : goal.returns-clause-bytes
 returns-clause-bytes g c =
