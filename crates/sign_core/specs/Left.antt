@@ -1,7 +1,7 @@
--- How many new names a key can still sign, by the free leaves that `left` counts, and what requests take of them.
-use Rattle.std.specs.Prelude.{◌≡◌, ◌↔◌, ℕ, ◌+◌, ◌*◌, ◌≤◌, true, false, List, [], ◌∷◌, length, Option, Some, None, IsSome}
+-- How many new names a key can still sign, by the free leaves that `left` counts, and what calls take of them.
+use Rattle.std.specs.Prelude.{◌≡◌, ◌↔◌, ℕ, ◌+◌, ◌-◌, ◌*◌, ◌≤◌, true, false, List, [], ◌∷◌, length, Option, Some, None, IsSome}
 use Rattle.std.specs.Prelude.{Result, Ok, Err}
-use Rattle.state_file.specs.Laws.{leaves_at}
+use Rattle.state_file.specs.Laws.{bottom_of, leaves_at}
 use Rattle.state_file.specs.Slot.{name_most}
 use Rattle.state_file.specs.declared.record.Key.{Key}
 use Rattle.state_file.specs.declared.record.Record.{Record}
@@ -10,9 +10,9 @@ use Rattle.state_file.specs.declared.store.Store as store
 use Rattle.sign_core.specs.declared.fault.SignFault.{SignFault}
 use Rattle.sign_core.specs.declared.fault.SignFault.TheVariants.{Exhausted}
 use Rattle.sign_core.specs.declared.source.Source as source
-use Rattle.sign_core.specs.Records.{binding_at, free_counts, has_moved, the_key}
+use Rattle.sign_core.specs.Records.{binding_at, free_counts, has_moved, next_at, the_key}
 use Rattle.sign_core.specs.Serving.{SignsGiven}
-use Rattle.sign_core.specs.Signer.{View}
+use Rattle.sign_core.specs.Signer.{Retires, View}
 
 -- ---- what is left
 
@@ -51,8 +51,17 @@ pub record TakesLeft {S R : Type 0} (old new : View S R) (key : Key) (name : Lis
   pub repeated : IsSome (binding_at old.records name)
       → signatures_left key.secret new.records ≡ signatures_left key.secret old.records
 
--- So it is for each request, to `sign` or to a serve.
-abbrev pub LeftLaw : {S R : Type 0} → store.Ghosts S → source.Ghosts R → Type 0
-LeftLaw {S} {R} g r = (old new : View S R) (name : List ℕ) (given : Option (List ℕ)) (capacity : ℕ)
-    (answer : Result (List ℕ) SignFault) (key : Key) → the_key old.records ≡ Some key
-    → SignsGiven g r old new name given capacity answer → TakesLeft old new key name answer
+-- the leaves that a retiring retires: those of the current bottom tree from the next one on, below its number
+abbrev pub retired_count : Key → List Record → (upto : ℕ) → Result (Unit {0}) SignFault → ℕ
+retired_count key records upto (Ok _) = upto - next_at key.secret records (bottom_of key.secret)
+retired_count key records upto (Err fault) = 0
+
+-- So it is for each request, to `sign` or to a serve. A retiring takes the leaves that it retires.
+pub record LeftLaw {S R : Type 0} (g : store.Ghosts S) (r : source.Ghosts R) : Type 0 where
+  pub request : (old new : View S R) (name : List ℕ) (given : Option (List ℕ)) (capacity : ℕ)
+      (answer : Result (List ℕ) SignFault) (key : Key) → the_key old.records ≡ Some key
+      → SignsGiven g r old new name given capacity answer → TakesLeft old new key name answer
+  pub retiring : (old new : View S R) (upto : ℕ) (answer : Result (Unit {0}) SignFault) (key : Key)
+      → the_key old.records ≡ Some key → Retires g old new upto answer
+      → signatures_left key.secret old.records
+      ≡ signatures_left key.secret new.records + retired_count key old.records upto answer

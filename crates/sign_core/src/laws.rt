@@ -338,14 +338,14 @@ pub fn bound_law<D: Disk + Drop, E: Disk + Drop, R: Source, M: Message>()
     signer_law::<FileStore<E>, R, M>();
 }
 
-/// `left` counts the signatures that are still to be had, for each request to `sign` or to a serve.
+/// `left` counts the signatures that are still to be had, for each request to `sign` or to a serve and each retiring.
 ///
 /// A free leaf of the bottom level signs a name, and one above it a new tree of the next level with all of its leaves.
 /// `signatures_left` in `specs/Left.antt` adds up the counts that `Signer::left` gives in this way.
 ///
 /// - A new name that a file of the key's version can hold is answered 22 exactly where the sum is 0.
 /// - A new name that is signed takes one, also where new trees are made for it.
-/// - A refused name takes none, and neither does a bound one.
+/// - A refused name takes none, and neither does a bound one. A retiring takes the leaves that it retires.
 pub fn left_law<S: Store, R: Source>()
     ensures left { LeftLaw S.Store R.Source }
 {}

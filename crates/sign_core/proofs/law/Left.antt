@@ -1,9 +1,9 @@
--- How many signatures are left, and what a request takes of them.
+-- How many signatures are left, and what a call takes of them.
 use Rattle.std.proofs.Common.{drop, ◌≡◌, ◌∙◌, refl, sym, ap, subst, ℕ, zero, suc, ◌+◌, ◌*◌, ◌-◌, ◌<◌, ◌≤◌, ◌⊎◌, inl, inr}
-use Rattle.std.proofs.Common.{max, List, [], ◌∷◌, ◌++◌, length, map, Option, Some, None, Result, Ok, Err, arith}
-use Rattle.std.specs.Prelude.{◌↔◌, IsSome, if◌then◌else◌, is_some, nat_lt, not, slice_get}
+use Rattle.std.proofs.Common.{max, Bool, true, false, List, [], ◌∷◌, ◌++◌, length, map, Option, Some, None, Result, Ok, Err, arith}
+use Rattle.std.specs.Prelude.{◌↔◌, IsSome, if◌then◌else◌, is_some, nat_le, nat_lt, not, slice_get}
 use Rattle.std.specs.List.{range_with_len}
-use Rattle.std.proofs.lemmas.Bool.{cases_eq}
+use Rattle.std.proofs.lemmas.Bool.{cases_eq, leb-false, leb-true, ltb-false}
 use Rattle.std.proofs.lemmas.Option.{none-some, slice_get_within}
 use Rattle.state_file.specs.Laws.{bottom_of, leaves_at, levels_of}
 use Rattle.state_file.specs.declared.record.Bound.{Bound}
@@ -13,24 +13,29 @@ use Rattle.state_file.specs.declared.record.Record.{Record}
 use Rattle.state_file.specs.declared.record.Record.TheVariants.{Key as KeyRecord, Extend as ExtendRecord}
 use Rattle.state_file.specs.declared.record.Record.TheVariants.{Bound as BoundRecord, Retire, Moved}
 use Rattle.state_file.specs.declared.record.Secret.{Secret}
+use Rattle.state_file.specs.declared.record.Secret.TheVariants.{Lms, Hss, Xmss}
 use Rattle.state_file.specs.declared.store.Store as store
 use Rattle.sign_core.specs.declared.fault.SignFault.{SignFault}
+use Rattle.sign_core.specs.declared.fault.SignFault.TheVariants.{LedgerFull, OutOfMemory, RetireRange, Stopped}
+use Rattle.sign_core.specs.declared.fault.SignFault.TheVariants.{Moved as MovedAway, StoreFailed}
 use Rattle.sign_core.specs.declared.source.Source as source
-use Rattle.sign_core.specs.Left.{LeftLaw, bottom_leaves_of, signatures_left}
+use Rattle.sign_core.specs.Left.{LeftLaw, TakesLeft, bottom_leaves_of, retired_count, signatures_left}
 use Rattle.sign_core.specs.Records.{binding_at, current, deepest, free_at, has_identifier, has_moved, is_long, next_at}
-use Rattle.sign_core.specs.Records.{next_leaf, the_key, wanted_count}
-use Rattle.sign_core.specs.Signer.{View, state_of}
+use Rattle.sign_core.specs.Records.{leaves_of_current, next_leaf, the_key, wanted_count}
+use Rattle.sign_core.specs.Serving.{SignsGiven}
+use Rattle.sign_core.specs.Signer.{Retires, View, state_of}
 use Rattle.sign_core.specs.Textbook.{Trees, current_at, damaged_at, trees_of}
-use Rattle.sign_core.specs.World.{Chance, Draw, Fate, Outcome, State, acked, appended, cut_new, cut_old}
-use Rattle.sign_core.specs.World.{first_draw, no_memory, open_state, randomizer_of_fields, requested}
+use Rattle.sign_core.specs.World.{Chance, Draw, Fate, Outcome, State, acked, answered, appended, cut_new, cut_old}
+use Rattle.sign_core.specs.World.{first_draw, no_memory, open_state, randomizer_of_fields, refused, requested, retired}
 use Rattle.sign_core.specs.inner.Cases.{bound_trees, extended, requested_binding}
 use Rattle.sign_core.proofs.records.OneMore.{current_above, current_cut, current_new, free_at_none, free_at_tree, next_at_tree}
 use Rattle.sign_core.proofs.records.OneMore.{next_new, next_raised, some_leaves}
 use Rattle.sign_core.proofs.steps.Cases.{bound_level, bound_message, bound_sound, extended_identifier, extended_seed}
-use Rattle.sign_core.proofs.steps.Cases.{requested_key}
+use Rattle.sign_core.proofs.steps.Cases.{requested_key, retired_key}
 use Rattle.sign_core.proofs.records.Parts.{new_bound}
 use Rattle.sign_core.proofs.records.FreeLeaves.{deepest_is, none_free}
-use Rattle.sign_core.proofs.records.NextLeaves.{current_bound, extend_reaches, next_at_above, next_at_bound, next_at_bound_other}
+use Rattle.sign_core.proofs.records.NextLeaves.{current_bound, current_retire, extend_reaches, next_at_above, next_at_bound}
+use Rattle.sign_core.proofs.records.NextLeaves.{next_at_bound_other, next_at_retire, next_at_retire_other}
 use Rattle.sign_core.proofs.law.KeptByEvents.{kept_choice}
 use Rattle.sign_core.proofs.law.Once.{exhausted_exactly}
 use Rattle.sign_core.proofs.law.KeptByRequests.{free_current}
@@ -132,11 +137,11 @@ module _ (leaves old new : ℕ → ℕ) where
       omega (arith, none, fresh, ap (λ n. n * leaves (suc l)) one) in
       sums_on (suc (suc l)) m (omega (arith, inside)) both (λ k low high. below k (omega (arith, low)) high)
 
-  -- a leaf of the last level is taken
-  sum_bound : (b : ℕ) → ((k : ℕ) → k < b → new k ≡ old k) → new b + 1 ≡ old b
-      → sum_up leaves old (suc b) ≡ sum_up leaves new (suc b) + 1
+  -- leaves of the last level are taken
+  sum_taken : (b n : ℕ) → ((k : ℕ) → k < b → new k ≡ old k) → new b + n ≡ old b
+      → sum_up leaves old (suc b) ≡ sum_up leaves new (suc b) + n
   unfolding sum_up
-  sum_bound b above taken =
+  sum_taken b n above taken =
       let before : sum_up leaves new b ≡ sum_up leaves old b =
       sums_on 0 b (omega arith) refl (λ k low high. above k high) in
       omega (arith, taken, ap (λ n. n * leaves b) before)
@@ -246,7 +251,7 @@ module _ (secret : Secret) (records : List Record) (key : Key) (bound : Bound) (
       let whole : suc (bottom_of secret) ≡ levels_of secret = omega (arith, inside) in
       subst (λ n. sum_up (leaves_at secret) (free_at secret records) n ≡ sum_up (leaves_at secret) (free_at secret all) n + 1)
       whole
-      (sum_bound (leaves_at secret) (free_at secret records) (free_at secret all) (bottom_of secret) bound_kept
+      (sum_taken (leaves_at secret) (free_at secret records) (free_at secret all) (bottom_of secret) 1 bound_kept
       (bound_taken leaf free))
 
 -- ---- a new name
@@ -451,8 +456,10 @@ found_or_none : {A : Type 0} (found : Option A) → IsSome found ⊎ (found ≡ 
 found_or_none (Some a) = inl refl
 found_or_none None = inr refl
 
-pub left_law : {S R : Type 0} (g : store.Ghosts S) (r : source.Ghosts R) → LeftLaw g r
-left_law {S = S} {R = R} g r old new name given capacity answer key keyed does =
+left_request : {S R : Type 0} (g : store.Ghosts S) (r : source.Ghosts R) (old new : View S R) (name : List ℕ)
+    (given : Option (List ℕ)) (capacity : ℕ) (answer : Result (List ℕ) SignFault) (key : Key) → the_key old.records ≡ Some key
+    → SignsGiven g r old new name given capacity answer → TakesLeft old new key name answer
+left_request {S = S} {R = R} g r old new name given capacity answer key keyed does =
     let secret = key.secret in
     let limit = g.most old.store in
     let state = state_of old in
@@ -490,3 +497,133 @@ left_law {S = S} {R = R} g r old new name given capacity answer key keyed does =
       ];
       repeated = λ bound. ap (signatures_left secret) (same bound);
     }
+
+-- ---- a retiring
+
+-- what leaves it retires
+module _ (secret : Secret) (records : List Record) (key : Key) (upto tree : ℕ)
+    (first : slice_get records 0 ≡ Some (KeyRecord key)) (is : current (bottom_of secret) records ≡ Some tree) where
+  retire_kept : (k : ℕ) → k < bottom_of secret → free_at secret (records ++ Retire upto ∷ []) k ≡ free_at secret records k
+  retire_kept k under =
+      let same = current_retire k records upto in
+      let next = next_at_retire_other secret records key upto k tree first is (λ at. omega (arith, under, at)) in
+      λ i. if is_some (same i) then leaves_at secret k - next i else 0
+
+  retire_taken : next_at secret records (bottom_of secret) < upto → upto ≤ leaves_at secret (bottom_of secret)
+      → free_at secret (records ++ Retire upto ∷ []) (bottom_of secret) + (upto - next_at secret records (bottom_of secret))
+      ≡ free_at secret records (bottom_of secret)
+  retire_taken more within =
+      let bottom = bottom_of secret in
+      let all = records ++ Retire upto ∷ [] in
+      let stays = current_retire bottom records upto in
+      let now : free_at secret all bottom ≡ leaves_at secret bottom - next_leaf secret all tree =
+      free_at_tree secret all bottom tree (stays ∙ is) in
+      let was : free_at secret records bottom ≡ leaves_at secret bottom - next_leaf secret records tree =
+      free_at_tree secret records bottom tree is in
+      let after : next_leaf secret all tree ≡ next_at secret all bottom =
+      sym (next_at_tree secret all bottom tree (stays ∙ is)) in
+      let before : next_leaf secret records tree ≡ next_at secret records bottom =
+      sym (next_at_tree secret records bottom tree is) in
+      omega (arith, now, was, after, before, next_at_retire secret records upto tree is, more, within)
+
+  retire_takes : next_at secret records (bottom_of secret) < upto → upto ≤ leaves_at secret (bottom_of secret)
+      → 0 < levels_of secret
+      → total_of secret records
+      ≡ total_of secret (records ++ Retire upto ∷ []) + (upto - next_at secret records (bottom_of secret))
+  unfolding total_of
+  retire_takes more within inside =
+      let all = records ++ Retire upto ∷ [] in
+      let n = upto - next_at secret records (bottom_of secret) in
+      let whole : suc (bottom_of secret) ≡ levels_of secret = omega (arith, inside) in
+      subst (λ m. sum_up (leaves_at secret) (free_at secret records) m ≡ sum_up (leaves_at secret) (free_at secret all) m + n)
+      whole
+      (sum_taken (leaves_at secret) (free_at secret records) (free_at secret all) (bottom_of secret) n retire_kept
+      (retire_taken more within))
+
+abbrev TakesRetired : Key → List Record → (upto : ℕ) → Outcome (Unit {0}) → Type 0
+TakesRetired key records upto outcome =
+    total_of key.secret records
+    ≡ total_of key.secret outcome.acknowledged + retired_count key records upto outcome.answer
+
+choice : (P : Outcome (Unit {0}) → Type 0) (test : Bool) (x y : Outcome (Unit {0})) → (test ≡ true → P x) → (test ≡ false → P y)
+    → P (if test then x else y)
+choice P true x y one other = one refl
+choice P false x y one other = other refl
+
+-- the tree of a level with leaves
+tree_there : (secret : Secret) (found : Option ℕ) (level n : ℕ) → n < (if is_some found then leaves_at secret level else 0)
+    → (tree : ℕ) × (found ≡ Some tree) × (n < leaves_at secret level)
+tree_there secret (Some tree) level n low = (tree, refl, low)
+tree_there secret None level n low = absurd (omega (arith, low))
+
+-- a key whose trees have leaves has a level
+has_level : (secret : Secret) (level : ℕ) → 0 < leaves_at secret level → 0 < levels_of secret
+has_level (Lms secret) level some = omega arith
+has_level (Hss [] identifier seed) level some = absurd (omega (arith, some))
+has_level (Hss (pair ∷ rest) identifier seed) level some = omega arith
+has_level (Xmss secret) level some = omega arith
+
+module _ (limit : ℕ) (state : State) (key : Key) (upto : ℕ) (keyed : the_key state.records ≡ Some key) where
+  none_retired : (fault : SignFault) → TakesRetired key state.records upto (refused state fault)
+  none_retired fault = none_taken key.secret (total_of key.secret state.records) state.records refl
+
+  retired_append : (fate : Fate) → next_at key.secret state.records (bottom_of key.secret) < upto
+      → upto ≤ leaves_of_current key.secret state.records (bottom_of key.secret)
+      → TakesRetired key state.records upto
+      (appended state (Retire upto) fate (λ records. answered (open_state records) tt))
+  retired_append acked more within =
+      let secret = key.secret in
+      let low : next_at secret state.records (bottom_of secret) < leaves_of_current secret state.records (bottom_of secret) =
+      omega (arith, more, within) in
+      let (tree, is, some) = tree_there secret (current (bottom_of secret) state.records) (bottom_of secret)
+      (next_at secret state.records (bottom_of secret)) low in
+      let all : leaves_of_current secret state.records (bottom_of secret) ≡ leaves_at secret (bottom_of secret) =
+      ap (λ found. if is_some found then leaves_at secret (bottom_of secret) else 0) is in
+      let some : 0 < leaves_at secret (bottom_of secret) = omega (arith, more, within, all) in
+      retire_takes secret state.records key upto tree (first_is state.records key keyed) is more
+      (omega (arith, within, all)) (has_level secret (bottom_of secret) some)
+  retired_append cut_old more within = none_retired StoreFailed
+  retired_append cut_new more within = none_retired StoreFailed
+  retired_append no_memory more within = none_retired OutOfMemory
+
+  takes_retired : (fate : Fate) → TakesRetired key state.records upto (retired_key limit state upto fate (Some key))
+  takes_retired fate =
+      let P = TakesRetired key state.records upto in
+      let next = next_at key.secret state.records (bottom_of key.secret) in
+      let leaves = leaves_of_current key.secret state.records (bottom_of key.secret) in
+      choice P (not state.is_open) _ _ (λ closed. none_retired Stopped)
+      (λ open_now. choice P (has_moved state.records) _ _ (λ moved. none_retired MovedAway)
+      (λ stays. choice P (nat_lt leaves upto) _ _ (λ past. none_retired RetireRange)
+      (λ fits. choice P (nat_le upto next) _ _
+      (λ none. let low : upto ≤ next = leb-true upto next none in
+      let nothing : upto - next ≡ 0 = omega (arith, low) in
+      none_taken key.secret (total_of key.secret state.records) state.records refl
+      ∙ ap (λ n. total_of key.secret state.records + n) (sym nothing))
+      (λ some. choice P (nat_lt limit (length state.records + 1)) _ _ (λ full. none_retired LedgerFull)
+      (λ room. retired_append fate (leb-false upto next some) (ltb-false leaves upto fits))))))
+
+left_retiring : {S R : Type 0} (g : store.Ghosts S) (old new : View S R) (upto : ℕ) (answer : Result (Unit {0}) SignFault)
+    (key : Key) → the_key old.records ≡ Some key → Retires g old new upto answer
+    → signatures_left key.secret old.records
+    ≡ signatures_left key.secret new.records + retired_count key old.records upto answer
+left_retiring g old new upto answer key keyed does =
+    let limit = g.most old.store in
+    let state = state_of old in
+    let mine = retired limit state upto does.fate in
+    let answered : mine.answer ≡ answer =
+    ap (λ (o : Outcome (Unit {0})). o.answer) does.step ∙ does.ends.answer_is in
+    let recorded : mine.acknowledged ≡ new.records =
+    ap (λ (o : Outcome (Unit {0})). o.acknowledged) does.step ∙ sym does.ends.records in
+    let takes : TakesRetired key old.records upto mine =
+    subst (λ found. TakesRetired key old.records upto (retired_key limit state upto does.fate found)) (sym keyed)
+    (takes_retired limit state key upto keyed does.fate) in
+    let all = subst (λ a. total_of key.secret old.records ≡ total_of key.secret new.records + retired_count key old.records upto a) answered
+    (subst (λ l. total_of key.secret old.records ≡ total_of key.secret l + retired_count key old.records upto mine.answer) recorded takes) in
+    left_is key.secret old.records ∙ all
+    ∙ ap (λ n. n + retired_count key old.records upto answer) (sym (left_is key.secret new.records))
+
+pub left_law : {S R : Type 0} (g : store.Ghosts S) (r : source.Ghosts R) → LeftLaw g r
+left_law g r = record {
+  request = left_request g r;
+  retiring = λ old new upto answer key. left_retiring g old new upto answer key;
+}
