@@ -1,5 +1,6 @@
 -- How a disk reads and writes a file of the machine: each call may do only a part of what is requested.
-use Rattle.std.specs.Prelude.{ℕ, Bool, List, ◌≡◌, ◌+◌, ◌-◌, [], ◌∷◌, ◌++◌, ◌≤◌, ◌^◌, ◌⊎◌, length, drop, Result, Ok, Err}
+use Rattle.std.specs.Prelude.{ℕ, Bool, true, List, ◌≡◌, ◌+◌, ◌-◌, [], ◌∷◌, ◌++◌, ◌≤◌, ◌^◌, ◌⊎◌, length, drop}
+use Rattle.std.specs.Prelude.{Result, Ok, Err}
 use Rattle.std.specs.declared.io.ErrorKind.{ErrorKind}
 use Rattle.state_file.specs.Disk.{DiskState}
 use Rattle.state_file.specs.declared.disk.DiskFault.{DiskFault}
@@ -46,9 +47,9 @@ slots_of alarm = alarm.slots
 abbrev pub IsStateRefusal : Refusal → Type 0
 IsStateRefusal refusal = (refusal ≡ FileFailed) ⊎ (refusal ≡ Locked)
 
--- The state file at this path was opened, and nothing happened to it yet; or it was refused.
+-- The state file at this path was opened and locked, and nothing happened to it yet; or it was refused.
 abbrev pub OpensState : {F : Type 0} → (path : List ℕ) → Result (StateFile F) Refusal → Type 0
-OpensState path (Ok file) = IsOpenedAt path file
+OpensState path (Ok file) = IsOpenedAt path file × (file.is_locked ≡ true)
 OpensState path (Err refusal) = IsStateRefusal refusal
 
 -- As `OpensState`, without a lock, so that 54 can't come.

@@ -1,6 +1,6 @@
 //! A state file of the machine: opening, locking, its mode. Standard error says what failed.
 
-ghost use Rattle.std.specs.Prelude.{◌≡◌, ◌++◌, ◌∷◌, [], List, length, IfErr};
+ghost use Rattle.std.specs.Prelude.{◌≡◌, ◌++◌, ◌∷◌, [], List, length, IfErr, true};
 ghost use Rattle.std.specs.Io.{ReadsAtMost};
 ghost use Rattle.typecodes.specs.Message.{read_outcome};
 ghost use Rattle.command.specs.FileDisk.{OpensState, OpensUnlocked};
@@ -221,6 +221,7 @@ impl<'a, F: FileCalls> StateFile<'a, F> {
     fn locked(self) -> Self
         ensures path { result.path.now ≡ self.entry.path.now }
         ensures trace { trace_of result ≡ trace_of self.entry }
+        ensures locked { result.is_locked ≡ true }
         ensures honest { IsTrue (F.honest self.entry.file) → IsTrue (⟦<StateFile<'a, F> as OffsetFile>⟧.honest result) }
         ensures disk { (disk : D (S F)) → disk.file ≡ result → IsTrue (F.honest self.entry.file) →
             IsTrue (⟦<FileDisk<StateFile<'a, F>> as Disk>⟧.honest disk) }
