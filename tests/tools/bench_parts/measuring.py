@@ -100,13 +100,14 @@ LANES = 8
 
 def blocks_in(*words, given=os.devnull):
     """The blocks of SHA-256 of a run of the program, with a file on its input, and in words how many go in lanes. Each
-    lane's block counts. If none of one kind is found, a function has another name now, and this fails."""
+    lane's block counts; those of a message or a tag, of which lanes make the schedules alone, count as plain. If none
+    of one kind is found, a function has another name now, and this fails."""
     with tempfile.TemporaryDirectory() as folder, open(given, "rb") as file:
         out = os.path.join(folder, "calls")
         subprocess.run(["valgrind", "--tool=callgrind", f"--callgrind-out-file={out}", PROGRAM, *words],
                        check=True, stdin=file, stdout=subprocess.DEVNULL, stderr=subprocess.DEVNULL)
         calls = read(out).decode()
-        plain = calls_of("sha2::block256::compress", calls)
+        plain = calls_of("sha2::block256::compress", calls) + calls_of("winternitz::compression::compress_lane", calls)
         in_lanes = LANES * calls_of("winternitz::lanes::rounds::sixteen_steps", calls) // 3
         if plain == 0 or in_lanes == 0:
             raise ValueError(f"{words[0]}: no blocks are counted ({plain} plainly, {in_lanes} in lanes)")
