@@ -1,5 +1,6 @@
 -- How many new names a key can still sign, by the free leaves that `left` counts, and what calls take of them.
-use Rattle.std.specs.Prelude.{◌≡◌, ◌↔◌, ℕ, ◌+◌, ◌-◌, ◌*◌, ◌≤◌, true, false, List, [], ◌∷◌, length, Option, Some, None, IsSome}
+use Rattle.std.specs.Prelude.{◌≡◌, ◌↔◌, ℕ, ◌+◌, ◌-◌, ◌*◌, ◌≤◌, true, false, List, [], ◌∷◌, length, Option, Some}
+use Rattle.std.specs.Prelude.{None, IsSome}
 use Rattle.std.specs.Prelude.{Result, Ok, Err}
 use Rattle.state_file.specs.Laws.{bottom_of, leaves_at}
 use Rattle.state_file.specs.Slot.{name_most}
@@ -16,8 +17,8 @@ use Rattle.sign_core.specs.Signer.{Retires, View}
 
 -- ---- what is left
 
--- How many leaves of the bottom level can still sign, by the free leaves of the levels from this one on: each leaf above
--- the bottom can sign a tree of the next level, with all of its leaves.
+-- How many leaves of the bottom level can still sign, by the free leaves of the levels from this one on: each leaf
+-- above the bottom can sign a tree of the next level, with all of its leaves.
 abbrev pub bottom_leaves_of : (leaves : ℕ → ℕ) → (before level : ℕ) → (counts : List ℕ) → ℕ
 bottom_leaves_of leaves before level [] = before
 bottom_leaves_of leaves before level (count ∷ counts) =
@@ -38,8 +39,8 @@ pub record CanBind {S R : Type 0} (signer : View S R) (key : Key) (name : List �
   pub fits : length name ≤ name_most key.version
 
 -- What a request does to the signatures that are left, whatever fails in it.
-pub record TakesLeft {S R : Type 0} (old new : View S R) (key : Key) (name : List ℕ) (answer : Result (List ℕ) SignFault)
-    : Type 0 where
+pub record TakesLeft {S R : Type 0} (old new : View S R) (key : Key) (name : List ℕ)
+    (answer : Result (List ℕ) SignFault) : Type 0 where
   -- a new name is answered 22 exactly where none is left
   pub exhausted : CanBind old key name → (answer ≡ Err Exhausted) ↔ (signatures_left key.secret old.records ≡ 0)
   -- one that is signed takes one, also where it makes new trees

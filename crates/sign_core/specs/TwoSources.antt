@@ -4,7 +4,8 @@ use Rattle.state_file.specs.declared.refused.Refused.{Refused}
 use Rattle.state_file.specs.declared.store.Store as store
 use Rattle.sign_core.specs.declared.fault.SignFault.{SignFault}
 use Rattle.sign_core.specs.declared.source.Source as source
-use Rattle.sign_core.specs.Sessions.{HoldsSigner, Holder, MeetsContract, SignerCall, creates, gives_store, handed_of_call}
+use Rattle.sign_core.specs.Sessions.{Holder, HoldsSigner, MeetsContract, SignerCall, creates, gives_store}
+use Rattle.sign_core.specs.Sessions.{handed_of_call}
 use Rattle.sign_core.specs.Sessions.{key_of_call, next_holder, opens, retires, signs, with_signer, without_signer}
 use Rattle.sign_core.specs.Signer.{View}
 
