@@ -24,6 +24,7 @@ use Rattle.sign_core.specs.declared.key.AnyPublic.{AnyPublic}
 use Rattle.sign_core.specs.declared.serving.Reply.{Reply}
 use Rattle.sign_core.specs.declared.serving.Reply.TheVariants.{BadName, Refused as RefusedReply, Signed}
 use Rattle.sign_core.specs.declared.source.Source as source
+use Rattle.sign_core.specs.Frames.{Request, given_message}
 use Rattle.sign_core.specs.Lives.{IsAtStart}
 use Rattle.sign_core.specs.Migration.{Migrates}
 use Rattle.sign_core.specs.Records.{binding_at, the_key}
@@ -153,6 +154,24 @@ handed_of_exchanges (exchange ∷ later) =
     let request = exchange.request in
     handed_of_reply exchange.reply request.name request.message exchange.signature ++ handed_of_exchanges later
 
+-- The first call is this request, with the answer of its reply, and then come calls of `After`. After 34 there is no
+-- such call, since the signer isn't asked.
+abbrev pub AsksFirst : {S R : Type 0} → Reply → (signature : List ℕ) → Request
+    → (After : List (SignerCall S R) → Type 0) → List (SignerCall S R) → Type 0
+AsksFirst {S} {R} Signed signature request After calls =
+    (new : View S R) × (capacity : ℕ) × (later : List (SignerCall S R))
+    × (calls ≡ signs new request.name (given_message request) capacity (Ok signature) ∷ later) × After later
+AsksFirst {S} {R} (RefusedReply fault) signature request After calls =
+    (new : View S R) × (capacity : ℕ) × (later : List (SignerCall S R))
+    × (calls ≡ signs new request.name (given_message request) capacity (Err fault) ∷ later) × After later
+AsksFirst BadName signature request After calls = After calls
+
+-- The calls are the requests of these exchanges, in their order, and no others.
+abbrev pub AreRequestsOf : {S R : Type 0} → List Exchange → List (SignerCall S R) → Type 0
+AreRequestsOf [] calls = calls ≡ []
+AreRequestsOf (exchange ∷ later) calls =
+    AsksFirst exchange.reply exchange.signature exchange.request (AreRequestsOf later) calls
+
 -- Exchanges are calls one after the other: of the requests whose names are names, since for others the signer isn't
 -- asked. These hand out the signatures of the replies, and no others.
 pub record AreCallsOf {S R : Type 0} (g : store.Ghosts S) (r : source.Ghosts R) (exchanges : List Exchange)
@@ -160,6 +179,7 @@ pub record AreCallsOf {S R : Type 0} (g : store.Ghosts S) (r : source.Ghosts R) 
   pub calls : List (SignerCall S R)
   pub each : AreCallsFrom g r (with_signer old) calls
   pub last : last_holder (with_signer old) calls ≡ with_signer new
+  pub asked : AreRequestsOf exchanges calls
   pub handed : handed_of calls ≡ handed_of_exchanges exchanges
 
 -- So are the exchanges of each serve, by its contract.

@@ -48,6 +48,7 @@ module _ {S R : Type 0} (g : store.Ghosts S) (r : source.Ghosts R) where
         calls = signs next request.name given capacity (Ok signature) ∷ rest.calls;
         each = ((named, does), signer, rest.each);
         last = rest.last;
+        asked = (next, capacity, rest.calls, refl, rest.asked);
         handed = ap (λ text. hands text ++ handed_of rest.calls) (given_text old next request capacity signature does)
             ∙ ap (λ all. hands request.message ++ all) rest.handed;
       }
@@ -55,16 +56,17 @@ module _ {S R : Type 0} (g : store.Ghosts S) (r : source.Ghosts R) where
     calls = signs next request.name (given_message request) capacity (Err fault) ∷ rest.calls;
     each = ((named, does), signer, rest.each);
     last = rest.last;
+    asked = (next, capacity, rest.calls, refl, rest.asked);
     handed = rest.handed;
   }
   call_before BadName signature request later old next new capacity (unnamed, same) signer rest =
       let own = subst (λ view. AreCallsOf g r later view new) same rest in
-      record { calls = own.calls; each = own.each; last = own.last; handed = own.handed }
+      record { calls = own.calls; each = own.each; last = own.last; asked = own.asked; handed = own.handed }
 
   calls_in_turn : (exchanges : List Exchange) (old new : View S R) (capacity after : ℕ)
       → AnswersInTurn g r exchanges old new capacity after → AreCallsOf g r exchanges old new
   calls_in_turn [] old new capacity after (same, room) =
-      record { calls = []; each = tt; last = ap with_signer (sym same); handed = refl }
+      record { calls = []; each = tt; last = ap with_signer (sym same); asked = refl; handed = refl }
   calls_in_turn (first ∷ later) old new capacity after (next, room, (grows, answers, caches, signer), rest) =
       call_before first.reply first.signature first.request later old next new capacity answers signer
       (calls_in_turn later next new room after rest)
