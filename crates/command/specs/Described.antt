@@ -81,7 +81,7 @@ IsDescription IsNone bytes None = IsNone
 
 -- ---- what a file is
 
--- A file is a public key or a signature. Or it is neither: so is each with more bytes than any signature has.
+-- A file is a public key or a signature. Or it is neither; each with more bytes than any signature has is taken so.
 abbrev pub DescribesWhole : List ℕ → Option Described → Type 0
 DescribesWhole whole described = IsDescription ((decisive ≤ length whole) ⊎ SpellNothing whole) whole described
 

@@ -36,14 +36,15 @@ pub fn listing_law()
     ensures { ListingLaw }
 {}
 
-/// An audit reports the same of lists of records that differ only in seeds, but for the tag, which is a hash of whole
+/// An accepting audit reports the same of lists of records that differ only in seeds, but for the tag, a hash of whole
 /// slots. So the public key that it shows depends on no secret but by the recorded root.
 pub fn report_law()
     ensures { ReportLaw }
 {}
 
-/// `count_signatures` counts what the signer's requests take from: one for each new name that is signed, and none
-/// otherwise. A new name is answered 22 exactly where it is 0 (`sign_core::left_law`).
+/// `count_signatures` counts what `sign_core::left_law` speaks of: each new name that is signed takes one, a retiring
+/// its leaves. After a Moved it is 0, and the signer answers 31. Else an open signer answers 22 to a short new name
+/// exactly at 0.
 pub fn count_law()
     ensures { CountLaw }
 {}

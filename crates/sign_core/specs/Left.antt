@@ -17,14 +17,14 @@ use Rattle.sign_core.specs.Signer.{Retires, View}
 
 -- ---- what is left
 
--- How many leaves of the bottom level can still sign, by the free leaves of the levels from this one on: each leaf
+-- How many leaves of the bottom level can still sign, by the free leaves of the levels from this one on. Each leaf
 -- above the bottom can sign a tree of the next level, with all of its leaves.
 abbrev pub bottom_leaves_of : (leaves : ℕ → ℕ) → (before level : ℕ) → (counts : List ℕ) → ℕ
 bottom_leaves_of leaves before level [] = before
 bottom_leaves_of leaves before level (count ∷ counts) =
     bottom_leaves_of leaves (before * leaves level + count) (level + 1) counts
 
--- The signatures for new names that a key can still give, by the counts that `left` gives.
+-- The signatures for new names that a key's leaves allow, by the counts that `left` gives. A store may be full before.
 abbrev pub signatures_left : Secret → List Record → ℕ
 signatures_left secret records = bottom_leaves_of (leaves_at secret) 0 0 (free_counts secret records)
 

@@ -1,5 +1,5 @@
--- An event as data: a tree of steps. Each step looks at the state, tests, draws, reads or appends; or it ends the
--- event. `event` says what the steps do to a state.
+-- An event as data: a tree of steps. Each step looks at the state, tests, opens or closes the signer, draws, reads or
+-- appends; or it ends the event. `event` says what the steps do to a state.
 use Rattle.std.specs.Prelude.{ℕ, Bool, true, false, List, [], ◌∷◌, ◌++◌, Option, Some, None, Result, Ok, Err}
 use Rattle.std.specs.Prelude.{if◌then◌else◌}
 use Rattle.std.specs.Option.{option_map_or}

@@ -312,7 +312,7 @@ pub fn headline_law<D: Disk + Drop, E: Disk + Drop, R: Source, M: Message>()
 ///
 /// A source of either type is one of a type that has both (`specs/TwoSources.antt`). With it a signer's calls are the
 /// same: each meets its contract, hands out the same signatures and gives the same public key (`same`). And the
-/// headline holds of all these calls in any order (`calls`, `moved`). So more types are covered, two by two.
+/// headline holds of all these calls in any order (`calls`, `moved`).
 pub fn two_sources_law<D: Disk + Drop, E: Disk + Drop, R: Source, Q: Source, M: Message>()
     ensures same { SourcesLaw ⟦<FileStore<D> as Store>⟧ R.Source Q.Source }
     ensures calls { HeadlineOfCalls D.Disk E.Disk ⟦<FileStore<D> as Store>⟧ (either R.Source Q.Source) }
@@ -338,14 +338,17 @@ pub fn bound_law<D: Disk + Drop, E: Disk + Drop, R: Source, M: Message>()
     signer_law::<FileStore<E>, R, M>();
 }
 
-/// `left` counts the signatures that are still to be had, for each request to `sign` or to a serve and each retiring.
+/// `left` counts the signatures that leaves allow, for each request to `sign` or to a serve and each retiring. A full
+/// store refuses with 30 before.
 ///
 /// A free leaf of the bottom level signs a name, and one above it a new tree of the next level with all of its leaves.
 /// `signatures_left` in `specs/Left.antt` adds up the counts that `Signer::left` gives in this way.
 ///
-/// - A new name that a file of the key's version can hold is answered 22 exactly where the sum is 0.
+/// - An open signer whose records end with no Moved answers 22 to a new name exactly where the sum is 0. A file of the
+///   key's version can hold the name.
 /// - A new name that is signed takes one, also where new trees are made for it.
-/// - A refused name takes none, and neither does a bound one. A retiring takes the leaves that it retires.
+/// - A refused name takes none of the signer's records, and neither does a bound one. After 25 the file may still have
+///   the binding. A retiring takes the leaves that it retires.
 pub fn left_law<S: Store, R: Source>()
     ensures left { LeftLaw S.Store R.Source }
 {}
