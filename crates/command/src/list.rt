@@ -43,8 +43,8 @@ impl<'a> ListState<'a> {
                 "Shows what a file is: a state file with its leaves and records, a public key, or a signature",
             )
             .after_help(
-                "It reads FILE alone, without a lock, so that it runs beside serve and on a copy that is read-only. \
-                 Nothing that it prints is secret. It verifies no signature.\n\nExample:\n  \
+                "It reads FILE, and PUBLIC where it is given, without a lock. So it runs beside serve and on a copy \
+                 that is read-only. Nothing that it prints is secret. It verifies no signature.\n\nExample:\n  \
                  $ hbsign list firmware.key\n  spec lms:H10/W8\n  \
                  format 2\n  level 0 left 1023\n  names 1\n  0 key\n  1 name fw-1.0.2 leaf 0 digest 91c0..\n  \
                  signatures 1023",

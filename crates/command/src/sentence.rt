@@ -135,8 +135,8 @@ fn sentence_of_records(number: u8) -> &'static str {
 fn sentence_of_files(number: u8) -> &'static str {
     match number {
         40 => {
-            "is it PUBLIC, or damaged? Run a stopped make or migrate again, but no make where PUBLIC is \
-             in use"
+            "is it another file, cut or damaged? Run a stopped make or migrate again, but no make over a \
+             file in use"
         }
         41 => "it is no state file: take another",
         42 => {
